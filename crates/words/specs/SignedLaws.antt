@@ -7,13 +7,13 @@ use Prim.Native.Nat.{ℕ, zero, suc, _-_, _<_, _≤_, _^_}
 use native.Mathlib.Omega.{arith}
 use native.Mathlib.Decide.{decLt}
 use native.Mathlib.Nat.{lt-irrefl}
-use lib.Dec.{ltb}
+use lib.Dec.{ltb, leb}
 use lib.IntN.{ℤ, pos, negsuc, natAbs}
 use lib.Signed.{leZ, natAbs-le}
-use borrow.Author.Tests.{eqb-true, eq-eqb, lt-ltb, le-ltb, ltb-true, le-leb, lt-leb}
+use borrow.Author.Tests.{eqb-true, eq-eqb, lt-ltb, le-ltb, ltb-true, leb-true, le-leb, lt-leb}
 use mir.Syntax.{w64}
 use mir.Val.{SFits}
-use Rattle.words.specs.Bools.{clash, true-or-false}
+use Rattle.words.specs.Bools.{clash, true-or-false, and-left, and-right}
 use Rattle.words.specs.Signed.{eqZ, indexIn, signed, unsigned}
 
 -- ---- equality
@@ -39,6 +39,11 @@ ne-eqZ a b n = ⊎-elim (λ e. absurd (n (eqZ-true a b e))) (λ e. e) (true-or-f
 -- ---- sizes
 pub size-le : (v : ℤ) → SFits w64 v → natAbs v ≤ 2 ^ 63
 size-le v f = natAbs-le v (f .sfits)
+
+-- a number between two that are not negative is its size
+pub between-pos : (low high : ℕ) (v : ℤ) → leZ (pos low) v && leZ v (pos high) ≡ true → (v ≡ pos (natAbs v)) × (low ≤ natAbs v) × (natAbs v ≤ high)
+between-pos low high (pos n) e = (refl, leb-true low n (and-left (leb low n) (leb n high) e), leb-true n high (and-right (leb low n) (leb n high) e))
+between-pos low high (negsuc k) e = clash e refl
 
 -- ---- a number in a list
 pub index-suc : (k n : ℕ) → k < n → indexIn (pos (suc k)) n ≡ k
