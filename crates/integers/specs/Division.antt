@@ -1,21 +1,21 @@
--- Floor division of an integer by a positive natural: `floorDiv a d` is the largest q with q d ≤ a. At d = 0 it is 0 of an a that is not negative, and −1 of a negative one
--- (as `a / 0 ≡ 0` of naturals gives), and nothing is said of it.
---
--- It is used by its bounds, with `h : 0 < d`:
---     floorDiv-≤ a d h      (floorDiv a d *ℤ pos d) ≤ℤ a
---     floorDiv-> a d h      a <ℤ ((floorDiv a d +ℤ pos 1) *ℤ pos d)
--- and a number that has them is the quotient: `floorDiv-unique a q d h low high : floorDiv a d ≡ q`.
--- Code divides by `/`, which rounds toward zero, `quotZ` of lib.Signed: of a number that is not negative, `floorDiv-quot`; and by `>>`, `shrZ`, which is floorDiv: `floorDiv-shr`.
-use mathlib.Core.Path.{_≡_, refl, sym, ap}
+-- Floor division of an integer by a positive natural: `floorDiv a d` is the largest q with q d ≤ a. (At d = 0 it is 0 where 0 ≤ a, and −1 where a < 0; only abs-floorDiv, floorDiv-quot
+-- and floorDiv-shr hold there.)
+--     use Rattle.integers.specs.Division.{floorDiv, floorDiv-≤, floorDiv->, floorDiv-unique}
+-- It is known by its bounds, with h : 0 < d
+--     floorDiv-≤ a d h : (floorDiv a d *ℤ pos d) ≤ℤ a
+--     floorDiv-> a d h : a <ℤ ((floorDiv a d +ℤ pos 1) *ℤ pos d)
+-- and any q with these bounds is it: `floorDiv-unique a q d h low high : floorDiv a d ≡ q`. At literals it computes: `floorDiv (negsuc 0) 2 ≡ negsuc 0` is `refl`.
+-- Code divides by `/`, quotZ of lib.Signed, which rounds toward zero: `floorDiv-quot d h : floorDiv a d ≡ quotZ a (pos d)`, with h : pos 0 ≤ℤ a. A `>>` is shrZ: `floorDiv-shr`.
+use mathlib.Core.Path.{_≡_, refl}
 use mathlib.Core.Logic.{_⊎_, inl, inr}
 use mathlib.Core.List.{[], _∷_}
-use Prim.Native.Nat.{ℕ, zero, suc, _+_, _*_, _/_, _%_, _<_, _≤_}
-use native.Mathlib.Nat.{div-add-mod', mod-lt, div-le-self, le-refl}
+use Prim.Native.Nat.{ℕ, _/_, _<_, _≤_}
+use native.Mathlib.Nat.{div-add-mod', mod-lt, div-le-self}
 use native.Mathlib.Omega.{arith}
-use lib.IntN.{ℤ, pos, negsuc, natAbs, _+ℤ_, _-ℤ_, _*ℤ_}
+use lib.IntN.{ℤ, pos, negsuc, natAbs, _+ℤ_, _*ℤ_}
 use lib.Signed.{quotZ, shrZ, _≤ℤ_, _<ℤ_}
 use Rattle.integers.specs.Differences.{is, is-le, is-lt, _⊕_, _⊗_}
-use Rattle.integers.specs.Solvers.{shapes, zle, zlt, lez, ltz}
+use Rattle.integers.specs.Solvers.{shapes, zle, zlt}
 use Rattle.integers.specs.Order.{zarith, ≤ℤ-or, ≤ℤ-trans, ≤ℤ-antisym, *ℤ-mono-pos}
 
 abbrev pub floorDiv : ℤ → ℕ → ℤ

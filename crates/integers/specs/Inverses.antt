@@ -1,4 +1,10 @@
--- Approximate inverses: what the tests on an M that is nearly S times the inverse of N give, where S = 2 ^ 30.
+-- Approximate inverses: what the tests of a proposed solution give (x, and M that is nearly S times the inverse of N, S = 2 ^ 30), and when a rounded solution passes them.
+-- All is over functions of the index, n of them: for lists l of a row length n take `λ i. getD l i (pos 0)` and `λ i j. getD l (i * n + j) (pos 0)`.
+--     approx             test 5 in every row, test 7 in every row:  |y − d x| ≤ d in each place, for y and d > 0 with N y = d u
+--     approx-column      test 5 in row i:  16 |d M i j − S z i| ≤ S Z, for z and d with N z = d times unit column j, and Z a bound of every |z|
+--     rounded-passes-5   row i of M is S times the exact inverse, rounded to nearest, and N is not too large: test 5
+--     rounded-passes-6   x is the exact answer, rounded to nearest, and row i of N is not too large: test 6
+--     rounded-passes-7   the same x, and test 5: test 7
 use mathlib.Core.Path.{_≡_, sym, ap, ap₂, _∙_, subst}
 use mathlib.Core.List.{[], _∷_}
 use Prim.Native.Nat.{ℕ, zero, suc, _+_, _*_, _^_, _-_, _/_, _<_, _≤_}
@@ -82,53 +88,53 @@ argmax f (suc n) = go (argmax f n)
         by (no h) = (suc n, omega arith, top (suc n) (le-refl (f (suc n))) (λ j l. let k : f j ≤ f (w .0) = w .2 j l in omega arith))
 
 module _ (n : ℕ) (M N : ℕ → ℕ → ℤ) (x u y : ℕ → ℤ) (d : ℤ) where
-  abbrev e : ℕ → ℤ
-  e = error n M N x u y d
+  abbrev err : ℕ → ℤ
+  err = error n M N x u y d
 
-  abbrev r : ℕ → ℤ
-  r = rest n M N x u y d
+  abbrev res : ℕ → ℤ
+  res = rest n M N x u y d
 
   -- at each i, where E bounds every |e j|
   row : (E i : ℕ) → i < n → ((k : ℕ) → k < n → sum n (λ j. N k j *ℤ y j) ≡ d *ℤ u k)
-      → ((j : ℕ) → j < n → natAbs (e j) ≤ E)
-      → sumN n (λ j. natAbs (defect n M N i j)) ≤ 2 ^ 26 → natAbs (sum n (λ k. M i k *ℤ r k)) ≤ 15 * 2 ^ 26
-      → 2 ^ 30 * natAbs (e i) ≤ 2 ^ 26 * E + natAbs d * (15 * 2 ^ 26)
+      → ((j : ℕ) → j < n → natAbs (err j) ≤ E)
+      → sumN n (λ j. natAbs (defect n M N i j)) ≤ 2 ^ 26 → natAbs (sum n (λ k. M i k *ℤ res k)) ≤ 15 * 2 ^ 26
+      → 2 ^ 30 * natAbs (err i) ≤ 2 ^ 26 * E + natAbs d * (15 * 2 ^ 26)
   row E i l h b o t =
       omega (
         arith,
-        abs-* S (e i),
+        abs-* S (err i),
         ap natAbs split,
         abs-+ De (d *ℤ Mr),
-        abs-dot n (defect n M N i) e E b,
+        abs-dot n (defect n M N i) err E b,
         mul-le-mul o (le-refl E),
         abs-* d Mr,
         mul-le-mul (le-refl (natAbs d)) t,
       )
     where
       De : ℤ
-      De = sum n (λ j. defect n M N i j *ℤ e j)
+      De = sum n (λ j. defect n M N i j *ℤ err j)
 
       Mr : ℤ
-      Mr = sum n (λ k. M i k *ℤ r k)
+      Mr = sum n (λ k. M i k *ℤ res k)
 
-      split : S *ℤ e i ≡ De +ℤ d *ℤ Mr
-      split = ring (e i ∷ De ∷ []) (search shapes) tt ∙ ap (λ (z : ℤ). De +ℤ z) (sym (M-rest n M N x u y d i l h))
+      split : S *ℤ err i ≡ De +ℤ d *ℤ Mr
+      split = ring (err i ∷ De ∷ []) (search shapes) tt ∙ ap (λ (z : ℤ). De +ℤ z) (sym (M-rest n M N x u y d i l h))
 
   within : ((k : ℕ) → k < n → sum n (λ j. N k j *ℤ y j) ≡ d *ℤ u k)
       → ((i : ℕ) → i < n → sumN n (λ j. natAbs (defect n M N i j)) ≤ 2 ^ 26)
-      → ((i : ℕ) → i < n → natAbs (sum n (λ k. M i k *ℤ r k)) ≤ 15 * 2 ^ 26)
-      → (i : ℕ) → i < n → natAbs (e i) ≤ natAbs d
-  within h o t i l = go (argmax (λ j. natAbs (e j)) n′)
+      → ((i : ℕ) → i < n → natAbs (sum n (λ k. M i k *ℤ res k)) ≤ 15 * 2 ^ 26)
+      → (i : ℕ) → i < n → natAbs (err i) ≤ natAbs d
+  within h o t i l = go (argmax (λ j. natAbs (err j)) n′)
     where
       n′ : ℕ
       n′ = n - 1
 
-      go : (m : ℕ) × (m < suc n′) × ((j : ℕ) → j < suc n′ → natAbs (e j) ≤ natAbs (e m)) → natAbs (e i) ≤ natAbs d
+      go : (m : ℕ) × (m < suc n′) × ((j : ℕ) → j < suc n′ → natAbs (err j) ≤ natAbs (err m)) → natAbs (err i) ≤ natAbs d
       go w =
           let lm : w .0 < suc n′ = w .1 in
           let m< : w .0 < n = omega arith in
-          let top : natAbs (e i) ≤ natAbs (e (w .0)) = w .2 i (omega arith) in
-          omega (arith, row (natAbs (e (w .0))) (w .0) m< h (λ j q. w .2 j (omega arith)) (o (w .0) m<) (t (w .0) m<))
+          let top : natAbs (err i) ≤ natAbs (err (w .0)) = w .2 i (omega arith) in
+          omega (arith, row (natAbs (err (w .0))) (w .0) m< h (λ j q. w .2 j (omega arith)) (o (w .0) m<) (t (w .0) m<))
 
 -- For y and d > 0 with N y = d u, tests 5 and 7 give |y − d x| ≤ d in each place.
 pub approx : (n : ℕ) (M N : ℕ → ℕ → ℤ) (x u y : ℕ → ℤ) (d : ℤ) → pos 0 <ℤ d

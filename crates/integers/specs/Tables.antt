@@ -1,13 +1,17 @@
--- Lists given by a function of the index, and a list plus a multiple of a function.
-use Prim.Native.Nat.{ℕ, zero, suc, _+_, _-_, _*_, _<_, _≤_, zero-le}
-use mathlib.Core.Path.{_≡_, refl, sym, ap, ap₂, _∙_, subst}
+-- Lists given by a function of the index. `tabulate n f` is f 0, f 1, .., n of them; `plus n l s f` is the list l with s times f k more at each index k below n; `Within n b l`
+-- says that l has n entries, each of a size at most b.
+--     use Rattle.integers.specs.Tables.{tabulate, is-tabulate, plus, plus-none, plus-step, Within, within-plus}
+-- A list is shown to be a tabulate by its length and its entries: `is-tabulate n f l d length-is (λ k h. ..)`. A loop that adds to the entries of an array m₀ keeps `m ≡ plus n m₀ s f`:
+-- `plus-none` at the start, `plus-step` for a turn that adds s v at index i, where the new function is f k +ℤ v *ℤ δ i k; and a bound of m comes from `within-plus`.
+use Prim.Native.Nat.{ℕ, zero, suc, _+_, _<_, _≤_, zero-le}
+use mathlib.Core.Path.{_≡_, refl, sym, ap, _∙_, subst}
 use mathlib.Core.List.{List, [], _∷_}
 use native.Mathlib.Omega.{arith}
 use native.Mathlib.Decide.{decLt, ℕ-discrete}
 use native.Mathlib.Nat.{le-of-suc-le-suc, not-suc-le-zero, le-trans, mul-le-mul}
 use lib.ListN.{length, getD, set, length-set, List·getD-eq-default}
 use lib.Seq.{ext-getD, getD-set-same, getD-set-other}
-use lib.IntN.{ℤ, pos, natAbs, _+ℤ_, _-ℤ_, _*ℤ_}
+use lib.IntN.{ℤ, pos, natAbs, _+ℤ_, _*ℤ_}
 use Rattle.integers.specs.Solvers.{ring, shapes}
 use Rattle.integers.specs.Bounds.{abs-+, abs-*}
 use Rattle.integers.specs.Sums.{δ, δ-same, δ-other}
