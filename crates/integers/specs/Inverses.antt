@@ -1,16 +1,17 @@
 -- Approximate inverses: what the tests of a proposed solution give (x, and M that is nearly S times the inverse of N, S = 2 ^ 30), and when a rounded solution passes them.
 -- All is over functions of the index, n of them: for lists l of a row length n take `λ i. getD l i (pos 0)` and `λ i j. getD l (i * n + j) (pos 0)`.
 --     approx             test 5 in every row, test 7 in every row:  |y − d x| ≤ d in each place, for y and d > 0 with N y = d u
---     approx-column      test 5 in row i:  16 |d M i j − S z i| ≤ S Z, for z and d with N z = d times unit column j, and Z a bound of every |z|
+--     approx-column      test 5 in row i:  16 |d M i j − S z i| ≤ S Z, for z and d with N z = d times unit column j, and Z a bound of every |z|;
+--                        approx-column-largest is the same with `largest`, the largest |z|
 --     rounded-passes-5   row i of M is S times the exact inverse, rounded to nearest, and N is not too large: test 5
 --     rounded-passes-6   x is the exact answer, rounded to nearest, and row i of N is not too large: test 6
 --     rounded-passes-7   the same x, and test 5: test 7
 use mathlib.Core.Path.{_≡_, sym, ap, ap₂, _∙_, subst}
 use mathlib.Core.List.{[], _∷_}
-use Prim.Native.Nat.{ℕ, zero, suc, _+_, _*_, _^_, _-_, _/_, _<_, _≤_}
-use native.Mathlib.Nat.{le-refl, mul-le-mul, le-of-mul-le-mul-left}
+use Prim.Native.Nat.{ℕ, zero, suc, _+_, _*_, _^_, _/_, max, _<_, _≤_}
+use native.Mathlib.Nat.{le-refl, le-trans, le-max-left, le-max-right, max-le, mul-le-mul, le-of-mul-le-mul-left}
 use native.Mathlib.Omega.{arith}
-use native.Mathlib.Decide.{decLe}
+use native.Mathlib.Decide.{ℕ-discrete}
 use lib.IntN.{ℤ, pos, natAbs, _+ℤ_, _-ℤ_, _*ℤ_}
 use lib.Signed.{_≤ℤ_, _<ℤ_}
 use Rattle.integers.specs.Order.{pos-mono, pos-abs, <ℤ→≤ℤ}
@@ -62,30 +63,24 @@ module _ (n : ℕ) (M N : ℕ → ℕ → ℤ) (x u y : ℕ → ℤ) (d : ℤ) w
       ∙ ap (λ (z : ℤ). S *ℤ error i -ℤ z) (sym (defect-mul n M N error i l))
 
 -- ════ |y − d x| ≤ d
--- where f is largest among 0 … n
-argmax : (f : ℕ → ℕ) (n : ℕ) → (m : ℕ) × (m < suc n) × ((j : ℕ) → j < suc n → f j ≤ f m)
-argmax f zero = (zero, omega arith, λ j h. subst (λ (k : ℕ). f k ≤ f zero) (zero-is j h) (le-refl (f zero)))
-  where
-    zero-is : (j : ℕ) → j < 1 → zero ≡ j
-    zero-is j h = omega arith
-argmax f (suc n) = go (argmax f n)
-  where
-    go : (m : ℕ) × (m < suc n) × ((j : ℕ) → j < suc n → f j ≤ f m) → (m : ℕ) × (m < suc (suc n)) × ((j : ℕ) → j < suc (suc n) → f j ≤ f m)
-    go w = by (decLe (f (suc n)) (f (w .0)))
-      where
-        top : (k : ℕ) → f (suc n) ≤ f k → ((j : ℕ) → j < suc n → f j ≤ f k) → (j : ℕ) → j < suc (suc n) → f j ≤ f k
-        top k h g j l = pick (decLe (suc j) (suc n))
-          where
-            last : (j ≡ suc n) → f j ≤ f k
-            last e = subst (λ (i : ℕ). f i ≤ f k) (sym e) h
+-- the largest of f 0, …, f (n − 1); 0 where n = 0
+unfoldable pub largest : ℕ → (ℕ → ℕ) → ℕ
+largest zero f = 0
+largest (suc n) f = max (largest n f) (f n)
 
-            pick : Dec (suc j ≤ suc n) → f j ≤ f k
-            pick (yes q) = g j q
-            pick (no q) = last (omega arith)
+pub ≤-largest : (n : ℕ) (f : ℕ → ℕ) (i : ℕ) → i < n → f i ≤ largest n f
+unfolding largest
+≤-largest zero f i h = absurd (omega arith)
+≤-largest (suc n) f i h = go (≤-largest n f i) (ℕ-discrete i n)
+  where
+    go : (i < n → f i ≤ largest n f) → Dec (i ≡ n) → f i ≤ max (largest n f) (f n)
+    go ih (yes e) = subst (λ (k : ℕ). f k ≤ max (largest n f) (f n)) (sym e) (le-max-right (largest n f) (f n))
+    go ih (no e) = le-trans (ih (omega arith)) (le-max-left (largest n f) (f n))
 
-        by : Dec (f (suc n) ≤ f (w .0)) → (m : ℕ) × (m < suc (suc n)) × ((j : ℕ) → j < suc (suc n) → f j ≤ f m)
-        by (yes h) = let l : w .0 < suc n = w .1 in (w .0, omega arith, top (w .0) h (w .2))
-        by (no h) = (suc n, omega arith, top (suc n) (le-refl (f (suc n))) (λ j l. let k : f j ≤ f (w .0) = w .2 j l in omega arith))
+pub largest-≤ : (n : ℕ) (f : ℕ → ℕ) (B : ℕ) → ((i : ℕ) → i < n → f i ≤ B) → largest n f ≤ B
+unfolding largest
+largest-≤ zero f B h = omega arith
+largest-≤ (suc n) f B h = max-le (largest-≤ n f B (λ i l. h i (omega arith))) (h n (omega arith))
 
 module _ (n : ℕ) (M N : ℕ → ℕ → ℤ) (x u y : ℕ → ℤ) (d : ℤ) where
   abbrev err : ℕ → ℤ
@@ -124,17 +119,16 @@ module _ (n : ℕ) (M N : ℕ → ℕ → ℤ) (x u y : ℕ → ℤ) (d : ℤ) w
       → ((i : ℕ) → i < n → sumN n (λ j. natAbs (defect n M N i j)) ≤ 2 ^ 26)
       → ((i : ℕ) → i < n → natAbs (sum n (λ k. M i k *ℤ res k)) ≤ 15 * 2 ^ 26)
       → (i : ℕ) → i < n → natAbs (err i) ≤ natAbs d
-  within h o t i l = go (argmax (λ j. natAbs (err j)) n′)
+  within h o t i l = omega (arith, largest-≤ n sizeE ((E + 15 * natAbs d) / 16) each, ≤-largest n sizeE i l)
     where
-      n′ : ℕ
-      n′ = n - 1
+      sizeE : ℕ → ℕ
+      sizeE j = natAbs (err j)
 
-      go : (m : ℕ) × (m < suc n′) × ((j : ℕ) → j < suc n′ → natAbs (err j) ≤ natAbs (err m)) → natAbs (err i) ≤ natAbs d
-      go w =
-          let lm : w .0 < suc n′ = w .1 in
-          let m< : w .0 < n = omega arith in
-          let top : natAbs (err i) ≤ natAbs (err (w .0)) = w .2 i (omega arith) in
-          omega (arith, row (natAbs (err (w .0))) (w .0) m< h (λ j q. w .2 j (omega arith)) (o (w .0) m<) (t (w .0) m<))
+      E : ℕ
+      E = largest n sizeE
+
+      each : (k : ℕ) → k < n → sizeE k ≤ (E + 15 * natAbs d) / 16
+      each k q = omega (arith, row E k q h (≤-largest n sizeE) (o k q) (t k q))
 
 -- For y and d > 0 with N y = d u, tests 5 and 7 give |y − d x| ≤ d in each place.
 pub approx : (n : ℕ) (M N : ℕ → ℕ → ℤ) (x u y : ℕ → ℤ) (d : ℤ) → pos 0 <ℤ d
@@ -162,6 +156,14 @@ approx-column n M N z d j lj h Z b i l o =
 
     eq : S *ℤ z i -ℤ d *ℤ M i j ≡ sum n (λ m. defect n M N i m *ℤ z m)
     eq = sym (defect-mul n M N z i l ∙ ap (λ (y : ℤ). S *ℤ z i -ℤ y) Mz)
+
+-- The same with the largest |z|.
+pub approx-column-largest : (n : ℕ) (M N : ℕ → ℕ → ℤ) (z : ℕ → ℤ) (d : ℤ) (j : ℕ) → j < n
+    → ((k : ℕ) → k < n → sum n (λ m. N k m *ℤ z m) ≡ d *ℤ δ k j)
+    → (i : ℕ) → i < n → sumN n (λ m. natAbs (pos (2 ^ 30) *ℤ δ i m -ℤ sum n (λ k. M i k *ℤ N k m))) ≤ 2 ^ 26
+    → 16 * natAbs (d *ℤ M i j -ℤ pos (2 ^ 30) *ℤ z i) ≤ 2 ^ 30 * largest n (λ k. natAbs (z k))
+approx-column-largest n M N z d j lj h i l o =
+    approx-column n M N z d j lj h (largest n (λ k. natAbs (z k))) (≤-largest n (λ k. natAbs (z k))) i l o
 
 -- ════ rounding to nearest implies tests 5 to 7
 -- each |e k| at most D / 2
