@@ -71,7 +71,7 @@ module _ (n : ℕ) (l : List ℤ) (s : ℤ) where
   plus-none f e h = plus-is f l e (λ k p. ring (getD l k (pos 0) ∷ s ∷ []) (search shapes) tt ∙ ap (λ (z : ℤ). getD l k (pos 0) +ℤ s *ℤ z) (sym (h k)))
 
   -- one entry more: v at i
-  pub plus-set : (f h : ℕ → ℤ) (i : ℕ) (v x : ℤ) → i < n → ((k : ℕ) → h k ≡ f k +ℤ v *ℤ δ i k) → x ≡ getD (plus n l s f) i (pos 0) +ℤ s *ℤ v
+  plus-set : (f h : ℕ → ℤ) (i : ℕ) (v x : ℤ) → i < n → ((k : ℕ) → h k ≡ f k +ℤ v *ℤ δ i k) → x ≡ getD (plus n l s f) i (pos 0) +ℤ s *ℤ v
       → set (plus n l s f) i x ≡ plus n l s h
   plus-set f h i v x p e q = plus-is h _ (length-set (plus n l s f) i x ∙ plus-length f) (λ k r. one k r (ℕ-discrete i k))
     where
