@@ -24,7 +24,7 @@ S = pos (2 ^ 30)
 
 module _ (n : ℕ) (M N : ℕ → ℕ → ℤ) where
   -- the entry of S I − M N
-  abbrev pub defect : ℕ → ℕ → ℤ
+  abbrev defect : ℕ → ℕ → ℤ
   defect i j = S *ℤ δ i j -ℤ sum n (λ k. M i k *ℤ N k j)
 
   -- (S I − M N) v = S v − M (N v)

@@ -17,7 +17,7 @@ use Rattle.integers.specs.Bounds.{abs-+, abs-*}
 use Rattle.integers.specs.Sums.{δ, δ-same, δ-other}
 
 -- f 0, f 1, .., n of them
-pub tabulate : {A : Type 0} → ℕ → (ℕ → A) → List A
+unfoldable pub tabulate : {A : Type 0} → ℕ → (ℕ → A) → List A
 tabulate zero f = []
 tabulate (suc n) f = f 0 ∷ tabulate n (λ k. f (suc k))
 
