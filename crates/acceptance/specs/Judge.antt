@@ -1,0 +1,47 @@
+-- The answer to a check before its sheet: the first of the seven tests that fails, or acceptance. Assumes nothing.
+use Prim.Native.Nat.{ℕ}
+use mathlib.Core.Bool.{Bool, true, false}
+use mathlib.Core.List.{List}
+use lib.IntN.{ℤ}
+use Rattle.network.specs.Stations.{unknownCount}
+use Rattle.network.specs.declared.Network.{Network}
+use Rattle.network.specs.declared.Place.{Place}
+use Rattle.chains.specs.Chains.{allTied, firstUntied}
+use Rattle.acceptance.specs.Tests.{at, byRows, lengthsFit, correctionsSmall, inverseSmall, defectSmall, residualSmall, refinementSmall}
+use Rattle.acceptance.specs.declared.Answer.{Answer}
+use Rattle.acceptance.specs.declared.Answer.the-variants.{Accepted, Refused, Untied}
+
+-- ════ this paper's numbers: "10..16 | check | test 1, 2, 3, 4, 5, 6, 7 fails, in that order"; 0 where the call is not refused
+abbrev pub numberOf : Answer → ℕ
+numberOf Accepted = 0
+numberOf (Refused number) = number
+numberOf (Untied unknown) = 11
+
+-- "for 11 also the first unknown without a chain", by its number from 1; 0 in every other answer
+abbrev pub unknownOf : Answer → ℕ
+unknownOf Accepted = 0
+unknownOf (Refused number) = 0
+unknownOf (Untied unknown) = unknown
+
+-- ════ the tests in their order
+-- a test that fails settles the answer
+abbrev pub unless : Bool → Answer → Answer → Answer
+unless true refusal next = next
+unless false refusal next = refusal
+
+-- tests 3 to 7
+unfoldable pub judgeNumbers : ℕ → List ℤ → List ℤ → List ℤ → List ℤ → Answer
+judgeNumbers n normal right x m =
+    unless (correctionsSmall x) (Refused 12)
+    (unless (inverseSmall m) (Refused 13)
+    (unless (defectSmall n (byRows 48 normal) (byRows n m)) (Refused 14)
+    (unless (residualSmall n (byRows 48 normal) (at right) (at x)) (Refused 15)
+    (unless (refinementSmall n (byRows 48 normal) (byRows n m) (at right) (at x)) (Refused 16)
+    Accepted))))
+
+-- all seven. N is `normal` by rows of 48 and u is `right`; x and M are lent, M by rows of n; room: the sheet, where one is lent, has room
+unfoldable pub judge : Network → List Place → List ℤ → List ℤ → List ℤ → List ℤ → Bool → Answer
+judge net places normal right x m room =
+    unless (lengthsFit (unknownCount (net .stations)) x m room) (Refused 10)
+    (unless (allTied net places) (Untied (firstUntied net places))
+    (judgeNumbers (unknownCount (net .stations)) normal right x m))

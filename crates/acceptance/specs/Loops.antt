@@ -1,0 +1,195 @@
+-- One law for every loop that adds up products of two numbers in an i64.
+use mathlib.Core.Path.{_≡_, ap, ap₂, _∙_}
+use mathlib.Core.Bool.{true, false}
+use mathlib.Core.List.{List}
+use Prim.Native.Nat.{ℕ, suc, _+_, _*_, _≤_, _<_, _^_}
+use native.Mathlib.Nat.{mul-le-mul-right, add-mul, one-mul, add-comm}
+use native.Mathlib.Omega.{arith}
+use borrow.Author.Tests.{lt-leb, le-leb}
+use lib.Dec.{lit<, leb}
+use lib.ListN.{length}
+use lib.IntN.{ℤ, natAbs, _+ℤ_, _-ℤ_, _*ℤ_}
+use mir.Syntax.{w64}
+use mir.Val.{ofZ, toZ, SFits}
+use mir.ValLaws.{toZ-ofZ}
+use Rattle.integers.specs.Bounds.{bounds, fits, absle, abs--}
+use Rattle.integers.specs.Sums.{sum, sumN, sum-ext, abs-sum-const, sumN-+1, sumN-first}
+use Rattle.integers.specs.Tables.{Within}
+use Rattle.acceptance.specs.Tests.{at, byRows}
+
+-- a number smaller than 2^63 in size fits 64 bits, and is what is read back
+pub small-fits : (z : ℤ) → natAbs z < 2 ^ 63 → SFits w64 z
+small-fits z h = let l : natAbs z ≤ natAbs z = omega arith in fits (search bounds) (omega arith)
+
+pub back : (z : ℤ) → natAbs z < 2 ^ 63 → toZ w64 (ofZ w64 z) ≡ z
+back z h = toZ-ofZ w64 z (small-fits z h)
+
+-- One turn of such a loop. s is the sum so far and x its bits; a and b are the factors, as the machine reads them back:
+-- the product and the sum fit, and the bits afterwards are those of the new sum.
+pub record Turn (s a b : ℤ) (x : ℕ) : Type 0 where
+  pub mul : SFits w64 (toZ w64 (ofZ w64 a) *ℤ toZ w64 (ofZ w64 b))
+  pub add : SFits w64 (toZ w64 x +ℤ toZ w64 (ofZ w64 (toZ w64 (ofZ w64 a) *ℤ toZ w64 (ofZ w64 b))))
+  pub is : ofZ w64 (toZ w64 x +ℤ toZ w64 (ofZ w64 (toZ w64 (ofZ w64 a) *ℤ toZ w64 (ofZ w64 b)))) ≡ ofZ w64 (s +ℤ a *ℤ b)
+
+pub turn : (s a b : ℤ) (x A B C : ℕ) → x ≡ ofZ w64 s → natAbs s ≤ C → natAbs a ≤ A → natAbs b ≤ B → A < 2 ^ 63 → B < 2 ^ 63 → C + A * B < 2 ^ 63 → Turn s a b x
+turn s a b x A B C e hs ha hb la lb room =
+    let hp : natAbs (a *ℤ b) ≤ A * B = absle (a *ℤ b) (search bounds) (omega arith) in
+    let ht : natAbs (s +ℤ a *ℤ b) ≤ C + A * B = absle (s +ℤ a *ℤ b) (search bounds) (omega arith) in
+    let fa : toZ w64 (ofZ w64 a) ≡ a = back a (omega arith) in
+    let fb : toZ w64 (ofZ w64 b) ≡ b = back b (omega arith) in
+    let q : toZ w64 x +ℤ toZ w64 (ofZ w64 (toZ w64 (ofZ w64 a) *ℤ toZ w64 (ofZ w64 b))) ≡ s +ℤ a *ℤ b =
+    rw (e, fa, fb, back s (omega arith), back (a *ℤ b) (omega arith)) in
+    record {
+      mul = rw (fa, fb) (small-fits (a *ℤ b) (omega arith));
+      add = rw q (small-fits (s +ℤ a *ℤ b) (omega arith));
+      is = ap (ofZ w64) q;
+    }
+
+-- the terms of a sum of n products: a k at most A in size, b k at most B, and n of them fit
+pub record Terms (a b : ℕ → ℤ) (A B n : ℕ) : Type 0 where
+  pub left : (k : ℕ) → k < n → natAbs (a k) ≤ A
+  pub right : (k : ℕ) → k < n → natAbs (b k) ≤ B
+  pub leftFits : A < 2 ^ 63
+  pub rightFits : B < 2 ^ 63
+  pub allFit : n * (A * B) < 2 ^ 63
+
+module _ {a b : ℕ → ℤ} {A B n : ℕ} (t : Terms a b A B n) where
+  pub sum-small : (k : ℕ) → k ≤ n → natAbs (sum k (λ k. a k *ℤ b k)) ≤ k * (A * B)
+  sum-small k h =
+      abs-sum-const k _ (A * B) (λ i l.
+      let x = t .left i (omega arith) in let y = t .right i (omega arith) in absle (a i *ℤ b i) (search bounds) (omega arith))
+
+  small-enough : (k : ℕ) → k ≤ n → k * (A * B) < 2 ^ 63
+  small-enough k h = let m = mul-le-mul-right (A * B) h in omega (arith, t .allFit)
+
+  -- a turn: x holds the sum of the first k terms
+  pub sum-turn : {x k : ℕ} → k < n → x ≡ ofZ w64 (sum k (λ k. a k *ℤ b k)) → Turn (sum k (λ k. a k *ℤ b k)) (a k) (b k) x
+  sum-turn {x} {k} h e =
+      turn (sum k (λ k. a k *ℤ b k)) (a k) (b k) x A B (k * (A * B)) e (sum-small k (omega arith)) (t .left k h) (t .right k h) (t .leftFits) (t .rightFits)
+      (let m : suc k * (A * B) < 2 ^ 63 = small-enough (suc k) h in omega arith)
+
+  -- and at the end
+  pub sum-done : {x k : ℕ} → k ≤ n → x ≡ ofZ w64 (sum k (λ k. a k *ℤ b k)) → toZ w64 x ≡ sum k (λ k. a k *ℤ b k)
+  sum-done {x} {k} h e =
+      let s = sum-small k h in
+      let m = small-enough k h in
+      ap (toZ w64) e ∙ back (sum k (λ k. a k *ℤ b k)) (omega arith)
+
+-- what `dot` asks: at most 48 products of numbers of at most 2^34 and 2^23 in size. The rows of M against the columns of N, those of N against x and
+-- those of M against r are all such.
+pub record Factors (a : List ℤ) (row : ℕ) (b : List ℤ) (column stride n : ℕ) : Type 0 where
+  pub few : n ≤ 48
+  pub along : row + n ≤ length a
+  pub inside : (k : ℕ) → k < n → column + k * stride < length b
+  pub left : (k : ℕ) → k < n → natAbs (at a (row + k)) ≤ 2 ^ 34
+  pub right : (k : ℕ) → k < n → natAbs (at b (column + k * stride)) ≤ 2 ^ 23
+
+module _ {a : List ℤ} {row : ℕ} {b : List ℤ} {column stride n : ℕ} (f : Factors a row b column stride n) where
+  pub factors : Terms (λ k. at a (row + k)) (λ k. at b (column + k * stride)) (2 ^ 34) (2 ^ 23) n
+  factors = record { left = f .left; right = f .right; leftFits = lit< tt; rightFits = lit< tt; allFit = let h = f .few in omega arith }
+
+  pub dot-small : natAbs (sum n (λ k. at a (row + k) *ℤ at b (column + k * stride))) ≤ 48 * 2 ^ 57
+  dot-small = let h = f .few in let s = sum-small factors n (omega arith) in omega arith
+
+-- rows of n entries lie within n of them
+pub row-next : (i n : ℕ) → i * n + n ≡ (i + 1) * n
+row-next i n = rw (add-mul, one-mul)
+
+pub row-end : {i n : ℕ} → i < n → i * n + n ≤ n * n
+row-end {i} {n} h = rw row-next (mul-le-mul-right n (let k : i + 1 ≤ n = omega arith in k))
+
+-- ════ what the tests ask, each of those before it: the sizes of N and u are those of every sound book
+-- test 5, after 1 and 4
+pub record Pair (n : ℕ) (m normal : List ℤ) : Type 0 where
+  pub few : n ≤ 48
+  pub long : length m ≡ n * n
+  pub inverse : (k : ℕ) → natAbs (at m k) ≤ 2 ^ 34
+  pub matrix : Within 2304 2560000 normal
+
+-- test 6, after 1 and 3
+pub record Normal (n : ℕ) (normal right x : List ℤ) : Type 0 where
+  pub few : n ≤ 48
+  pub long : length x ≡ n
+  pub corrections : (k : ℕ) → natAbs (at x k) ≤ 100000
+  pub matrix : Within 2304 2560000 normal
+  pub absolute : Within 48 768000000000 right
+
+-- test 7, after 1, 4 and 6
+pub record Small (n : ℕ) (m r : List ℤ) : Type 0 where
+  pub few : n ≤ 48
+  pub long : length m ≡ n * n
+  pub inverse : (k : ℕ) → natAbs (at m k) ≤ 2 ^ 34
+  pub room : length r ≡ 48
+  pub residual : (k : ℕ) → k < n → natAbs (at r k) ≤ 2 ^ 23
+
+-- the first n entries of a list of 48 are f's
+pub record Residuals (n : ℕ) (f : ℕ → ℤ) (l : List ℤ) : Type 0 where
+  pub room : length l ≡ 48
+  pub is : (k : ℕ) → k < n → at l k ≡ f k
+
+-- ════ the factors of each
+pub pair-factors : {n : ℕ} {m normal : List ℤ} → Pair n m normal → (row i j : ℕ) → row ≡ i * n → i < n → j < n → Factors m row normal j 48 n
+pair-factors {n} {m} {normal} p row i j e hi hj =
+    record {
+      few = p .few;
+      along = let l = p .long in omega (arith, row-end hi);
+      inside = λ k h. let l = p .matrix .long in let f = p .few in omega arith;
+      left = λ k h. p .inverse (row + k);
+      right = λ k h. let b = p .matrix .bound (j + k * 48) in omega arith;
+    }
+
+pub normal-factors : {n : ℕ} {normal right x : List ℤ} → Normal n normal right x → (i : ℕ) → i < n → Factors normal (i * 48) x 0 1 n
+normal-factors {n} {normal} {right} {x} p i hi =
+    record {
+      few = p .few;
+      along = let l = p .matrix .long in let f = p .few in omega arith;
+      inside = λ k h. let l = p .long in omega arith;
+      left = λ k h. let b = p .matrix .bound (i * 48 + k) in omega arith;
+      right = λ k h. let b = p .corrections (0 + k * 1) in omega arith;
+    }
+
+pub small-factors : {n : ℕ} {m r : List ℤ} → Small n m r → (row i : ℕ) → row ≡ i * n → i < n → Factors m row r 0 1 n
+small-factors {n} {m} {r} p row i e hi =
+    record {
+      few = p .few;
+      along = let l = p .long in omega (arith, row-end hi);
+      inside = λ k h. let l = p .room in let f = p .few in omega arith;
+      left = λ k h. p .inverse (row + k);
+      right = λ k h. let q : 0 + k * 1 ≡ k = omega arith in rw q (p .residual k h);
+    }
+
+-- ════ what `dot` gives there, in the tests' words
+pub pair-dot : (n : ℕ) (m normal : List ℤ) (row i j : ℕ) → row ≡ i * n
+    → sum n (λ k. at m (row + k) *ℤ at normal (j + k * 48)) ≡ sum n (λ k. byRows n m i k *ℤ byRows 48 normal k j)
+pair-dot n m normal row i j e = sum-ext n (λ k h. ap₂ (λ (a b : ℕ). at m (a + k) *ℤ at normal b) e (add-comm j (k * 48)))
+
+one-by-one : (k : ℕ) → 0 + k * 1 ≡ k
+one-by-one k = omega arith
+
+pub vector-dot : (n : ℕ) (a b : List ℤ) (row i stride : ℕ) → row ≡ i * stride
+    → sum n (λ k. at a (row + k) *ℤ at b (0 + k * 1)) ≡ sum n (λ k. byRows stride a i k *ℤ at b k)
+vector-dot n a b row i stride e = sum-ext n (λ k h. ap₂ (λ (r c : ℕ). at a (r + k) *ℤ at b c) e (one-by-one k))
+
+-- A difference of two numbers that are small enough, as the machine reads them back.
+pub record Difference (a b : ℤ) : Type 0 where
+  pub fits : SFits w64 (toZ w64 (ofZ w64 a) -ℤ toZ w64 (ofZ w64 b))
+  pub is : toZ w64 (ofZ w64 (toZ w64 (ofZ w64 a) -ℤ toZ w64 (ofZ w64 b))) ≡ a -ℤ b
+  pub small : natAbs (a -ℤ b) ≤ natAbs a + natAbs b
+
+pub difference : (a b : ℤ) → natAbs a + natAbs b < 2 ^ 63 → Difference a b
+difference a b h =
+    let s = abs-- a b in
+    let d : toZ w64 (ofZ w64 a) ≡ a = back a (omega arith) in
+    let e : toZ w64 (ofZ w64 b) ≡ b = back b (omega arith) in
+    record { fits = rw (d, e) (small-fits (a -ℤ b) (omega arith)); is = rw (d, e) (back (a -ℤ b) (omega arith)); small = s }
+
+-- A loop that adds f up and stops above a limit: x is the sum before j, and d the term at j.
+module _ (f : ℕ → ℕ) where
+  pub total-more : {j x d : ℕ} → x ≡ sumN j f → d ≡ f j → x + d ≡ sumN (j + 1) f
+  total-more {j} {x} {d} e h = let s = sumN-+1 j f in omega arith
+
+  pub total-over : (limit n : ℕ) {j x : ℕ} → x ≡ sumN (j + 1) f → j < n → limit < x → leb (sumN n f) limit ≡ false
+  total-over limit n {j} {x} e h l = let m = sumN-first (j + 1) n f (omega arith) in lt-leb (sumN n f) limit (omega arith)
+
+  pub total-under : (limit n : ℕ) {j x : ℕ} → x ≡ sumN j f → j ≡ n → x ≤ limit → leb (sumN n f) limit ≡ true
+  total-under limit n {j} {x} e h l = rw (← h, ← e) (le-leb x limit l)

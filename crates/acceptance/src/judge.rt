@@ -1,0 +1,99 @@
+// The answer: the first test that fails, or acceptance.
+use super::Answer;
+use super::inverse::rows_near;
+use super::refinement::normal_residual;
+use super::refinement::refinements_within;
+use super::sizes::first_within;
+use network::Network;
+use network::Place;
+ghost use mathlib.Core.Path.{_≡_};
+ghost use mathlib.Core.Bool.{_&&_};
+ghost use Prim.Native.Nat.{_*_, _≤_};
+ghost use lib.Dec.{eqb};
+ghost use Rattle.acceptance.specs.Judge.{numberOf, unknownOf, judgeNumbers, judge};
+ghost use Rattle.acceptance.specs.JudgeLaws.{Fit, Numbers};
+
+// Document 01's number of an answer, 0 where the call is not refused.
+pub fn number(answer: Answer) -> u64
+    ensures { λ r. ⌜ r ≡ numberOf answer ⌝ }
+{
+    match answer {
+        Answer::Accepted => 0,
+        Answer::Refused(number) => number,
+        Answer::Untied(_) => 11,
+    }
+}
+
+// The unknown of refusal 11, by its number from 1; 0 in every other answer.
+pub fn unknown(answer: Answer) -> u64
+    ensures { λ r. ⌜ r ≡ unknownOf answer ⌝ }
+{
+    match answer {
+        Answer::Accepted => 0,
+        Answer::Refused(_) => 0,
+        Answer::Untied(unknown) => unknown,
+    }
+}
+
+// Test 1: whether x has n numbers and M n·n, and the sheet, where one is lent, has room.
+fn lengths_fit(x: usize, m: usize, n: usize, room: bool) -> bool
+    requires { ⌜ n ≤ 48 ⌝ }
+    ensures { λ r. ⌜ r ≡ (eqb x n && eqb m (n * n) && room) ⌝ }
+{
+    if x == n {
+        if m == n * n {
+            return room;
+        }
+    }
+    false
+}
+
+// Tests 3 to 7.
+fn judge_numbers(normal: &[i64; 2304], right: &[i64; 48], x: &[i64], m: &[i64], n: usize) -> Answer
+    requires { ⌜ Numbers n (now normal) (now right) (now x) (now m) ⌝ }
+    ensures { λ r. ⌜ r ≡ judgeNumbers n (now (normal .entry)) (now (right .entry)) (now (x .entry)) (now (m .entry)) ⌝ }
+{
+    if !first_within(x, x.len(), 100_000) {
+        return Answer::Refused(12);
+    }
+    if !first_within(m, m.len(), 17_179_869_184) {
+        return Answer::Refused(13);
+    }
+    if !rows_near(m, normal, n) {
+        return Answer::Refused(14);
+    }
+    let r = normal_residual(normal, right, x, n);
+    if !first_within(&r, n, 8_388_608) {
+        return Answer::Refused(15);
+    }
+    if !refinements_within(m, &r, n) {
+        return Answer::Refused(16);
+    }
+    Answer::Accepted
+}
+
+// The seven tests of x and M against the book's stations, records, N and u; `room`: the sheet, where one is lent, has room.
+pub fn accept(
+    net: Network,
+    places: [Place; 256],
+    normal: &[i64; 2304],
+    right: &[i64; 48],
+    x: &[i64],
+    m: &[i64],
+    room: bool,
+) -> Answer
+    requires { ⌜ Fit net places (now normal) (now right) ⌝ }
+    ensures { λ r. ⌜ r ≡ judge net places (now (normal .entry)) (now (right .entry)) (now (x .entry)) (now (m .entry)) room ⌝ }
+{
+    let stations = net.stations;
+    let n = network::number_of(stations, 96);
+    if !lengths_fit(x.len(), m.len(), n, room) {
+        return Answer::Refused(10);
+    }
+    let q = chains::first_untied(net, places);
+    if q < 96 {
+        let before = network::number_of(stations, q);
+        return Answer::Untied((before + 1) as u64);
+    }
+    judge_numbers(normal, right, x, m, n)
+}

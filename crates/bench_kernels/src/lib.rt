@@ -1,0 +1,126 @@
+// Jobs that bench/ measures, each with a contract that settles its result. They are not part of the product.
+use network::Baseline;
+use network::Kind;
+use network::Network;
+use network::Place;
+use network::Record;
+use network::Station;
+use network::Unit;
+use normals::Normals;
+ghost use mathlib.Core.Path.{_≡_};
+ghost use Prim.Native.Nat.{_<_};
+ghost use Rattle.normals.specs.Formulas.{normalsOf};
+ghost use Rattle.bench_kernels.specs.Sample.{sampleNetwork, sampleBaseline, samplePlaces, entryAt};
+
+fn sample_network() -> Network
+    ensures { λ r. ⌜ r ≡ sampleNetwork ⌝ }
+{
+    let k = Station {
+        kind: Kind::Known,
+        east: 0,
+        north: 0,
+        up: 0,
+    };
+    let f = Station {
+        kind: Kind::Free,
+        east: 0,
+        north: 0,
+        up: 0,
+    };
+    Network {
+        count: 17,
+        stations: [
+            k,
+            f,
+            f,
+            f,
+            f,
+            f,
+            f,
+            f,
+            f,
+            f,
+            f,
+            f,
+            f,
+            f,
+            f,
+            f,
+            f,
+            k,
+            k,
+            k,
+            k,
+            k,
+            k,
+            k,
+            k,
+            k,
+            k,
+            k,
+            k,
+            k,
+            k,
+            k,
+        ],
+    }
+}
+
+fn sample_baseline(p: usize) -> Baseline
+    requires { ⌜ p < 256 ⌝ }
+    ensures { λ r. ⌜ r ≡ sampleBaseline p ⌝ }
+{
+    let f = p % 17 + 1;
+    let t = (f + p / 17) % 17 + 1;
+    let from = f as i64;
+    let to = t as i64;
+    let v = p as i64;
+    Baseline {
+        from: from,
+        to: to,
+        east: v,
+        north: v,
+        up: v,
+        ee: 100,
+        en: 10,
+        eu: -10,
+        nn: 100,
+        nu: 10,
+        uu: 100,
+    }
+}
+
+fn sample_places() -> [Place; Unit::PLACES]
+    ensures { λ r. ⌜ r ≡ samplePlaces ⌝ }
+{
+    let mut places = [Place {
+        entry: Record::Empty,
+    }; Unit::PLACES];
+    let mut p = 0;
+    while p < Unit::PLACES {
+        let b = sample_baseline(p);
+        places[p] = Place {
+            entry: Record::Baseline(b),
+        };
+        p = p + 1;
+    }
+    places
+}
+
+// N and u of the sample from scratch; entry k of N by rows, then of u.
+#[no_mangle]
+pub extern "C" fn bench_normals(k: usize) -> i64
+    ensures { λ r. ⌜ r ≡ entryAt (normalsOf (sampleNetwork .stations) samplePlaces) k ⌝ }
+{
+    let net = sample_network();
+    let places = sample_places();
+    let x = Normals::of(net, places);
+    if k < Normals::ENTRIES {
+        return x.matrix[k];
+    }
+    let i = k - Normals::ENTRIES;
+    if i < Normals::ROW {
+        return x.right[i];
+    }
+    0
+}

@@ -1,0 +1,60 @@
+-- `held_in` has the held among the first s stations at each turn. Assumes nothing.
+use Prim.Native.Nat.{ℕ, _≤_, _-_}
+use mathlib.Core.Path.{_≡_, refl, sym, ap, _∙_}
+use mathlib.Core.Bool.{cond}
+use native.Mathlib.Omega.{arith}
+use borrow.Author.Needs.{needs}
+use lib.Dec.{eqb}
+use Rattle.chains.specs.Bits.{setBit, setOf, setOf-step}
+use Rattle.chains.specs.Chains.{isHeld}
+use Rattle.chains.specs.ChainLaws.{unknown-at}
+use Rattle.chains.proofs.records.held_in.Statement.{statement}
+use Rattle.chains.proofs.records.held_in.Tie as tie
+
+abbrev Inv-loop : tie.InvT-loop
+Inv-loop n c stations w₀ s₀ w s = (s ≤ n) × (w ≡ setOf s (isHeld stations c))
+
+abbrev μ-loop : tie.MeasureT-loop
+μ-loop n c stations w₀ s₀ w s = n - s
+
+loop-holds : tie.Need-loop-holds Inv-loop μ-loop
+unfolding setOf
+loop-holds c = (omega arith, refl)
+
+mul-x : tie.Need-mul-x Inv-loop μ-loop
+mul-x c = search needs
+
+array-copy-out-x : tie.Need-array-copy-out-x Inv-loop μ-loop
+array-copy-out-x c = search needs
+
+with-held-requires : tie.Need-with-held-requires Inv-loop μ-loop
+with-held-requires c κs = search needs
+
+add-s : tie.Need-add-s Inv-loop μ-loop
+add-s c = search needs
+
+loop-less : tie.Need-loop-less Inv-loop μ-loop
+loop-less c = search needs
+
+loop-again : tie.Need-loop-again Inv-loop μ-loop
+loop-again c =
+    let t = c .before .before .before in
+    (search needs, rw (setOf-step, unknown-at _ (t .loop .s) _ (t .before .pre .1), ← (t .loop .inv .1)) (c .with-held .ensures))
+
+returns : tie.Need-returns Inv-loop μ-loop
+returns c = let e : c .before .loop .s ≡ c .before .before .args .n = omega arith in c .before .loop .inv .1 ∙ rw e
+
+pub held-in-spec : {M : Type 1} → statement M
+held-in-spec =
+    tie.close
+    (tie.spec
+    Inv-loop
+    μ-loop
+    loop-holds
+    mul-x
+    array-copy-out-x
+    with-held-requires
+    add-s
+    loop-less
+    loop-again
+    returns)

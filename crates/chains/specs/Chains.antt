@@ -1,0 +1,71 @@
+-- Document 01, "Accepting a solution", test 2: "for every component, each station unknown in it is joined, by a chain of records acting in it, to a station held
+-- in it (baselines act in E, N, U; height differences in U only)". Components are 0 E, 1 N, 2 U, stations and places count from 0, and component q of the
+-- station list is component q % 3 of station q / 3. Assumes nothing.
+use Prim.Native.Nat.{ℕ, _+_, _*_, _/_, _%_, _<_, _^_}
+use mathlib.Core.Path.{_≡_}
+use mathlib.Core.Bool.{Bool, true, false, cond}
+use mathlib.Core.List.{List}
+use lib.Dec.{eqb}
+use lib.ListN.{getD}
+use Rattle.integers.specs.Tables.{tabulate}
+use Rattle.network.specs.All.{allBelow}
+use Rattle.network.specs.Stations.{unknown, number}
+use Rattle.network.specs.Records.{recordAt, fromOf, toOf}
+use Rattle.network.specs.declared.Station.{Station}
+use Rattle.network.specs.declared.Network.{Network}
+use Rattle.network.specs.declared.Record.{Record}
+use Rattle.network.specs.declared.Record.the-variants.{Empty, Baseline as baseline, Height as height}
+use Rattle.network.specs.declared.Place.{Place}
+use Rattle.chains.specs.Bits.{bit, setOf}
+use Rattle.chains.specs.Scans.{firstFailing}
+use Rattle.chains.specs.Search.{search}
+
+-- "baselines act in E, N, U; height differences in U only"
+unfoldable pub acts : ℕ → Record → Bool
+acts c Empty = false
+acts c (baseline b) = true
+acts c (height h) = eqb c 2
+
+-- "joined, by a chain of records acting in it, to a station held in it": station s, in component c
+pub data Tied (net : Network) (places : List Place) (c : ℕ) : ℕ → Type 0 where
+  held : {s : ℕ} → s < net .count → unknown (net .stations) (s * 3 + c) ≡ 0 → Tied net places c s
+  along : {s t p : ℕ} → p < 256 → acts c (recordAt places p) ≡ true → fromOf (recordAt places p) ≡ s → toOf (recordAt places p) ≡ t
+      → Tied net places c s → Tied net places c t
+  back : {s t p : ℕ} → p < 256 → acts c (recordAt places p) ≡ true → fromOf (recordAt places p) ≡ s → toOf (recordAt places p) ≡ t
+      → Tied net places c t → Tied net places c s
+
+-- ════ the same by a search, which ChainLaws shows to be exact: `bit (tiedSet net places c) s ≡ true` where there is a `Tied net places c s`, and only there
+-- a record's ends in one number; one that does not act in c joins station 0 to itself
+unfoldable pub edge : ℕ → Record → ℕ
+edge c r = cond (acts c r) (fromOf r * 32 + toOf r) 0
+
+abbrev pub edges : List Place → ℕ → List ℕ
+edges places c = tabulate 256 (λ p. edge c (recordAt places p))
+
+abbrev pub fromEnd : List ℕ → ℕ → ℕ
+fromEnd e p = getD e p 0 / 32
+
+abbrev pub toEnd : List ℕ → ℕ → ℕ
+toEnd e p = getD e p 0 % 32
+
+-- the stations held in c, as the bits of a word, and from there those that passes over the records reach; no word below 2^32 grows more than 2^32 times
+abbrev pub isHeld : List Station → ℕ → ℕ → Bool
+isHeld stations c s = eqb (unknown stations (s * 3 + c)) 0
+
+abbrev pub heldSet : Network → ℕ → ℕ
+heldSet net c = setOf (net .count) (isHeld (net .stations) c)
+
+unfoldable pub tiedSet : Network → List Place → ℕ → ℕ
+tiedSet net places c = search (fromEnd (edges places c)) (toEnd (edges places c)) 256 (2 ^ 32) (heldSet net c)
+
+-- component q is held or tied
+unfoldable pub isTied : Network → List Place → ℕ → Bool
+isTied net places q = cond (eqb (unknown (net .stations) q) 0) true (bit (tiedSet net places (q % 3)) (q / 3))
+
+-- ════ test 2
+unfoldable pub allTied : Network → List Place → Bool
+allTied net places = allBelow 96 (isTied net places)
+
+-- "the first unknown without a chain", by its number from 1
+unfoldable pub firstUntied : Network → List Place → ℕ
+firstUntied net places = number (net .stations) (firstFailing 96 (isTied net places)) + 1

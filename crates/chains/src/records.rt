@@ -1,0 +1,136 @@
+// The chains of a book's records, and the first unknown without one.
+use super::passes::search;
+use super::sets::has;
+use super::sets::with;
+use network::Kind;
+use network::Network;
+use network::Place;
+use network::Record;
+use network::Station;
+ghost use mathlib.Core.Path.{_≡_};
+ghost use mathlib.Core.Bool.{true, cond};
+ghost use Prim.Native.Nat.{_<_, _≤_};
+ghost use lib.Dec.{eqb};
+ghost use Rattle.network.specs.Stations.{unknownIn};
+ghost use Rattle.network.specs.Records.{fromOf, toOf};
+ghost use Rattle.chains.specs.Bits.{bit, setBit, setOf};
+ghost use Rattle.chains.specs.Scans.{firstFailing};
+ghost use Rattle.chains.specs.Chains.{acts, edge, edges, isHeld, isTied};
+ghost use Rattle.chains.specs.ChainLaws.{EndsLow, Ends, SameSet, heldOrIn};
+
+// Whether a record acts in component c: baselines in all three, height differences in U only.
+fn acts_in(r: Record, c: usize) -> bool
+    ensures { λ a. ⌜ a ≡ acts c r ⌝ }
+{
+    match r {
+        Record::Empty => false,
+        Record::Baseline(_) => true,
+        Record::Height(_) => c == 2,
+    }
+}
+
+// A record's ends in one number, those of station 0 twice where it does not act.
+fn edge_of(r: Record, c: usize) -> usize
+    requires { ⌜ (fromOf r < 32) × (toOf r < 32) ⌝ }
+    ensures { λ e. ⌜ e ≡ edge c r ⌝ }
+{
+    if acts_in(r, c) {
+        return network::from_of(r) * 32 + network::to_of(r);
+    }
+    0
+}
+
+fn edges_in(places: [Place; 256], c: usize) -> [usize; 256]
+    requires { ⌜ EndsLow places ⌝ }
+    ensures { λ r. ⌜ r ≡ edges places c ⌝ }
+{
+    let mut out = [0usize; 256];
+    let mut p: usize = 0;
+    while p < 256 {
+        let place = places[p];
+        let r = place.entry;
+        let e = edge_of(r, c);
+        out[p] = e;
+        p += 1;
+    }
+    out
+}
+
+// The set w, with station s put in where its kind holds component c.
+fn with_held(w: u32, s: usize, k: Kind, c: usize) -> u32
+    requires { ⌜ s < 32 ⌝ }
+    ensures { λ r. ⌜ r ≡ cond (eqb (unknownIn k c) 0) (setBit w s) w ⌝ }
+{
+    if network::unknown_in(k, c) == 0 {
+        return with(w, s);
+    }
+    w
+}
+
+// The first n stations, those of them that are held in component c.
+fn held_in(n: usize, stations: [Station; 32], c: usize) -> u32
+    requires { ⌜ (n ≤ 32) × (c < 3) ⌝ }
+    ensures { λ r. ⌜ r ≡ setOf n (isHeld stations c) ⌝ }
+{
+    let mut w: u32 = 0;
+    let mut s: usize = 0;
+    while s < n {
+        let x = stations[s];
+        let k = x.kind;
+        w = with_held(w, s, k, c);
+        s += 1;
+    }
+    w
+}
+
+// The stations that are tied in component c.
+fn tied_in(net: Network, places: [Place; 256], c: usize) -> u32
+    requires { ⌜ Ends net places × (c < 3) ⌝ }
+    ensures { λ r. ⌜ SameSet net places c r ⌝ }
+{
+    let e = edges_in(places, c);
+    let n = net.count;
+    let stations = net.stations;
+    let h = held_in(n, stations, c);
+    search(&e, h)
+}
+
+// Whether a station's kind holds component c, or the station s is in the set w.
+fn held_or_in(k: Kind, c: usize, w: u32, s: usize) -> bool
+    requires { ⌜ s < 32 ⌝ }
+    ensures { λ r. ⌜ r ≡ cond (eqb (unknownIn k c) 0) true (bit w s) ⌝ }
+{
+    if network::unknown_in(k, c) == 0 {
+        return true;
+    }
+    has(w, s)
+}
+
+// The first component, by station and then E, N, U, that is neither held nor in its set; 96 where there is none.
+fn first_missing(stations: [Station; 32], found: [u32; 3]) -> usize
+    ensures { λ r. ⌜ r ≡ firstFailing 96 (heldOrIn stations found) ⌝ }
+{
+    let mut q: usize = 0;
+    while q < 96 {
+        let x = stations[q / 3];
+        let k = x.kind;
+        let w = found[q % 3];
+        if !held_or_in(k, q % 3, w, q / 3) {
+            return q;
+        }
+        q += 1;
+    }
+    96
+}
+
+// The first component, by station and then E, N, U, that is neither held nor tied; 96 where there is none.
+pub fn first_untied(net: Network, places: [Place; 256]) -> usize
+    requires { ⌜ Ends net places ⌝ }
+    ensures { λ r. ⌜ r ≡ firstFailing 96 (isTied net places) ⌝ }
+{
+    let east = tied_in(net, places, 0);
+    let north = tied_in(net, places, 1);
+    let up = tied_in(net, places, 2);
+    let stations = net.stations;
+    first_missing(stations, [east, north, up])
+}

@@ -1,0 +1,14 @@
+pub mod All
+pub mod Filling
+pub mod Stored
+pub mod Sizes
+pub mod Stations
+pub mod StationLaws
+pub mod ComponentLaws
+pub mod OpeningLaws
+pub mod Records
+pub mod RecordLaws
+pub mod Rules
+pub mod Ranges
+pub mod Positive
+pub mod RuleLaws

@@ -1,0 +1,85 @@
+-- An accepted weight matrix is positive definite: its leading minors and the diagonal of its adjugate are positive. Assumes nothing.
+use mathlib.Core.Path.{_≡_, sym, subst}
+use mathlib.Core.Bool.{Bool, true}
+use mathlib.Core.List.{[], _∷_}
+use mathlib.Core.Logic.{⊎-elim}
+use lib.Dec.{T}
+use lib.IntN.{ℤ, pos, _+ℤ_, _-ℤ_, _*ℤ_}
+use lib.Signed.{leZ, ltZ, _≤ℤ_, _<ℤ_, clashℤ}
+use Rattle.integers.specs.Laws.{*ℤ-idl}
+use Rattle.integers.specs.Solvers.{ring, shapes, zlt, ltz, lez}
+use Rattle.integers.specs.Order.{zarith, ≤ℤ-or, <ℤ→≤ℤ, *ℤ-mono, sq-nonneg}
+use Rattle.network.specs.All.{each}
+use Rattle.network.specs.Rules.{adjugateE, adjugateN, adjugateU, determinant, minorsPositive, adjugateFits, matrixFits}
+use Rattle.network.specs.declared.Baseline.{Baseline}
+use Rattle.words.specs.Bools.{and-left, and-right}
+
+-- what "All three leading minors positive, and each diagonal entry of its adjugate at most 16 times its determinant" gives
+pub record PositiveMatrix (b : Baseline) : Type 0 where
+  pub first : pos 0 <ℤ b .ee
+  pub second : pos 0 <ℤ adjugateU b
+  pub third : pos 0 <ℤ determinant b
+  pub positiveE : pos 0 <ℤ adjugateE b
+  pub positiveN : pos 0 <ℤ adjugateN b
+  pub boundE : adjugateE b ≤ℤ (pos 16 *ℤ determinant b)
+  pub boundN : adjugateN b ≤ℤ (pos 16 *ℤ determinant b)
+  pub boundU : adjugateU b ≤ℤ (pos 16 *ℤ determinant b)
+
+-- ════ signs
+one : {a : ℤ} → pos 0 <ℤ a → pos 1 ≤ℤ a
+one h = omega (zarith, h)
+
+product-positive : (a b : ℤ) → pos 0 <ℤ a → pos 0 <ℤ b → pos 0 <ℤ (a *ℤ b)
+product-positive a b p q =
+    let h : (pos 1 *ℤ b) ≤ℤ (a *ℤ b) = *ℤ-mono (<ℤ→≤ℤ q) (one p) in
+    let k : b ≤ℤ (a *ℤ b) = subst (λ (z : ℤ). z ≤ℤ (a *ℤ b)) (*ℤ-idl b) h in
+    omega (zarith, k, q)
+
+factor-positive : (a b : ℤ) → pos 0 <ℤ a → pos 0 <ℤ (a *ℤ b) → pos 0 <ℤ b
+factor-positive a b p q = ⊎-elim (λ h. clashℤ q (low h)) (λ h. h) (≤ℤ-or b (pos 0))
+  where
+    low : b ≤ℤ pos 0 → (a *ℤ b) ≤ℤ pos 0
+    low h =
+        let k : (b *ℤ a) ≤ℤ (pos 0 *ℤ a) = *ℤ-mono (<ℤ→≤ℤ p) h in
+        let e : b *ℤ a ≡ a *ℤ b = ring (a ∷ b ∷ []) (search shapes) tt in
+        let f : pos 0 *ℤ a ≡ pos 0 = ring (a ∷ []) (search shapes) tt in
+        subst (λ (z : ℤ). z ≤ℤ pos 0) e (subst (λ (z : ℤ). (b *ℤ a) ≤ℤ z) f k)
+
+more-positive : (p q : ℤ) → pos 0 <ℤ p → pos 0 ≤ℤ q → pos 0 <ℤ (p +ℤ q)
+more-positive p q h k = zlt (p ∷ q ∷ []) (search shapes) (omega (zarith, ltz (p ∷ q ∷ []) (search shapes) h, lez (p ∷ q ∷ []) (search shapes) k))
+
+-- m·x = w·d + s², with m, w and d positive: x is positive
+cofactor-positive : (m x w d s : ℤ) → pos 0 <ℤ m → pos 0 <ℤ w → pos 0 <ℤ d → m *ℤ x ≡ w *ℤ d +ℤ s *ℤ s → pos 0 <ℤ x
+cofactor-positive m x w d s hm hw hd e =
+    factor-positive m x hm (subst (λ (z : ℤ). pos 0 <ℤ z) (sym e) (more-positive (w *ℤ d) (s *ℤ s) (product-positive w d hw hd) (sq-nonneg s)))
+
+-- the minors of the adjugate are the entries times the determinant
+minor-E : (b : Baseline) → adjugateU b *ℤ adjugateE b ≡ b .nn *ℤ determinant b +ℤ (b .en *ℤ b .nu -ℤ b .nn *ℤ b .eu) *ℤ (b .en *ℤ b .nu -ℤ b .nn *ℤ b .eu)
+minor-E b = ring (b .ee ∷ b .en ∷ b .eu ∷ b .nn ∷ b .nu ∷ b .uu ∷ []) (search shapes depth 20) tt
+
+minor-N : (b : Baseline) → adjugateU b *ℤ adjugateN b ≡ b .ee *ℤ determinant b +ℤ (b .ee *ℤ b .nu -ℤ b .en *ℤ b .eu) *ℤ (b .ee *ℤ b .nu -ℤ b .en *ℤ b .eu)
+minor-N b = ring (b .ee ∷ b .en ∷ b .eu ∷ b .nn ∷ b .nu ∷ b .uu ∷ []) (search shapes depth 20) tt
+
+-- ════ the rules
+T-of : (t : Bool) → t ≡ true → T t
+T-of t e = subst T (sym e) tt
+
+pub positive-matrix : (b : Baseline) → pos 0 <ℤ b .nn → matrixFits b ≡ true → PositiveMatrix b
+unfolding matrixFits minorsPositive adjugateFits
+positive-matrix b nn e =
+    let d = pos 16 *ℤ determinant b in
+    let m = each (ltZ (pos 0) (b .ee) ∷ ltZ (pos 0) (adjugateU b) ∷ ltZ (pos 0) (determinant b) ∷ []) (and-left (minorsPositive b) (adjugateFits b) e) in
+    let a = each (leZ (adjugateE b) d ∷ leZ (adjugateN b) d ∷ leZ (adjugateU b) d ∷ []) (and-right (minorsPositive b) (adjugateFits b) e) in
+    let first : pos 0 <ℤ b .ee = record { lt = T-of (ltZ (pos 0) (b .ee)) (m .0) } in
+    let second : pos 0 <ℤ adjugateU b = record { lt = T-of (ltZ (pos 0) (adjugateU b)) (m .1 .0) } in
+    let third : pos 0 <ℤ determinant b = record { lt = T-of (ltZ (pos 0) (determinant b)) (m .1 .1 .0) } in
+    record {
+      first = first;
+      second = second;
+      third = third;
+      positiveE = cofactor-positive (adjugateU b) (adjugateE b) (b .nn) (determinant b) (b .en *ℤ b .nu -ℤ b .nn *ℤ b .eu) second nn third (minor-E b);
+      positiveN = cofactor-positive (adjugateU b) (adjugateN b) (b .ee) (determinant b) (b .ee *ℤ b .nu -ℤ b .en *ℤ b .eu) second first third (minor-N b);
+      boundE = record { le = T-of (leZ (adjugateE b) d) (a .0) };
+      boundN = record { le = T-of (leZ (adjugateN b) d) (a .1 .0) };
+      boundU = record { le = T-of (leZ (adjugateU b) d) (a .1 .1 .0) };
+    }

@@ -1,0 +1,39 @@
+-- Records by the rules: what every law and contract of this crate asks. Assumes nothing.
+use Prim.Native.Nat.{ℕ, _<_}
+use mathlib.Core.Path.{_≡_, sym, ap, _∙_, subst}
+use mathlib.Core.Bool.{true}
+use mathlib.Core.List.{List}
+use native.Mathlib.Decide.{ℕ-discrete}
+use lib.ListN.{length, set}
+use lib.Seq.{getD-set-same, getD-set-other}
+use Rattle.network.specs.Stations.{networkFits}
+use Rattle.network.specs.Records.{recordAt, vacant}
+use Rattle.network.specs.Rules.{recordFits}
+use Rattle.network.specs.RuleLaws.{SoundRecord, sound-record}
+use Rattle.network.specs.declared.Network.{Network}
+use Rattle.network.specs.declared.Record.{Record}
+use Rattle.network.specs.declared.Place.{Place}
+
+-- the network passes what opening tests, and each of the 256 places is empty or holds a record that is not refused
+pub record Sound (net : Network) (places : List Place) : Type 0 where
+  pub network : networkFits net ≡ true
+  pub each : (p : ℕ) → p < 256 → recordFits net (recordAt places p) ≡ true
+
+-- the record r put in place p
+abbrev pub changed : List Place → ℕ → Record → List Place
+changed places p r = set places p (record { entry = r })
+
+module _ (net : Network) (places : List Place) (g : Sound net places) where
+  pub record-sound : (p : ℕ) → p < 256 → SoundRecord (net .stations) (recordAt places p)
+  record-sound p h = sound-record net (recordAt places p) (g .network) (g .each p h)
+
+  -- a place changed by the rules leaves records by the rules
+  pub sound-changed : (p : ℕ) (r : Record) → p < 256 → length places ≡ 256 → recordFits net r ≡ true → Sound net (changed places p r)
+  sound-changed p r h e f = record { network = g .network; each = λ k l. at k l (ℕ-discrete k p) }
+    where
+      at : (k : ℕ) → k < 256 → Dec (k ≡ p) → recordFits net (recordAt (changed places p r) k) ≡ true
+      at k l (yes q) =
+          ap (λ (j : ℕ). recordFits net (recordAt (changed places p r) j)) q
+          ∙ ap (λ (x : Place). recordFits net (x .entry)) (getD-set-same places p (record { entry = r }) vacant (subst (λ (n : ℕ). p < n) (sym e) h))
+          ∙ f
+      at k l (no q) = ap (λ (x : Place). recordFits net (x .entry)) (getD-set-other places p k (record { entry = r }) vacant q) ∙ g .each k l

@@ -1,0 +1,81 @@
+// What one record's equations add to N and u: at most 36 entries of N and 6 of u are touched. `sign` is 1 to put the share in, -1 to take it out.
+use super::Equation;
+use super::Normals;
+ghost use mathlib.Core.Path.{_≡_};
+ghost use Prim.Native.Nat.{_<_, _≤_, _^_};
+ghost use lib.IntN.{natAbs};
+ghost use Rattle.integers.specs.Tables.{plus, Within};
+ghost use Rattle.normals.specs.Equations.{Fit, rowN, blockN, weighted, blockU};
+
+// To N, the part of end e with each of the six.
+fn add_row(n: &mut [i64; Normals::ENTRIES], equation: Equation, e: usize, sign: i64)
+    requires { ⌜ (e < 6) × (natAbs sign ≤ 1) × Fit equation × Within 2304 (2 ^ 41) (now n) ⌝ }
+    ensures { λ r. ⌜ now (n .exit) ≡ plus 2304 (now (n .entry)) sign (rowN equation e) ⌝ }
+{
+    let i = equation.at[e] * Normals::ROW;
+    let c = sign * equation.coef[e];
+    let a = e % 3 * 3;
+    let mut f = 0;
+    while f < 6 {
+        let k = i + equation.at[f];
+        let w = c * equation.weight[a + f % 3];
+        let v = w * equation.coef[f];
+        let x = n[k];
+        n[k] = x + v;
+        f = f + 1;
+    }
+}
+
+fn add_matrix(n: &mut [i64; Normals::ENTRIES], equation: Equation, sign: i64)
+    requires { ⌜ (natAbs sign ≤ 1) × Fit equation × Within 2304 (2 ^ 40) (now n) ⌝ }
+    ensures { λ r. ⌜ now (n .exit) ≡ plus 2304 (now (n .entry)) sign (blockN equation) ⌝ }
+{
+    let mut e = 0;
+    while e < 6 {
+        add_row(n, equation, e, sign);
+        e = e + 1;
+    }
+}
+
+// Row a of P times the misclosures.
+fn weighted_row(equation: Equation, a: usize) -> i64
+    requires { ⌜ (a < 3) × Fit equation ⌝ }
+    ensures { λ r. ⌜ r ≡ weighted equation a ⌝ }
+{
+    let i = a * 3;
+    let x = equation.weight[i] * equation.misclosure[0];
+    let y = equation.weight[i + 1] * equation.misclosure[1];
+    let z = equation.weight[i + 2] * equation.misclosure[2];
+    x + y + z
+}
+
+fn add_right(u: &mut [i64; Normals::ROW], equation: Equation, sign: i64)
+    requires { ⌜ (natAbs sign ≤ 1) × Fit equation × Within 48 (2 ^ 43) (now u) ⌝ }
+    ensures { λ r. ⌜ now (u .exit) ≡ plus 48 (now (u .entry)) sign (blockU equation) ⌝ }
+{
+    let mut e = 0;
+    while e < 6 {
+        let k = equation.at[e];
+        let c = sign * equation.coef[e];
+        let p = weighted_row(equation, e % 3);
+        let v = c * p;
+        let x = u[k];
+        u[k] = x + v;
+        e = e + 1;
+    }
+}
+
+// The share added to N and u, or taken off.
+pub fn add_equation(
+    n: &mut [i64; Normals::ENTRIES],
+    u: &mut [i64; Normals::ROW],
+    equation: Equation,
+    sign: i64,
+)
+    requires { ⌜ (natAbs sign ≤ 1) × Fit equation × Within 2304 (2 ^ 40) (now n) × Within 48 (2 ^ 43) (now u) ⌝ }
+    ensures matrix { λ r. ⌜ now (n .exit) ≡ plus 2304 (now (n .entry)) sign (blockN equation) ⌝ }
+    ensures right { λ r. ⌜ now (u .exit) ≡ plus 48 (now (u .entry)) sign (blockU equation) ⌝ }
+{
+    add_matrix(n, equation, sign);
+    add_right(u, equation, sign);
+}
