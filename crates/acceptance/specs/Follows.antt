@@ -80,10 +80,10 @@ module _ (n : ℕ) (N M : ℕ → ℕ → ℤ) (u x : ℕ → ℤ) where
   unfolding defectSmall
   rounded-defect g r =
       all-by n _ (λ i l. le-leb _ _
-        (rounded-passes-5 n M N (r .Z) (r .D) (r .positive) i
-        (λ j h. left-inverse n N (r .Z) (r .D) (r .positive) (g .symmetric) (r .inverse) i j l h)
-        (λ k h. r .nearest i k l h)
-        (subst (λ (m : ℕ). m ≤ 2 ^ 27) (sumN-swap n n (λ i j. natAbs (N i j))) (g .whole))))
+      (rounded-passes-5 n M N (r .Z) (r .D) (r .positive) i
+      (λ j h. left-inverse n N (r .Z) (r .D) (r .positive) (g .symmetric) (r .inverse) i j l h)
+      (λ k h. r .nearest i k l h)
+      (subst (λ (m : ℕ). m ≤ 2 ^ 27) (sumN-swap n n (λ i j. natAbs (N i j))) (g .whole))))
 
   pub rounded-residual : Moderate n N → RoundedAnswer n N u x → residualSmall n N u x ≡ true
   unfolding residualSmall

@@ -29,19 +29,19 @@ abbrev pub unless : Bool → Answer → Answer → Answer
 unless true refusal next = next
 unless false refusal next = refusal
 
--- tests 3 to 7
-unfoldable pub judgeNumbers : ℕ → List ℤ → List ℤ → List ℤ → List ℤ → Answer
-judgeNumbers n normal right x m =
+-- tests 3 to 7; M by rows of n
+unfoldable pub judgeNumbers : ℕ → (ℕ → ℕ → ℤ) → (ℕ → ℤ) → List ℤ → List ℤ → Answer
+judgeNumbers n N u x m =
     unless (correctionsSmall x) (Refused 12)
     (unless (inverseSmall m) (Refused 13)
-    (unless (defectSmall n (byRows 48 normal) (byRows n m)) (Refused 14)
-    (unless (residualSmall n (byRows 48 normal) (at right) (at x)) (Refused 15)
-    (unless (refinementSmall n (byRows 48 normal) (byRows n m) (at right) (at x)) (Refused 16)
+    (unless (defectSmall n N (byRows n m)) (Refused 14)
+    (unless (residualSmall n N u (at x)) (Refused 15)
+    (unless (refinementSmall n N (byRows n m) u (at x)) (Refused 16)
     Accepted))))
 
--- all seven. N is `normal` by rows of 48 and u is `right`; x and M are lent, M by rows of n; room: the sheet, where one is lent, has room
-unfoldable pub judge : Network → List Place → List ℤ → List ℤ → List ℤ → List ℤ → Bool → Answer
-judge net places normal right x m room =
+-- all seven, with N and u of the book; room: the sheet, where one is lent, has room
+unfoldable pub judge : Network → List Place → (ℕ → ℕ → ℤ) → (ℕ → ℤ) → List ℤ → List ℤ → Bool → Answer
+judge net places N u x m room =
     unless (lengthsFit (unknownCount (net .stations)) x m room) (Refused 10)
     (unless (allTied net places) (Untied (firstUntied net places))
-    (judgeNumbers (unknownCount (net .stations)) normal right x m))
+    (judgeNumbers (unknownCount (net .stations)) N u x m))

@@ -1,10 +1,10 @@
 -- A right inverse of a symmetric matrix is a left inverse. Assumes nothing.
 use Prim.Native.Nat.{ℕ, zero, suc, _*_, _<_, _≤_}
-use mathlib.Core.Path.{_≡_, refl, sym, ap, ap₂, _∙_, subst}
+use mathlib.Core.Path.{_≡_, refl, sym, ap, _∙_}
 use mathlib.Core.List.{[], _∷_}
 use native.Mathlib.Nat.{le-of-mul-le-mul-left}
 use native.Mathlib.Omega.{arith}
-use lib.IntN.{ℤ, pos, negsuc, natAbs, _+ℤ_, _-ℤ_, _*ℤ_, *ℤ-comm}
+use lib.IntN.{ℤ, pos, negsuc, natAbs, _-ℤ_, _*ℤ_, *ℤ-comm}
 use Rattle.integers.specs.Laws.{*ℤ-distl-, -ℤ-zero-eq, -ℤ-self}
 use Rattle.integers.specs.Solvers.{ring, shapes}
 use Rattle.integers.specs.Bounds.{abs-*}
@@ -25,8 +25,8 @@ cancel D a b p e = -ℤ-zero-eq a b (size-zero (a -ℤ b) (le-of-mul-le-mul-left
         omega (arith, abs-* (pos D) (a -ℤ b), ap natAbs z)
 
 module _ (n : ℕ) (N Z : ℕ → ℕ → ℤ) (D : ℕ) (p : 0 < D)
-  (symmetric : (i j : ℕ) → N i j ≡ N j i)
-  (right : (i j : ℕ) → i < n → j < n → sum n (λ k. N i k *ℤ Z k j) ≡ pos D *ℤ δ i j) where
+    (symmetric : (i j : ℕ) → N i j ≡ N j i)
+    (right : (i j : ℕ) → i < n → j < n → sum n (λ k. N i k *ℤ Z k j) ≡ pos D *ℤ δ i j) where
   -- the transpose of Z is a left inverse
   transposed : (i j : ℕ) → i < n → j < n → sum n (λ k. Z k i *ℤ N k j) ≡ pos D *ℤ δ i j
   transposed i j hi hj =
@@ -39,13 +39,13 @@ module _ (n : ℕ) (N Z : ℕ → ℕ → ℤ) (D : ℕ) (p : 0 < D)
   inverse-symmetric i j hi hj =
       cancel D (Z i j) (Z j i) p
       (sym
-       (sum-ext n (λ m l. ap (λ (y : ℤ). y *ℤ Z m j) (transposed i m hi l) ∙ ring (pos D ∷ δ i m ∷ Z m j ∷ []) (search shapes) tt)
-        ∙ sum-*l n (pos D) (λ m. δ i m *ℤ Z m j)
-        ∙ ap (λ (y : ℤ). pos D *ℤ y) (sum-δ n i (λ m. Z m j) hi))
-       ∙ sym (mat-assoc n n (λ i k. Z k i) N (λ m. Z m j) i)
-       ∙ sum-ext n (λ k l. ap (λ (y : ℤ). Z k i *ℤ y) (right k j l hj ∙ ap (λ (y : ℤ). pos D *ℤ y) (δ-sym k j)) ∙ ring (Z k i ∷ pos D ∷ δ j k ∷ []) (search shapes) tt)
-       ∙ sum-*l n (pos D) (λ k. δ j k *ℤ Z k i)
-       ∙ ap (λ (y : ℤ). pos D *ℤ y) (sum-δ n j (λ k. Z k i) hj))
+      (sum-ext n (λ m l. ap (λ (y : ℤ). y *ℤ Z m j) (transposed i m hi l) ∙ ring (pos D ∷ δ i m ∷ Z m j ∷ []) (search shapes) tt)
+      ∙ sum-*l n (pos D) (λ m. δ i m *ℤ Z m j)
+      ∙ ap (λ (y : ℤ). pos D *ℤ y) (sum-δ n i (λ m. Z m j) hi))
+      ∙ sym (mat-assoc n n (λ i k. Z k i) N (λ m. Z m j) i)
+      ∙ sum-ext n (λ k l. ap (λ (y : ℤ). Z k i *ℤ y) (right k j l hj ∙ ap (λ (y : ℤ). pos D *ℤ y) (δ-sym k j)) ∙ ring (Z k i ∷ pos D ∷ δ j k ∷ []) (search shapes) tt)
+      ∙ sum-*l n (pos D) (λ k. δ j k *ℤ Z k i)
+      ∙ ap (λ (y : ℤ). pos D *ℤ y) (sum-δ n j (λ k. Z k i) hj))
 
   pub left-inverse : (i j : ℕ) → i < n → j < n → sum n (λ k. Z i k *ℤ N k j) ≡ pos D *ℤ δ i j
   left-inverse i j hi hj = sum-ext n (λ k l. ap (λ (y : ℤ). y *ℤ N k j) (inverse-symmetric i k hi l)) ∙ transposed i j hi hj

@@ -6,3 +6,4 @@ pub mod LeftInverse
 pub mod Follows
 pub mod Exactly
 pub mod Promises
+pub mod Examples

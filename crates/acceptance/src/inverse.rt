@@ -1,4 +1,5 @@
 // Test 5: M against N. "for each row, the sizes of (S·I − MN) add up to at most 2^26".
+use super::limits;
 use super::products::dot;
 ghost use mathlib.Core.Path.{_≡_};
 ghost use Prim.Native.Nat.{_*_, _<_, _^_};
@@ -17,7 +18,7 @@ fn defect_size(m: &[i64], row: usize, normal: &[i64; 2304], i: usize, j: usize, 
 {
     let d = dot(m, row, normal, j, 48, n);
     if i == j {
-        return words::size(1073741824 - d);
+        return words::size(limits::SCALE - d);
     }
     words::size(0 - d)
 }
@@ -32,7 +33,7 @@ fn row_near(m: &[i64], row: usize, normal: &[i64; 2304], i: usize, n: usize) -> 
     let mut j: usize = 0;
     while j < n {
         sum += defect_size(m, row, normal, i, j, n);
-        if sum > 67108864 {
+        if sum > limits::DEFECT {
             return false;
         }
         j += 1;

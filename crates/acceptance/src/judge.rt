@@ -1,6 +1,7 @@
 // The answer: the first test that fails, or acceptance.
 use super::Answer;
 use super::inverse::rows_near;
+use super::limits;
 use super::refinement::normal_residual;
 use super::refinement::refinements_within;
 use super::sizes::first_within;
@@ -10,6 +11,7 @@ ghost use mathlib.Core.Path.{_≡_};
 ghost use mathlib.Core.Bool.{_&&_};
 ghost use Prim.Native.Nat.{_*_, _≤_};
 ghost use lib.Dec.{eqb};
+ghost use Rattle.acceptance.specs.Tests.{at, byRows};
 ghost use Rattle.acceptance.specs.Judge.{numberOf, unknownOf, judgeNumbers, judge};
 ghost use Rattle.acceptance.specs.JudgeLaws.{Fit, Numbers};
 
@@ -51,19 +53,19 @@ fn lengths_fit(x: usize, m: usize, n: usize, room: bool) -> bool
 // Tests 3 to 7.
 fn judge_numbers(normal: &[i64; 2304], right: &[i64; 48], x: &[i64], m: &[i64], n: usize) -> Answer
     requires { ⌜ Numbers n (now normal) (now right) (now x) (now m) ⌝ }
-    ensures { λ r. ⌜ r ≡ judgeNumbers n (now (normal .entry)) (now (right .entry)) (now (x .entry)) (now (m .entry)) ⌝ }
+    ensures { λ r. ⌜ r ≡ judgeNumbers n (byRows 48 (now (normal .entry))) (at (now (right .entry))) (now (x .entry)) (now (m .entry)) ⌝ }
 {
-    if !first_within(x, x.len(), 100_000) {
+    if !first_within(x, x.len(), limits::CORRECTION) {
         return Answer::Refused(12);
     }
-    if !first_within(m, m.len(), 17_179_869_184) {
+    if !first_within(m, m.len(), limits::INVERSE) {
         return Answer::Refused(13);
     }
     if !rows_near(m, normal, n) {
         return Answer::Refused(14);
     }
     let r = normal_residual(normal, right, x, n);
-    if !first_within(&r, n, 8_388_608) {
+    if !first_within(&r, n, limits::RESIDUAL) {
         return Answer::Refused(15);
     }
     if !refinements_within(m, &r, n) {
@@ -83,7 +85,7 @@ pub fn accept(
     room: bool,
 ) -> Answer
     requires { ⌜ Fit net places (now normal) (now right) ⌝ }
-    ensures { λ r. ⌜ r ≡ judge net places (now (normal .entry)) (now (right .entry)) (now (x .entry)) (now (m .entry)) room ⌝ }
+    ensures { λ r. ⌜ r ≡ judge net places (byRows 48 (now (normal .entry))) (at (now (right .entry))) (now (x .entry)) (now (m .entry)) room ⌝ }
 {
     let stations = net.stations;
     let n = network::number_of(stations, 96);

@@ -1,19 +1,14 @@
 // Accepting a solution: document 01's tests 1 to 7 of a proposed pair (x, M) against the normal equations, in their order.
-
 mod inverse;
 mod judge;
+mod limits;
 mod products;
 mod refinement;
 mod sizes;
 
-pub use inverse::rows_near;
 pub use judge::accept;
 pub use judge::number;
 pub use judge::unknown;
-pub use products::dot;
-pub use refinement::normal_residual;
-pub use refinement::refinements_within;
-pub use sizes::first_within;
 
 // What a check answers; specs/Judge gives document 01's number and values for each case.
 pub enum Answer {

@@ -1,4 +1,5 @@
 // Tests 6 and 7: the residual of the normal equations, r = u − Nx, and Mr.
+use super::limits;
 use super::products::dot;
 ghost use mathlib.Core.Path.{_≡_};
 ghost use Prim.Native.Nat.{_*_, _^_};
@@ -34,7 +35,7 @@ pub fn refinements_within(m: &[i64], r: &[i64; 48], n: usize) -> bool
     let mut i: usize = 0;
     while i < n {
         let d = dot(m, row, r, 0, 1, n);
-        if !words::within(d, 1006632960) {
+        if !words::within(d, limits::REFINEMENT) {
             return false;
         }
         row += n;

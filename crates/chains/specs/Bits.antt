@@ -7,7 +7,7 @@ use native.Mathlib.Nat.{pow-suc, le-refl}
 use native.Mathlib.Decide.{ℕ-discrete}
 use native.Mathlib.Numerals.{add-one}
 use native.Mathlib.Omega.{arith}
-use borrow.Author.Tests.{eqb-true, eqb-false, eq-eqb, ne-eqb}
+use borrow.Author.Tests.{eqb-true, eqb-false, eq-eqb}
 use lib.Dec.{eqb}
 use lib.Pow.{shr-shr}
 use Rattle.words.specs.Bools.{clash, true-or-false}
@@ -21,11 +21,20 @@ digit w (suc s) = digit (w / 2) s
 abbrev pub bit : ℕ → ℕ → Bool
 bit w s = eqb (digit w s) 1
 
+-- k of w, with w worked out first: a definition that names its word several times is computed by it in few steps
+unfoldable pub workedOut : ℕ → (ℕ → ℕ) → ℕ
+workedOut zero k = k zero
+workedOut (suc w) k = k (suc w)
+
 -- w with bit s set
 unfoldable pub setBit : ℕ → ℕ → ℕ
-setBit w s = cond (bit w s) w (w + 2 ^ s)
+setBit w s = workedOut w (λ v. cond (bit v s) v (v + 2 ^ s))
 
 -- ---- laws
+pub worked-out : (w : ℕ) (k : ℕ → ℕ) → workedOut w k ≡ k w
+unfolding workedOut
+worked-out zero k = refl
+worked-out (suc w) k = refl
 
 one-shift : (s : ℕ) → 2 ^ (1 + s) ≡ 2 ^ suc s
 one-shift s = let e : 1 + s ≡ suc s = omega arith in rw e
@@ -78,11 +87,11 @@ clear w s e = let h = digit-small s w in let k : digit w s ≡ 1 → ⊥ = eqb-f
 
 pub set-yes : (w s : ℕ) → bit w s ≡ true → setBit w s ≡ w
 unfolding setBit
-set-yes w s e = rw e
+set-yes w s e = worked-out w _ ∙ rw e
 
 pub set-no : (w s : ℕ) → bit w s ≡ false → setBit w s ≡ w + 2 ^ s
 unfolding setBit
-set-no w s e = rw e
+set-no w s e = worked-out w _ ∙ rw e
 
 pub set-same : (w s : ℕ) → bit (setBit w s) s ≡ true
 set-same w s = ⊎-elim (λ e. rw (set-yes w s e) e) (λ e. rw (set-no w s e) (eq-eqb _ _ (digit-same s w (clear w s e)))) (true-or-false (bit w s))

@@ -6,10 +6,10 @@ use mathlib.Core.List.{List, [], _∷_}
 use mathlib.Core.Logic.{_⊎_, inl, inr, ⊎-elim}
 use native.Mathlib.Omega.{arith}
 use native.Mathlib.Decide.{decLt}
-use borrow.Author.Tests.{eqb-true, eqb-false, eq-eqb, ne-eqb}
+use borrow.Author.Tests.{eqb-true, eq-eqb, ne-eqb}
 use lib.Dec.{eqb}
 use lib.ListN.{length, getD, List·getD-eq-default}
-use Rattle.integers.specs.Tables.{tabulate, getD-tabulate, length-tabulate}
+use Rattle.integers.specs.Tables.{getD-tabulate, length-tabulate}
 use Rattle.words.specs.Bools.{clash, true-or-false, same-test}
 use Rattle.network.specs.All.{allBelow, all-at, all-by}
 use Rattle.network.specs.Stations.{unknownIn, stationAt, unknown, number}
@@ -19,7 +19,7 @@ use Rattle.network.specs.declared.Station.{Station}
 use Rattle.network.specs.declared.Network.{Network}
 use Rattle.network.specs.declared.Record.{Record}
 use Rattle.network.specs.declared.Place.{Place}
-use Rattle.chains.specs.Bits.{bit, setOf, setOf-sound, setOf-whole, setOf-fits}
+use Rattle.chains.specs.Bits.{bit, setOf-sound, setOf-whole, setOf-fits}
 use Rattle.chains.specs.Scans.{firstFailing, first-fails, first-none}
 use Rattle.chains.specs.Search.{Joined, start, along as forth, back as return, Found, search-finds}
 use Rattle.chains.specs.Chains.{acts, Tied, held, along, back, edge, edges, fromEnd, toEnd, isHeld, heldSet, tiedSet, isTied, allTied, firstUntied}

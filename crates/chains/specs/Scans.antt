@@ -1,13 +1,13 @@
 -- Loops that test every number below n, and stop at the first that fails. Assumes nothing.
 use Prim.Native.Nat.{ℕ, zero, suc, _+_, _-_, _<_, _≤_}
-use mathlib.Core.Path.{_≡_, refl, sym, ap, _∙_}
+use mathlib.Core.Path.{_≡_, refl, sym, _∙_}
 use mathlib.Core.Bool.{Bool, true, false, cond, _&&_}
 use mathlib.Core.Logic.{_⊎_, inl, inr, ⊎-elim}
 use native.Mathlib.Omega.{arith}
-use native.Mathlib.Decide.{decLt, ℕ-discrete}
+use native.Mathlib.Decide.{decLt}
 use native.Mathlib.Numerals.{add-one}
 use Rattle.words.specs.Bools.{clash, true-or-false, and-left, and-right, and-both}
-use Rattle.network.specs.All.{allBelow, all-suc, all-at, all-by}
+use Rattle.network.specs.All.{allBelow, all-suc, all-at}
 
 -- the least number below n that fails, n where none does
 unfoldable pub firstFailing : ℕ → (ℕ → Bool) → ℕ

@@ -1,6 +1,6 @@
 -- Which numbers below 32 are joined to a start by chains of edges, and the search that finds them: passes over the edges until one changes nothing.
 -- Edge e has the ends f e and t e. Assumes nothing.
-use mathlib.Core.Path.{_≡_, refl, sym, _∙_}
+use mathlib.Core.Path.{_≡_, refl}
 use mathlib.Core.Bool.{Bool, true, false, cond}
 use mathlib.Core.Logic.{_⊎_, inl, inr, ⊎-elim}
 use Prim.Native.Nat.{ℕ, zero, suc, _+_, _-_, _≤_, _<_, _^_}
@@ -10,11 +10,11 @@ use native.Mathlib.Omega.{arith}
 use borrow.Author.Tests.{eqb-true, eqb-false}
 use lib.Dec.{eqb}
 use Rattle.words.specs.Bools.{true-or-false}
-use Rattle.chains.specs.Bits.{bit, setBit, set-grows, set-fits, set-keeps, set-stays, set-cases}
+use Rattle.chains.specs.Bits.{bit, setBit, workedOut, worked-out, set-grows, set-fits, set-keeps, set-stays, set-cases}
 
 -- one edge: if an end is in the set, the other is put in
 unfoldable pub join : ℕ → ℕ → ℕ → ℕ
-join w a b = cond (bit w a) (setBit w b) (cond (bit w b) (setBit w a) w)
+join w a b = workedOut w (λ v. cond (bit v a) (setBit v b) (cond (bit v b) (setBit v a) v))
 
 -- one pass over the first n edges
 unfoldable pub pass : (ℕ → ℕ) → (ℕ → ℕ) → ℕ → ℕ → ℕ
@@ -24,7 +24,7 @@ pass f t (suc n) w = join (pass f t n w) (f n) (t n)
 -- passes until one changes nothing, at most `left` of them
 unfoldable pub search : (ℕ → ℕ) → (ℕ → ℕ) → ℕ → ℕ → ℕ → ℕ
 search f t n zero w = w
-search f t n (suc left) w = cond (eqb (pass f t n w) w) w (search f t n left (pass f t n w))
+search f t n (suc left) w = workedOut (pass f t n w) (λ v. cond (eqb v w) w (search f t n left v))
 
 -- s is joined by a chain of the first n edges to a start, a number of the set h
 pub data Joined (f t : ℕ → ℕ) (n h : ℕ) : ℕ → Type 0 where
@@ -43,10 +43,14 @@ by-bool true P y n = y refl
 by-bool false P y n = n refl
 
 module _ (w a b : ℕ) where
+  pub join-is : join w a b ≡ cond (bit w a) (setBit w b) (cond (bit w b) (setBit w a) w)
+  unfolding join
+  join-is = worked-out w _
+
   -- what an edge does, by cases
   join-ind : (P : ℕ → Type 0) → (bit w a ≡ true → P (setBit w b)) → (bit w b ≡ true → P (setBit w a)) → P w → P (join w a b)
-  unfolding join
-  join-ind P x y z = by-bool (bit w a) _ (λ e. rw e (x e)) (λ e. by-bool (bit w b) _ (λ q. rw (e, q) (y q)) (λ q. rw (e, q) z))
+  join-ind P x y z =
+      rw join-is (by-bool (bit w a) _ (λ e. rw e (x e)) (λ e. by-bool (bit w b) _ (λ q. rw (e, q) (y q)) (λ q. rw (e, q) z)))
 
   join-grows : w ≤ join w a b
   join-grows = join-ind (λ v. w ≤ v) (λ e. set-grows w b) (λ e. set-grows w a) (le-refl w)
@@ -59,12 +63,10 @@ module _ (w a b : ℕ) where
 
   -- an edge that changes nothing has both ends set or neither
   join-along : join w a b ≡ w → bit w a ≡ true → bit w b ≡ true
-  unfolding join
-  join-along e h = set-stays w b (rw h at e)
+  join-along e h = set-stays w b (rw (join-is, h) at e)
 
   join-back : join w a b ≡ w → bit w b ≡ true → bit w a ≡ true
-  unfolding join
-  join-back e h = by-bool (bit w a) _ (λ q. q) (λ q. set-stays w a (rw (q, h) at e))
+  join-back e h = by-bool (bit w a) _ (λ q. q) (λ q. set-stays w a (rw (join-is, q, h) at e))
 
 module _ (f t : ℕ → ℕ) where
   pass-grows : (n w : ℕ) → w ≤ pass f t n w
@@ -167,8 +169,8 @@ module _ (f t : ℕ → ℕ) (n h : ℕ) (low : (e : ℕ) → (f e < 32) × (t e
     where
       go : (2 ^ 32 ≤ left + pass f t n w → Partial f t n h (pass f t n w) → Found f t n h (search f t n left (pass f t n w)))
           → (eqb (pass f t n w) w ≡ true) ⊎ (eqb (pass f t n w) w ≡ false) → Found f t n h (search f t n (suc left) w)
-      go ih (inl e) = rw e (found p (eqb-true _ _ e))
-      go ih (inr e) = rw e (ih (let g = pass-larger f t n w _ refl (eqb-false _ _ e) in omega arith) (more p low))
+      go ih (inl e) = rw (worked-out (pass f t n w), e) (found p (eqb-true _ _ e))
+      go ih (inr e) = rw (worked-out (pass f t n w), e) (ih (let g = pass-larger f t n w _ refl (eqb-false _ _ e) in omega arith) (more p low))
 
   pub search-finds : h < 2 ^ 32 → Found f t n h (search f t n (2 ^ 32) h)
   search-finds l = searched (2 ^ 32) h (omega arith) (nothing-yet f t n h l)

@@ -1,11 +1,12 @@
 -- A test of every number below n, and a row of tests, as a Bool. Assumes nothing.
-use mathlib.Core.Path.{_≡_, refl, sym, ap, _∙_}
+use mathlib.Core.Path.{_≡_, refl, sym, ap, _∙_, subst}
 use mathlib.Core.Bool.{Bool, true, false, _&&_}
 use mathlib.Core.List.{List, [], _∷_}
 use Prim.Native.Nat.{ℕ, zero, suc, _+_, _<_, _≤_}
 use native.Mathlib.Omega.{arith}
 use native.Mathlib.Numerals.{add-one}
 use native.Mathlib.Decide.{ℕ-discrete}
+use lib.Dec.{T}
 use Rattle.words.specs.Bools.{clash, and-left, and-right, and-both}
 
 -- p holds of every number below n
@@ -77,3 +78,7 @@ each-by bs h = go true bs refl h
     go : (a : Bool) (bs : List Bool) → a ≡ true → Each bs → conjunction a bs ≡ true
     go a [] e h = e
     go a (b ∷ bs) e h = go (a && b) bs (and-both a b e (h .0)) (h .1)
+
+-- a test that passed, as the orders of ℤ hold it
+pub passed : (t : Bool) → t ≡ true → T t
+passed t e = subst T (sym e) tt

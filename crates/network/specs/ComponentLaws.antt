@@ -54,7 +54,7 @@ module _ (st : List Station) (i : ℕ) where
       go rest false e = rest
 
   -- each number below the count of unknowns is one's
-  pub exists : (q : ℕ) → i < number st q → ((p : ℕ) × Unknown st q i p)
+  exists : (q : ℕ) → i < number st q → ((p : ℕ) × Unknown st q i p)
   exists zero h = absurd (omega (arith, number-0 st))
   exists (suc q) h = go (exists q) (decLt i (number st q))
     where

@@ -1,15 +1,14 @@
 -- An accepted weight matrix is positive definite: its leading minors and the diagonal of its adjugate are positive. Assumes nothing.
 use mathlib.Core.Path.{_≡_, sym, subst}
-use mathlib.Core.Bool.{Bool, true}
+use mathlib.Core.Bool.{true}
 use mathlib.Core.List.{[], _∷_}
 use mathlib.Core.Logic.{⊎-elim}
-use lib.Dec.{T}
 use lib.IntN.{ℤ, pos, _+ℤ_, _-ℤ_, _*ℤ_}
 use lib.Signed.{leZ, ltZ, _≤ℤ_, _<ℤ_, clashℤ}
 use Rattle.integers.specs.Laws.{*ℤ-idl}
 use Rattle.integers.specs.Solvers.{ring, shapes, zlt, ltz, lez}
 use Rattle.integers.specs.Order.{zarith, ≤ℤ-or, <ℤ→≤ℤ, *ℤ-mono, sq-nonneg}
-use Rattle.network.specs.All.{each}
+use Rattle.network.specs.All.{each, passed}
 use Rattle.network.specs.Rules.{adjugateE, adjugateN, adjugateU, determinant, minorsPositive, adjugateFits, matrixFits}
 use Rattle.network.specs.declared.Baseline.{Baseline}
 use Rattle.words.specs.Bools.{and-left, and-right}
@@ -61,25 +60,22 @@ minor-N : (b : Baseline) → adjugateU b *ℤ adjugateN b ≡ b .ee *ℤ determi
 minor-N b = ring (b .ee ∷ b .en ∷ b .eu ∷ b .nn ∷ b .nu ∷ b .uu ∷ []) (search shapes depth 20) tt
 
 -- ════ the rules
-T-of : (t : Bool) → t ≡ true → T t
-T-of t e = subst T (sym e) tt
-
 pub positive-matrix : (b : Baseline) → pos 0 <ℤ b .nn → matrixFits b ≡ true → PositiveMatrix b
 unfolding matrixFits minorsPositive adjugateFits
 positive-matrix b nn e =
     let d = pos 16 *ℤ determinant b in
     let m = each (ltZ (pos 0) (b .ee) ∷ ltZ (pos 0) (adjugateU b) ∷ ltZ (pos 0) (determinant b) ∷ []) (and-left (minorsPositive b) (adjugateFits b) e) in
     let a = each (leZ (adjugateE b) d ∷ leZ (adjugateN b) d ∷ leZ (adjugateU b) d ∷ []) (and-right (minorsPositive b) (adjugateFits b) e) in
-    let first : pos 0 <ℤ b .ee = record { lt = T-of (ltZ (pos 0) (b .ee)) (m .0) } in
-    let second : pos 0 <ℤ adjugateU b = record { lt = T-of (ltZ (pos 0) (adjugateU b)) (m .1 .0) } in
-    let third : pos 0 <ℤ determinant b = record { lt = T-of (ltZ (pos 0) (determinant b)) (m .1 .1 .0) } in
+    let first : pos 0 <ℤ b .ee = record { lt = passed (ltZ (pos 0) (b .ee)) (m .0) } in
+    let second : pos 0 <ℤ adjugateU b = record { lt = passed (ltZ (pos 0) (adjugateU b)) (m .1 .0) } in
+    let third : pos 0 <ℤ determinant b = record { lt = passed (ltZ (pos 0) (determinant b)) (m .1 .1 .0) } in
     record {
       first = first;
       second = second;
       third = third;
       positiveE = cofactor-positive (adjugateU b) (adjugateE b) (b .nn) (determinant b) (b .en *ℤ b .nu -ℤ b .nn *ℤ b .eu) second nn third (minor-E b);
       positiveN = cofactor-positive (adjugateU b) (adjugateN b) (b .ee) (determinant b) (b .ee *ℤ b .nu -ℤ b .en *ℤ b .eu) second first third (minor-N b);
-      boundE = record { le = T-of (leZ (adjugateE b) d) (a .0) };
-      boundN = record { le = T-of (leZ (adjugateN b) d) (a .1 .0) };
-      boundU = record { le = T-of (leZ (adjugateU b) d) (a .1 .1 .0) };
+      boundE = record { le = passed (leZ (adjugateE b) d) (a .0) };
+      boundN = record { le = passed (leZ (adjugateN b) d) (a .1 .0) };
+      boundU = record { le = passed (leZ (adjugateU b) d) (a .1 .1 .0) };
     }

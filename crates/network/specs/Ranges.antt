@@ -1,15 +1,15 @@
 -- What the range tests of a record say, as bounds, and the sizes of the determinant and the adjugate that follow. Assumes nothing.
 use Prim.Native.Nat.{_≤_}
-use mathlib.Core.Path.{_≡_, refl, sym, subst}
-use mathlib.Core.Bool.{Bool, true}
+use mathlib.Core.Path.{_≡_, refl}
+use mathlib.Core.Bool.{true}
 use mathlib.Core.List.{[], _∷_}
 use borrow.Author.Tests.{leb-true}
-use lib.Dec.{T, lit≤}
+use lib.Dec.{lit≤}
 use lib.IntN.{ℤ, pos, negsuc, natAbs}
 use lib.Signed.{leZ, _≤ℤ_}
 use Rattle.integers.specs.Bounds.{bounds, absle}
 use Rattle.words.specs.Bools.{clash, and-left, and-right}
-use Rattle.network.specs.All.{each}
+use Rattle.network.specs.All.{each, passed}
 use Rattle.network.specs.Rules.{observedFits, weightFits, offDiagonalFits, baselineInRange, heightInRange, adjugateE, adjugateN, adjugateU, determinant}
 use Rattle.network.specs.declared.Baseline.{Baseline}
 use Rattle.network.specs.declared.Level.{Level}
@@ -34,12 +34,9 @@ pub record HeightRange (h : Level) : Type 0 where
   pub up : natAbs (h .up) ≤ 1000000000
   pub weight : Weight (h .weight)
 
-T-of : (b : Bool) → b ≡ true → T b
-T-of b e = subst T (sym e) tt
-
 weight-of : (w : ℤ) → weightFits w ≡ true → Weight w
 weight-of w e =
-    record { least = record { le = T-of (leZ (pos 1) w) (and-left (leZ (pos 1) w) (leZ w (pos 10000)) e) }; most = size w (and-left (leZ (pos 1) w) (leZ w (pos 10000)) e) (and-right (leZ (pos 1) w) (leZ w (pos 10000)) e) }
+    record { least = record { le = passed (leZ (pos 1) w) (and-left (leZ (pos 1) w) (leZ w (pos 10000)) e) }; most = size w (and-left (leZ (pos 1) w) (leZ w (pos 10000)) e) (and-right (leZ (pos 1) w) (leZ w (pos 10000)) e) }
   where
     size : (w : ℤ) → leZ (pos 1) w ≡ true → leZ w (pos 10000) ≡ true → natAbs w ≤ 10000
     size (pos n) p q = leb-true n 10000 q

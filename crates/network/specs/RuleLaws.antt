@@ -37,11 +37,13 @@ pub record SoundStations (stations : List Station) : Type 0 where
   pub some : 1 ≤ unknownCount stations
   pub few : unknownCount stations ≤ 48
 
--- the provisional coordinates are in range
-pub provisional-within : (stations : List Station) → coordinatesFit stations ≡ true → Within 96 500000000 (coordinates stations)
+-- the provisional coordinates are in range: each of the 96, and every entry of their table
+pub coordinate-small : (stations : List Station) → coordinatesFit stations ≡ true → (q : ℕ) → q < 96 → natAbs (coordinate stations q) ≤ 500000000
 unfolding coordinatesFit
-provisional-within stations e =
-    within-tabulate 96 500000000 (coordinate stations) (λ q h. leb-true (natAbs (coordinate stations q)) 500000000 (all-at 96 _ q e h))
+coordinate-small stations e q h = leb-true (natAbs (coordinate stations q)) 500000000 (all-at 96 _ q e h)
+
+pub provisional-within : (stations : List Station) → coordinatesFit stations ≡ true → Within 96 500000000 (coordinates stations)
+provisional-within stations e = within-tabulate 96 500000000 (coordinate stations) (coordinate-small stations e)
 
 module _ (net : Network) (e : networkFits net ≡ true) where
   tests : Each (countFits (net .count) ∷ blankBeyond net ∷ coordinatesFit (net .stations) ∷ unknownsFit (net .stations) ∷ [])
@@ -80,24 +82,24 @@ pub record HeightFits (count : ℕ) (c : List ℤ) (h : Level) : Type 0 where
   pub range : heightInRange h ≡ true
   pub closes : misclosureFits c (height h) ≡ true
 
-passed : (b : Bool) (m k : ℕ) → cond b m (suc k) ≡ 0 → (b ≡ true) × (m ≡ 0)
-passed true m k e = (refl, e)
-passed false m k e = absurd (let z : suc k ≡ 0 = e in omega arith)
+not-refused : (b : Bool) (m k : ℕ) → cond b m (suc k) ≡ 0 → (b ≡ true) × (m ≡ 0)
+not-refused true m k e = (refl, e)
+not-refused false m k e = absurd (let z : suc k ≡ 0 = e in omega arith)
 
 baseline-passed : (count : ℕ) (c : List ℤ) (b : Baseline) → recordNoOver count c (baseline b) ≡ 0 → BaselineFits count c b
 unfolding recordNoOver
 baseline-passed count c b e =
-    let x = passed (endsFit count (b .from) (b .to)) _ 2 e in
-    let y = passed (baselineInRange b) _ 3 (x .1) in
-    let z = passed (matrixFits b) _ 4 (y .1) in
-    record { ends = x .0; range = y .0; matrix = z .0; closes = passed (misclosureFits c (baseline b)) 0 5 (z .1) .0 }
+    let x = not-refused (endsFit count (b .from) (b .to)) _ 2 e in
+    let y = not-refused (baselineInRange b) _ 3 (x .1) in
+    let z = not-refused (matrixFits b) _ 4 (y .1) in
+    record { ends = x .0; range = y .0; matrix = z .0; closes = not-refused (misclosureFits c (baseline b)) 0 5 (z .1) .0 }
 
 height-passed : (count : ℕ) (c : List ℤ) (h : Level) → recordNoOver count c (height h) ≡ 0 → HeightFits count c h
 unfolding recordNoOver
 height-passed count c h e =
-    let x = passed (endsFit count (h .from) (h .to)) _ 2 e in
-    let y = passed (heightInRange h) _ 3 (x .1) in
-    record { ends = x .0; range = y .0; closes = passed (misclosureFits c (height h)) 0 5 (y .1) .0 }
+    let x = not-refused (endsFit count (h .from) (h .to)) _ 2 e in
+    let y = not-refused (heightInRange h) _ 3 (x .1) in
+    record { ends = x .0; range = y .0; closes = not-refused (misclosureFits c (height h)) 0 5 (y .1) .0 }
 
 -- ════ the ends of a record that is not refused
 in-list : (count : ℕ) (v : ℤ) → count ≤ 32 → inList count v ≡ true → indexIn v 32 < 32

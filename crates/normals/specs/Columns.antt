@@ -1,5 +1,5 @@
 -- Few coefficients: a column of a record's A has at most one entry, ±1, and all of it at most six. So the sizes of N and u stay small. Assumes nothing.
-use Prim.Native.Nat.{ℕ, zero, suc, _+_, _-_, _*_, _<_, _≤_}
+use Prim.Native.Nat.{ℕ, zero, suc, _+_, _*_, _<_, _≤_}
 use mathlib.Core.Path.{_≡_, refl, sym, ap, _∙_, subst}
 use mathlib.Core.List.{List}
 use mathlib.Core.Logic.{_⊎_, inl, inr}
@@ -8,7 +8,7 @@ use native.Mathlib.Decide.{ℕ-discrete, decLt}
 use native.Mathlib.Nat.{le-trans, le-refl, mul-le-mul}
 use lib.IntN.{ℤ, pos, natAbs, _*ℤ_, zero-*ℤ}
 use Rattle.integers.specs.Bounds.{abs--, abs-*}
-use Rattle.integers.specs.Sums.{sumN, sumN-mono, sumN-const, sumN-+, sumN-swap, δ, δ-other}
+use Rattle.integers.specs.Sums.{sumN, sumN-mono, sumN-first, sumN-const, sumN-+, sumN-swap, δ, δ-other}
 use Rattle.network.specs.Stations.{unknown, number}
 use Rattle.network.specs.StationLaws.{bit, bit-cases, number-suc}
 use Rattle.network.specs.Records.{joins, joins-one, fromOf, toOf}
@@ -32,14 +32,7 @@ unfolding sumN
 abbrev pub column : List Station → Record → ℕ → ℕ
 column st r i = sumN 3 (λ a. natAbs (A st r a i))
 
--- the sum over a part is at most that over all
-part : (f : ℕ → ℕ) (m d : ℕ) → sumN m f ≤ sumN (m + d) f
-unfolding sumN
-part f m zero = let e : m + 0 ≡ m = omega arith in subst (λ (k : ℕ). sumN m f ≤ sumN k f) (sym e) (le-refl (sumN m f))
-part f m (suc d) =
-    let e : m + suc d ≡ suc (m + d) = omega arith in
-    subst (λ (k : ℕ). sumN m f ≤ sumN k f) (sym e) (omega (arith, part f m d))
-
+-- three more
 three : (f : ℕ → ℕ) (m : ℕ) → sumN (m + 3) f ≡ sumN m f + sumN 3 (λ a. f (m + a))
 unfolding sumN
 three f m =
@@ -78,9 +71,7 @@ module _ (st : List Station) where
   -- two stations have at most one component that is the unknown i
   two : (i s t : ℕ) → s < t → sumN 3 (λ a. hit i (s * 3 + a)) + sumN 3 (λ a. hit i (t * 3 + a)) ≤ 1
   two i s t h =
-      let d : (s * 3 + 3) + (t * 3 - (s * 3 + 3)) ≡ t * 3 = omega arith in
-      let p : sumN (s * 3 + 3) (hit i) ≤ sumN (t * 3) (hit i) = subst (λ (k : ℕ). sumN (s * 3 + 3) (hit i) ≤ sumN k (hit i)) d (part (hit i) (s * 3 + 3) (t * 3 - (s * 3 + 3))) in
-      omega (arith, three (hit i) (s * 3), three (hit i) (t * 3), once i (t * 3 + 3) .0)
+      omega (arith, sumN-first (s * 3 + 3) (t * 3) (hit i) (omega arith), three (hit i) (s * 3), three (hit i) (t * 3), once i (t * 3 + 3) .0)
 
   -- an entry of A
   A-hit : (r : Record) (a i : ℕ) → natAbs (A st r a i) ≤ hit i (toOf r * 3 + a) + hit i (fromOf r * 3 + a)

@@ -23,9 +23,9 @@ use Rattle.normals.specs.Formulas.{isUnknown, A, shareN, shareU}
 use Rattle.normals.specs.Equations.{Fit, atOf, coefOf, weightOf, misclosureOf, pairN, rowN, blockN, weighted, blockU, equationOf}
 
 -- a sum over six ends, by components
-fold : (w Y : ℕ → ℤ) → sum 6 (λ f. w (f % 3) *ℤ Y f) ≡ sum 3 (λ b. w b *ℤ (Y b +ℤ Y (b + 3)))
+by-components : (w Y : ℕ → ℤ) → sum 6 (λ f. w (f % 3) *ℤ Y f) ≡ sum 3 (λ b. w b *ℤ (Y b +ℤ Y (b + 3)))
 unfolding sum
-fold w Y = ring (w 0 ∷ w 1 ∷ w 2 ∷ Y 0 ∷ Y 1 ∷ Y 2 ∷ Y 3 ∷ Y 4 ∷ Y 5 ∷ []) (search shapes depth 12) tt
+by-components w Y = ring (w 0 ∷ w 1 ∷ w 2 ∷ Y 0 ∷ Y 1 ∷ Y 2 ∷ Y 3 ∷ Y 4 ∷ Y 5 ∷ []) (search shapes depth 12) tt
 
 -- entry k of a matrix with rows of 48
 pub δ-pair : (a b k : ℕ) → b < 48 → δ (a * 48 + b) k ≡ δ a (k / 48) *ℤ δ b (k % 48)
@@ -58,38 +58,43 @@ abbrev pub endAt : Equation → ℕ → ℕ → ℤ
 endAt q i e = coefOf q e *ℤ δ (atOf q e) i
 
 module _ (st : List Station) where
-  is-held : (q i : ℕ) → pos (unknown st q) *ℤ δ (place st q) i ≡ isUnknown st q i
+  -- a held component has the coefficient 0, so its place may be 0 too
+  held-or-not : (q i : ℕ) → pos (unknown st q) *ℤ δ (place st q) i ≡ isUnknown st q i
   unfolding place isUnknown
-  is-held q i = go (bit-cases st q)
+  held-or-not q i = go (bit-cases st q)
     where
       go : (unknown st q ≡ 0) ⊎ (unknown st q ≡ 1) → pos (unknown st q) *ℤ δ (unknown st q * number st q) i ≡ pos (unknown st q) *ℤ δ (number st q) i
       go (inl e) = ap (λ (b : ℕ). pos b *ℤ δ (b * number st q) i) e ∙ zero-*ℤ (δ (0 * number st q) i) ∙ sym (ap (λ (b : ℕ). pos b *ℤ δ (number st q) i) e ∙ zero-*ℤ (δ (number st q) i))
       go (inr e) = let g : unknown st q * number st q ≡ number st q = rw e (omega arith) in ap (λ (j : ℕ). pos (unknown st q) *ℤ δ j i) g
 
-  read : (p q i : ℕ) → p ≡ q → q < 96 → getD (unknowns st) p (pos 0) *ℤ δ (getD (numbers st) p 0) i ≡ isUnknown st q i
-  read p q i e h =
+  -- what the tables hold at component q
+  table-at : (p q i : ℕ) → p ≡ q → q < 96 → getD (unknowns st) p (pos 0) *ℤ δ (getD (numbers st) p 0) i ≡ isUnknown st q i
+  table-at p q i e h =
       ap (λ (j : ℕ). getD (unknowns st) j (pos 0) *ℤ δ (getD (numbers st) j 0) i) e
       ∙ ap₂ _*ℤ_ (getD-tabulate 96 (λ q. pos (unknown st q)) q (pos 0) h) (ap (λ (j : ℕ). δ j i) (getD-tabulate 96 (place st) q 0 h))
-      ∙ is-held q i
+      ∙ held-or-not q i
 
-  both : (g : ℤ) (p q p′ q′ i : ℕ) → p ≡ q → q < 96 → p′ ≡ q′ → q′ < 96
+  -- the from end and the to end of one component
+  two-ends : (g : ℤ) (p q p′ q′ i : ℕ) → p ≡ q → q < 96 → p′ ≡ q′ → q′ < 96
       → (pos 0 -ℤ g *ℤ getD (unknowns st) p (pos 0)) *ℤ δ (getD (numbers st) p 0) i +ℤ getD (unknowns st) p′ (pos 0) *ℤ δ (getD (numbers st) p′ 0) i ≡ isUnknown st q′ i -ℤ g *ℤ isUnknown st q i
-  both g p q p′ q′ i e h e′ h′ =
+  two-ends g p q p′ q′ i e h e′ h′ =
       ring (g ∷ getD (unknowns st) p (pos 0) ∷ δ (getD (numbers st) p 0) i ∷ getD (unknowns st) p′ (pos 0) ∷ δ (getD (numbers st) p′ 0) i ∷ []) (search shapes depth 8) tt
-      ∙ ap₂ _-ℤ_ (read p′ q′ i e′ h′) (ap (λ (z : ℤ). g *ℤ z) (read p q i e h))
+      ∙ ap₂ _-ℤ_ (table-at p′ q′ i e′ h′) (ap (λ (z : ℤ). g *ℤ z) (table-at p q i e h))
 
   module _ (r : Record) (hf : fromOf r < 32) (ht : toOf r < 32) where
     -- the two ends of component a are row a of A
     pub ends-A : (i a : ℕ) → a < 3 → endAt (equation st r) i a +ℤ endAt (equation st r) i (a + 3) ≡ A st r a i
     unfolding A
-    ends-A i zero h = both (joins r) (fromOf r * 3) (fromOf r * 3 + 0) (toOf r * 3) (toOf r * 3 + 0) i (omega arith) (omega arith) (omega arith) (omega arith)
-    ends-A i (suc zero) h = both (joins r) (fromOf r * 3 + 1) (fromOf r * 3 + 1) (toOf r * 3 + 1) (toOf r * 3 + 1) i refl (omega arith) refl (omega arith)
-    ends-A i (suc (suc zero)) h = both (joins r) (fromOf r * 3 + 2) (fromOf r * 3 + 2) (toOf r * 3 + 2) (toOf r * 3 + 2) i refl (omega arith) refl (omega arith)
+    ends-A i zero h = two-ends (joins r) (fromOf r * 3) (fromOf r * 3 + 0) (toOf r * 3) (toOf r * 3 + 0) i (omega arith) (omega arith) (omega arith) (omega arith)
+    ends-A i (suc zero) h = two-ends (joins r) (fromOf r * 3 + 1) (fromOf r * 3 + 1) (toOf r * 3 + 1) (toOf r * 3 + 1) i refl (omega arith) refl (omega arith)
+    ends-A i (suc (suc zero)) h = two-ends (joins r) (fromOf r * 3 + 2) (fromOf r * 3 + 2) (toOf r * 3 + 2) (toOf r * 3 + 2) i refl (omega arith) refl (omega arith)
     ends-A i (suc (suc (suc a))) h = absurd (omega arith)
 
+    -- a sum over the six ends is one over the rows of A
     by-A : (w : ℕ → ℤ) (i : ℕ) → sum 6 (λ e. w (e % 3) *ℤ endAt (equation st r) i e) ≡ sum 3 (λ a. w a *ℤ A st r a i)
-    by-A w i = fold w (endAt (equation st r) i) ∙ sum-ext 3 (λ a h. ap (λ (z : ℤ). w a *ℤ z) (ends-A i a h))
+    by-A w i = by-components w (endAt (equation st r) i) ∙ sum-ext 3 (λ a h. ap (λ (z : ℤ). w a *ℤ z) (ends-A i a h))
 
+    -- the share of N
     pub block-share : Fit (equation st r) → (k : ℕ) → blockN (equation st r) k ≡ shareN st r (k / 48) (k % 48)
     unfolding blockN rowN shareN
     block-share g k =
@@ -112,6 +117,7 @@ module _ (st : List Station) where
         j : ℕ
         j = k % 48
 
+    -- the share of u
     pub block-right : (k : ℕ) → blockU (equation st r) k ≡ shareU st r k
     unfolding blockU weighted shareU
     block-right k =
@@ -139,8 +145,9 @@ module _ (st : List Station) (g : SoundStations st) where
   pub within-unknowns : Within 96 1 (unknowns st)
   within-unknowns = within-tabulate 96 1 (λ q. pos (unknown st q)) (λ q h. bit st q)
 
-  unit- : (r : Record) (p : ℕ) → natAbs (pos 0 -ℤ joins r *ℤ getD (unknowns st) p (pos 0)) ≤ 1
-  unit- r p = let h = within-unknowns .bound p in let j = joins-one r in absle (pos 0 -ℤ joins r *ℤ getD (unknowns st) p (pos 0)) (search bounds depth 8) (omega arith)
+  -- a coefficient at a from end
+  from-unit : (r : Record) (p : ℕ) → natAbs (pos 0 -ℤ joins r *ℤ getD (unknowns st) p (pos 0)) ≤ 1
+  from-unit r p = let h = within-unknowns .bound p in let j = joins-one r in absle (pos 0 -ℤ joins r *ℤ getD (unknowns st) p (pos 0)) (search bounds depth 8) (omega arith)
 
   module _ (r : Record) (s : SoundRecord st r) where
     ends-fit : (e : ℕ) → atOf (equation st r) e < 48
@@ -153,9 +160,9 @@ module _ (st : List Station) (g : SoundStations st) where
     ends-fit (suc (suc (suc (suc (suc (suc e)))))) = let h : 0 < 48 = omega arith in h
 
     units-fit : (e : ℕ) → natAbs (coefOf (equation st r) e) ≤ 1
-    units-fit zero = unit- r (fromOf r * 3)
-    units-fit (suc zero) = unit- r (fromOf r * 3 + 1)
-    units-fit (suc (suc zero)) = unit- r (fromOf r * 3 + 2)
+    units-fit zero = from-unit r (fromOf r * 3)
+    units-fit (suc zero) = from-unit r (fromOf r * 3 + 1)
+    units-fit (suc (suc zero)) = from-unit r (fromOf r * 3 + 2)
     units-fit (suc (suc (suc zero))) = within-unknowns .bound (toOf r * 3)
     units-fit (suc (suc (suc (suc zero)))) = within-unknowns .bound (toOf r * 3 + 1)
     units-fit (suc (suc (suc (suc (suc zero))))) = within-unknowns .bound (toOf r * 3 + 2)

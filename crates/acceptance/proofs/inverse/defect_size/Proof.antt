@@ -1,12 +1,9 @@
 -- `defect_size` takes the product off S on the diagonal, off 0 elsewhere. Assumes nothing.
 use Prim.Native.Nat.{_≤_, _*_, _^_}
-use mathlib.Core.Path.{_≡_, sym, ap, _∙_}
+use mathlib.Core.Path.{ap, _∙_}
 use native.Mathlib.Omega.{arith}
-use borrow.Author.Needs.{needs}
 use borrow.Author.Tests.{eq-eqb, ne-eqb}
-use lib.IntN.{ℤ, pos, natAbs, _-ℤ_, _*ℤ_}
-use Rattle.integers.specs.Sums.{δ}
-use Rattle.acceptance.specs.Tests.{S}
+use lib.IntN.{pos, natAbs}
 use Rattle.acceptance.specs.Loops.{pair-factors, pair-dot, dot-small, Difference, difference}
 use Rattle.acceptance.proofs.inverse.defect_size.Statement.{statement}
 use Rattle.acceptance.proofs.inverse.defect_size.Tie as tie

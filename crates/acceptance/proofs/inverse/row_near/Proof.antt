@@ -2,7 +2,6 @@
 use Prim.Native.Nat.{ℕ, _≤_, _-_, _+_}
 use mathlib.Core.Path.{_≡_, sym}
 use native.Mathlib.Omega.{arith}
-use borrow.Author.Needs.{needs}
 use lib.IntN.{natAbs}
 use Rattle.integers.specs.Sums.{sumN, sumN-zero}
 use Rattle.acceptance.specs.Tests.{byRows, defect}

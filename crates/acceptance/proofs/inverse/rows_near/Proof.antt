@@ -1,5 +1,5 @@
 -- `rows_near` stops at the first row that fails; all before it pass. Assumes nothing.
-use Prim.Native.Nat.{ℕ, _≤_, _-_, _*_, _+_, _^_}
+use Prim.Native.Nat.{ℕ, _≤_, _-_, _*_, _^_}
 use mathlib.Core.Path.{_≡_, sym, _∙_}
 use mathlib.Core.Bool.{Bool, true, false}
 use native.Mathlib.Nat.{zero-mul}
@@ -27,6 +27,10 @@ abbrev passes : tie.Start Inv-loop μ-loop → ℕ → Bool
 passes s i =
     leb (sumN (s .args .n) (λ j. natAbs (defect (s .args .n) (byRows 48 (s .args .normal .now)) (byRows (s .args .n) (s .args .m .now)) i j))) (2 ^ 26)
 
+-- what the test told is of row i
+told : (c : tie.After-row-near Inv-loop μ-loop) (b : Bool) → c .row-near .result ≡ b → passes (c .before .before .before) (c .before .before .loop .i) ≡ b
+told c b e = sym (c .row-near .ensures) ∙ e
+
 loop-holds : tie.Need-loop-holds Inv-loop μ-loop
 loop-holds c = (omega arith, (rw zero-mul, all-none _))
 
@@ -37,7 +41,7 @@ returns : tie.Need-returns Inv-loop μ-loop
 unfolding defectSmall
 returns c =
     let s = c .before .before .before .before in
-    sym (all-fails (passes s) (c .before .before .loop-test .taken) (sym (c .before .row-near .ensures) ∙ not-true _ (c .if1 .taken)))
+    sym (all-fails (passes s) (c .before .before .loop-test .taken) (told (c .before) false (not-true _ (c .if1 .taken))))
 
 add-row : tie.Need-add-row Inv-loop μ-loop
 add-row c =
@@ -53,7 +57,7 @@ loop-less c = search needs
 loop-again : tie.Need-loop-again Inv-loop μ-loop
 loop-again c =
     let t = c .before .before .before in
-    (omega arith, (rw (t .loop .inv .1 .0) (row-next _ _), all-more (passes (t .before)) (t .loop .inv .1 .1) (sym (c .before .row-near .ensures) ∙ not-false _ (c .if1 .left))))
+    (omega arith, (rw (t .loop .inv .1 .0) (row-next _ _), all-more (passes (t .before)) (t .loop .inv .1 .1) (told (c .before) true (not-false _ (c .if1 .left)))))
 
 returns-2 : tie.Need-returns-2 Inv-loop μ-loop
 unfolding defectSmall

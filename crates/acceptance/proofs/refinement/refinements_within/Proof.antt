@@ -8,6 +8,8 @@ use borrow.Author.Needs.{needs}
 use borrow.Author.Tests.{not-true, not-false}
 use lib.Dec.{leb}
 use lib.IntN.{ℤ, natAbs, _*ℤ_}
+use mir.Syntax.{w64}
+use mir.Val.{toZ, ofZ}
 use Rattle.integers.specs.Sums.{sum}
 use Rattle.network.specs.All.{allBelow}
 use Rattle.chains.specs.Scans.{all-none, all-more, all-fails, all-ended}
@@ -33,16 +35,20 @@ dot-requires : tie.Need-dot-requires Inv-loop μ-loop
 dot-requires c κs =
     let t = c .before .before in small-factors (t .before .pre) _ (t .loop .i) (t .loop .inv .1 .0) (c .before .loop-test .taken)
 
--- what the test told is of row i
-is : (c : tie.After-within Inv-loop μ-loop) → c .within .result ≡ passes (c .before .before .before .before .before) (c .before .before .before .before .loop .i)
-is c =
-    let t = c .before .before .before .before in
+-- the product is row i of Mr, and it is small enough to be read back
+product : (c : tie.After-dot Inv-loop μ-loop)
+    → toZ w64 (ofZ w64 (c .dot .result))
+    ≡ sum (c .before .before .before .before .args .n) (λ k. byRows (c .before .before .before .before .args .n) (c .before .before .before .before .args .m .now) (c .before .before .before .loop .i) k *ℤ at (c .before .before .before .before .args .r .now) k)
+product c =
+    let t = c .before .before .before in
     let s = t .before in
-    let f = small-factors (s .pre) _ (t .loop .i) (t .loop .inv .1 .0) (c .before .before .before .loop-test .taken) in
-    let e = c .before .dot .ensures in
-    let b : natAbs (c .before .dot .result) ≤ 48 * 2 ^ 57 = rw e (dot-small f) in
-    c .within .ensures
-    ∙ ap (λ (z : ℤ). leb (natAbs z) (15 * 2 ^ 26)) (back (c .before .dot .result) (omega arith) ∙ e ∙ vector-dot (s .args .n) (s .args .m .now) (s .args .r .now) (t .loop .row) (t .loop .i) (s .args .n) (t .loop .inv .1 .0))
+    let b : natAbs (c .dot .result) ≤ 48 * 2 ^ 57 = rw (c .dot .ensures) (dot-small (small-factors (s .pre) _ (t .loop .i) (t .loop .inv .1 .0) (c .before .before .loop-test .taken))) in
+    back (c .dot .result) (omega arith)
+    ∙ (c .dot .ensures ∙ vector-dot (s .args .n) (s .args .m .now) (s .args .r .now) (t .loop .row) (t .loop .i) (s .args .n) (t .loop .inv .1 .0))
+
+-- what the test told is of row i
+told : (c : tie.After-within Inv-loop μ-loop) (b : Bool) → c .within .result ≡ b → passes (c .before .before .before .before .before) (c .before .before .before .before .loop .i) ≡ b
+told c b e = sym (c .within .ensures ∙ ap (λ (z : ℤ). leb (natAbs z) (15 * 2 ^ 26)) (product (c .before))) ∙ e
 
 within-requires : tie.Need-within-requires Inv-loop μ-loop
 within-requires c κs = search needs
@@ -50,7 +56,7 @@ within-requires c κs = search needs
 returns : tie.Need-returns Inv-loop μ-loop
 returns c =
     let s = c .before .before .before .before .before .before in
-    sym (all-fails (passes s) (c .before .before .before .before .loop-test .taken) (sym (is (c .before)) ∙ not-true _ (c .if1 .taken)))
+    sym (all-fails (passes s) (c .before .before .before .before .loop-test .taken) (told (c .before) false (not-true _ (c .if1 .taken))))
 
 add-row : tie.Need-add-row Inv-loop μ-loop
 add-row c =
@@ -66,7 +72,7 @@ loop-less c = search needs
 loop-again : tie.Need-loop-again Inv-loop μ-loop
 loop-again c =
     let t = c .before .before .before .before .before in
-    (omega arith, (rw (t .loop .inv .1 .0) (row-next _ _), all-more (passes (t .before)) (t .loop .inv .1 .1) (sym (is (c .before)) ∙ not-false _ (c .if1 .left))))
+    (omega arith, (rw (t .loop .inv .1 .0) (row-next _ _), all-more (passes (t .before)) (t .loop .inv .1 .1) (told (c .before) true (not-false _ (c .if1 .left)))))
 
 returns-2 : tie.Need-returns-2 Inv-loop μ-loop
 returns-2 c = all-ended (passes (c .before .before)) (c .before .loop .inv .0) (c .loop-test .left) (c .before .loop .inv .1 .1)

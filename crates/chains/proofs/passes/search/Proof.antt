@@ -1,10 +1,10 @@
 -- `search` ends where a pass changes nothing; each other pass makes the word larger. Assumes nothing.
 use mathlib.Core.Path.{sym, _∙_}
-use Prim.Native.Nat.{ℕ, _/_, _%_, _-_, _<_, _^_}
+use Prim.Native.Nat.{_-_, _^_}
 use native.Mathlib.Omega.{arith}
 use Rattle.chains.specs.Search.{Partial, more, found, nothing-yet, pass-larger}
 use Rattle.chains.specs.Chains.{fromEnd, toEnd}
-use Rattle.chains.specs.ChainLaws.{Low, low-ends}
+use Rattle.chains.specs.ChainLaws.{low-ends}
 use Rattle.chains.proofs.passes.search.Statement.{statement}
 use Rattle.chains.proofs.passes.search.Tie as tie
 

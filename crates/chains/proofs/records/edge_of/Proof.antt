@@ -1,7 +1,5 @@
 -- `edge_of` puts the ends together where the record acts. Assumes nothing.
-use Prim.Native.Nat.{_+_, _*_}
 use mathlib.Core.Path.{sym, _∙_}
-use native.Mathlib.Omega.{arith}
 use borrow.Author.Needs.{needs}
 use Rattle.chains.specs.ChainLaws.{edge-yes, edge-no}
 use Rattle.chains.proofs.records.edge_of.Statement.{statement}

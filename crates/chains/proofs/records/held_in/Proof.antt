@@ -1,11 +1,9 @@
 -- `held_in` has the held among the first s stations at each turn. Assumes nothing.
-use Prim.Native.Nat.{ℕ, _≤_, _-_}
-use mathlib.Core.Path.{_≡_, refl, sym, ap, _∙_}
-use mathlib.Core.Bool.{cond}
+use Prim.Native.Nat.{_≤_, _-_}
+use mathlib.Core.Path.{_≡_, refl, _∙_}
 use native.Mathlib.Omega.{arith}
 use borrow.Author.Needs.{needs}
-use lib.Dec.{eqb}
-use Rattle.chains.specs.Bits.{setBit, setOf, setOf-step}
+use Rattle.chains.specs.Bits.{setOf, setOf-step}
 use Rattle.chains.specs.Chains.{isHeld}
 use Rattle.chains.specs.ChainLaws.{unknown-at}
 use Rattle.chains.proofs.records.held_in.Statement.{statement}

@@ -1,6 +1,5 @@
 -- `held_or_in` goes by the test of the kind. Assumes nothing.
-use Prim.Native.Nat.{ℕ}
-use mathlib.Core.Path.{sym, ap, _∙_}
+use mathlib.Core.Path.{sym, _∙_}
 use borrow.Author.Needs.{needs}
 use borrow.Author.Tests.{eq-eqb, ne-eqb}
 use Rattle.chains.proofs.records.held_or_in.Statement.{statement}

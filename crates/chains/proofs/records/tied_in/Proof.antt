@@ -1,5 +1,4 @@
 -- `tied_in` searches from the held stations over the acting records. Assumes nothing.
-use borrow.Author.Needs.{needs}
 use Rattle.chains.specs.ChainLaws.{ends-low, found-same}
 use Rattle.chains.proofs.records.tied_in.Statement.{statement}
 use Rattle.chains.proofs.records.tied_in.Tie as tie

@@ -1,3 +1,4 @@
+-- `network::opening::coordinates_fit` meets its contract. Assumes nothing.
 use borrow.Author.Needs.{needs, sfits-of}
 use borrow.Author.Tests.{not-true, not-false}
 use native.Mathlib.Omega.{arith}

@@ -1,3 +1,4 @@
+-- `network::records::misclosures_of` meets its contract. Assumes nothing.
 use borrow.Author.Needs.{needs}
 use mathlib.Core.Path.{sym, ap, _∙_, subst}
 use Rattle.network.specs.Records.{misclosures}

@@ -1,3 +1,4 @@
+-- `network::records::weights_of` meets its contract. Assumes nothing.
 use borrow.Author.Needs.{needs}
 use mathlib.Core.Path.{refl, ap₂}
 use mathlib.Core.List.{_∷_}

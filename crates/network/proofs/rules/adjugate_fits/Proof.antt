@@ -1,3 +1,4 @@
+-- `network::rules::adjugate_fits` meets its contract. Assumes nothing.
 use borrow.Author.Needs.{needs, sfits-of}
 use Prim.Native.Nat.{_≤_}
 use mathlib.Core.Path.{_≡_, sym, ap, ap₂, _∙_, subst}

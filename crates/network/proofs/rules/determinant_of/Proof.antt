@@ -1,3 +1,4 @@
+-- `network::rules::determinant_of` meets its contract. Assumes nothing.
 use Prim.Native.Nat.{_≤_}
 use mathlib.Core.Path.{_≡_}
 use lib.IntN.{natAbs, _-ℤ_, _*ℤ_}

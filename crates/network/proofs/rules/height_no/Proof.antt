@@ -1,3 +1,4 @@
+-- `network::rules::height_no` meets its contract. Assumes nothing.
 use borrow.Author.Needs.{needs}
 use borrow.Author.Tests.{not-true, not-false}
 use mathlib.Core.Path.{_≡_, sym, ap₂, _∙_}

@@ -1,3 +1,4 @@
+-- `network::rules::is_empty` meets its contract. Assumes nothing.
 use borrow.Author.Needs.{needs}
 use Rattle.network.specs.Rules.{isEmpty}
 use Rattle.network.proofs.rules.is_empty.Statement.{statement}

@@ -1,3 +1,4 @@
+-- `network::rules::matrix_fits` meets its contract. Assumes nothing.
 use borrow.Author.Needs.{needs}
 use Rattle.network.specs.Rules.{matrixFits}
 use Rattle.network.proofs.rules.matrix_fits.Statement.{statement}

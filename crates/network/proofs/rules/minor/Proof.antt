@@ -1,3 +1,4 @@
+-- `network::rules::minor` meets its contract. Assumes nothing.
 use mathlib.Core.List.{[], _∷_}
 use Rattle.integers.specs.Code.{fit, code-bounds, ringm, code-shapes}
 use Rattle.network.proofs.rules.minor.Statement.{statement}

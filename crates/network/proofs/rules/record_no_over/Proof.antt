@@ -1,3 +1,4 @@
+-- `network::rules::record_no_over` meets its contract. Assumes nothing.
 use borrow.Author.Needs.{needs}
 use mathlib.Core.Path.{sym, ap, _∙_}
 use Rattle.network.specs.Rules.{recordNoOver}

@@ -1,3 +1,4 @@
+-- `network::stations::coordinates_of` meets its contract. Assumes nothing.
 use borrow.Author.Needs.{needs, sfits-of}
 use native.Mathlib.Omega.{arith}
 use Prim.Native.Nat.{_-_, _≤_}

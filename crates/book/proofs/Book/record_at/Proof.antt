@@ -1,0 +1,20 @@
+use borrow.Author.Needs.{needs}
+use Rattle.network.specs.Filling.{length-mapped}
+use Rattle.book.proofs.Steps.{record-beyond}
+use Rattle.book.proofs.Book.record_at.Statement.{statement}
+use Rattle.book.proofs.Book.record_at.Tie as tie
+
+mul-q : tie.Need-mul-q
+mul-q c = search needs
+
+element-copy-out-q : tie.Need-element-copy-out-q
+element-copy-out-q c = search needs
+
+returns : tie.Need-returns
+returns c = search needs
+
+returns-2 : tie.Need-returns-2
+returns-2 c = record-beyond (c .before .args .t1 .places) _ (search (needs, length-mapped)) (c .if1 .left)
+
+pub record-at-spec : {M : Type 1} → statement M
+record-at-spec = tie.close (tie.spec mul-q element-copy-out-q returns returns-2)

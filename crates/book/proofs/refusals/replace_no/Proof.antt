@@ -1,0 +1,30 @@
+use borrow.Author.Needs.{needs}
+use mir.Syntax.{w64}
+use mir.Facts.{toZ-ofZ}
+use Rattle.book.proofs.refusals.replace_no.Statement.{statement}
+use Rattle.book.proofs.refusals.replace_no.Tie as tie
+use Rattle.book.proofs.refusals.replace_no.Reads as reads
+use Rattle.book.proofs.refusals.replace_no.Lts as lts
+use Rattle.book.proofs.refusals.empty_no.Reads as empty-no-reads
+use Rattle.book.proofs.refusals.first_no.Reads as first-no-reads
+use Rattle.book.proofs.refusals.place_no.Reads as place-no-reads
+
+empty-no-requires : tie.Need-empty-no-requires
+empty-no-requires c κs = search needs
+
+first-no-requires : tie.Need-first-no-requires
+first-no-requires c κs = search needs
+
+place-no-requires : tie.Need-place-no-requires
+place-no-requires c κs = search needs
+
+first-no-requires-2 : tie.Need-first-no-requires-2
+first-no-requires-2 c κs = search needs
+
+returns : tie.Need-returns
+returns c = cc (toZ-ofZ {w = w64} (c .before .before .before .before .fits .place))
+
+pub replace-no-spec : {M : Type 1} → statement M
+replace-no-spec =
+    tie.close
+    (tie.spec empty-no-requires first-no-requires place-no-requires first-no-requires-2 returns)

@@ -1,0 +1,116 @@
+use Prim.Native.Nat.{_<_}
+use mathlib.Core.Path.{_≡_, refl, sym, _∙_}
+use native.Mathlib.Omega.{arith}
+use borrow.Author.Needs.{needs}
+use borrow.Author.Tests.{not-true, not-false}
+use lib.ListN.{length, length-set}
+use Rattle.network.specs.Filling.{length-mapped}
+use Rattle.network.specs.Records.{recordAt}
+use Rattle.book.specs.Journal.{entriesBefore}
+use Rattle.book.specs.Book.{undoable}
+use Rattle.book.proofs.Undoing.{undo-beyond, undo-fails, undo-goes-on, undo-ends}
+use Rattle.book.proofs.soundness.can_undo.Statement.{statement}
+use Rattle.book.proofs.soundness.can_undo.Tie as tie
+use Rattle.book.proofs.soundness.can_undo.Reads as reads
+use Rattle.book.proofs.soundness.can_undo.Lts as lts
+use Rattle.book.proofs.soundness.restores.Reads as restores-reads
+
+abbrev Inv-loop : tie.InvT-loop
+Inv-loop net coordinate entries state₀ slot₀ left₀ state slot left =
+    (slot < 64)
+    × (length state ≡ 256)
+    × (undoable net (recordAt state₀) (entriesBefore entries slot₀ left₀) ≡ undoable net (recordAt state) (entriesBefore entries slot left))
+
+abbrev μ-loop : tie.MeasureT-loop
+μ-loop net coordinate entries state₀ slot₀ left₀ state slot left = left
+
+some : (c : tie.In-loop Inv-loop μ-loop) → 0 < c .before .loop .left
+some c = search needs
+
+loop-holds : tie.Need-loop-holds Inv-loop μ-loop
+loop-holds c = (c .before .pre .2, search (needs, length-mapped), refl)
+
+add-slot : tie.Need-add-slot Inv-loop μ-loop
+add-slot c = search needs
+
+mul-u : tie.Need-mul-u Inv-loop μ-loop
+mul-u c = search needs
+
+array-copy-out-u : tie.Need-array-copy-out-u Inv-loop μ-loop
+array-copy-out-u c = search needs
+
+returns : tie.Need-returns Inv-loop μ-loop
+returns c =
+    let t = c .before .before .before in
+    let s = t .before .before in
+    sym (t .loop .inv .2 ∙ undo-beyond (s .args .net) (s .args .journal .entries) (t .loop .state) (t .loop .slot) (t .loop .left) (some (c .before .before)) _ refl (c .if1 .taken))
+
+mul-q : tie.Need-mul-q Inv-loop μ-loop
+mul-q c = search needs
+
+array-copy-out-q : tie.Need-array-copy-out-q Inv-loop μ-loop
+array-copy-out-q c = search needs
+
+restores-requires : tie.Need-restores-requires Inv-loop μ-loop
+restores-requires c κs = search needs
+
+returns-2 : tie.Need-returns-2 Inv-loop μ-loop
+returns-2 c =
+    let i = c .before .before .before .before .before in
+    let t = i .before in
+    let s = t .before .before in
+    sym
+    (t .loop .inv .2
+    ∙ undo-fails (s .args .net) (s .args .journal .entries) (t .loop .state) (t .loop .slot) (t .loop .left) (some i) _ refl (sym (c .before .restores .ensures) ∙ not-true _ (c .if2 .taken)))
+
+mul-state : tie.Need-mul-state Inv-loop μ-loop
+mul-state c = search needs
+
+array-set-from-state : tie.Need-array-set-from-state Inv-loop μ-loop
+array-set-from-state c = search needs
+
+sub-left : tie.Need-sub-left Inv-loop μ-loop
+sub-left c = search needs
+
+loop-less : tie.Need-loop-less Inv-loop μ-loop
+loop-less c = search needs
+
+loop-again : tie.Need-loop-again Inv-loop μ-loop
+loop-again c =
+    let i = c .before .before .before .before .before in
+    let t = i .before in
+    let s = t .before .before in (
+      omega arith,
+      length-set (t .loop .state) _ _ ∙ t .loop .inv .1,
+      t .loop .inv .2
+          ∙ undo-goes-on (s .args .net) (s .args .journal .entries) (t .loop .state) (t .loop .slot) (t .loop .left) (some i) _ refl (t .loop .inv .1) (c .before .before .before .if1 .left)
+          (sym (c .before .restores .ensures) ∙ not-false _ (c .if2 .left)),
+    )
+
+returns-3 : tie.Need-returns-3 Inv-loop μ-loop
+returns-3 c =
+    let t = c .before in
+    let s = t .before .before in
+    undo-ends (s .args .net) (s .args .journal .entries) (recordAt (t .loop .state)) (t .loop .slot) (t .loop .left) (c .loop-test .left) ∙ sym (t .loop .inv .2)
+
+pub can-undo-spec : {M : Type 1} → statement M
+can-undo-spec =
+    tie.close
+    (tie.spec
+    Inv-loop
+    μ-loop
+    loop-holds
+    add-slot
+    mul-u
+    array-copy-out-u
+    returns
+    mul-q
+    array-copy-out-q
+    restores-requires
+    returns-2
+    mul-state
+    array-set-from-state
+    sub-left
+    loop-less
+    loop-again
+    returns-3)

@@ -1,0 +1,23 @@
+use borrow.Author.Needs.{needs}
+use Rattle.book.proofs.soundness.restores.Statement.{statement}
+use Rattle.book.proofs.soundness.restores.Tie as tie
+use Rattle.book.proofs.soundness.restores.Reads as reads
+use Rattle.book.proofs.soundness.restores.Lts as lts
+use Rattle.book.proofs.soundness.record_fits.Reads as record-fits-reads
+use Rattle.network.proofs.is_empty.Reads as is-empty-reads
+
+record-fits-requires : tie.Need-record-fits-requires
+record-fits-requires c κs = search needs
+
+is-empty-requires : tie.Need-is-empty-requires
+is-empty-requires c κs = search needs
+
+is-empty-requires-2 : tie.Need-is-empty-requires-2
+is-empty-requires-2 c κs = search needs
+
+returns : tie.Need-returns
+returns c = rw (c .before .before .record-fits .ensures, c .before .is-empty .ensures, c .is-empty2 .ensures)
+
+pub restores-spec : {M : Type 1} → statement M
+restores-spec =
+    tie.close (tie.spec record-fits-requires is-empty-requires is-empty-requires-2 returns)

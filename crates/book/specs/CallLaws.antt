@@ -1,0 +1,151 @@
+-- Laws of the table: what a call that is not refused has shown, that the table looks at the 256 places alone, and how large its numbers are.
+-- Assumes nothing.
+use Prim.Native.Nat.{ℕ, zero, suc, _<_, _≤_}
+use mathlib.Core.Path.{_≡_, refl, sym, ap, _∙_}
+use mathlib.Core.Bool.{Bool, true, false, cond, _&&_}
+use mathlib.Core.List.{List}
+use native.Mathlib.Omega.{arith}
+use borrow.Author.Tests.{ltb-true}
+use lib.Dec.{ltb}
+use lib.IntN.{ℤ, pos}
+use lib.Signed.{leZ}
+use Rattle.words.specs.Bools.{clash, true-or-false}
+use Rattle.words.specs.Signed.{indexIn}
+use Rattle.words.specs.SignedLaws.{index-test}
+use Rattle.network.specs.Rules.{inList, isEmpty, recordNo}
+use Rattle.network.specs.declared.Network.{Network}
+use Rattle.network.specs.declared.Place.{Place}
+use Rattle.network.specs.declared.Record.{Record}
+use Rattle.network.specs.declared.Record.the-variants.{Empty}
+use Rattle.normals.specs.Formulas.{entriesFit}
+use Rattle.network.specs.RuleLaws.{record-no-small}
+use Rattle.book.specs.Calls.{Call, add, replace, strike, undo, placeOf, first, placeNo, filledNo, emptyNo, undoNo, changed, placesOf, sizeNo, callNo, unless}
+use Rattle.book.specs.PlaceLaws.{changed-ext, placesOf-ext}
+
+-- ════ a number that is 0
+pub first-zero : (m n : ℕ) → first m n ≡ 0 → (m ≡ 0) × (n ≡ 0)
+unfolding first
+first-zero zero n e = (refl, e)
+first-zero (suc m) n e = absurd (let z : suc m ≡ 0 = e in omega arith)
+
+pub first-none : (m : ℕ) → first m 0 ≡ m
+unfolding first
+first-none zero = refl
+first-none (suc m) = refl
+
+cond-zero : (b : Bool) (n : ℕ) → _≡_ {A = ℕ} (cond b 0 (suc n)) 0 → b ≡ true
+cond-zero true n e = refl
+cond-zero false n e = absurd (let z : suc n ≡ 0 = e in omega arith)
+
+cond-not-zero : (b : Bool) (n : ℕ) → _≡_ {A = ℕ} (cond b (suc n) 0) 0 → b ≡ false
+cond-not-zero false n e = refl
+cond-not-zero true n e = absurd (let z : suc n ≡ 0 = e in omega arith)
+
+pub place-inside : (p : ℤ) → placeNo p ≡ 0 → placeOf p < 256
+unfolding placeNo
+place-inside p e = ltb-true _ _ (index-test p 256 ∙ cond-zero (inList 256 p) 1 e)
+
+pub empty-is : (r : Record) → emptyNo r ≡ 0 → isEmpty r ≡ false
+unfolding emptyNo
+empty-is r e = cond-not-zero (isEmpty r) 6 e
+
+pub undo-some : (n : ℕ) → undoNo n ≡ 0 → 0 < n
+unfolding undoNo
+undo-some zero e = absurd (let z : _≡_ {A = ℕ} 8 0 = e in omega arith)
+undo-some (suc n) e = omega arith
+
+-- "8 | undo | history empty"
+pub undo-none : (n : ℕ) → undoNo n ≡ 8 → n ≡ 0
+unfolding undoNo
+undo-none zero e = refl
+undo-none (suc n) e = absurd (let z : _≡_ {A = ℕ} 0 8 = e in omega arith)
+
+pub none-undo : (n : ℕ) → n ≡ 0 → undoNo n ≡ 8
+unfolding undoNo
+none-undo zero e = refl
+none-undo (suc n) e = absurd (let z : suc n ≡ 0 = e in omega arith)
+
+-- ════ a refusal changes nothing
+pub unless-either : {A : Type 0} (P : A → Type 0) (n : ℕ) (a b : A) → P a → (n ≡ 0 → P b) → P (unless n a b)
+unfolding unless
+unless-either P zero a b p q = q refl
+unless-either P (suc n) a b p q = p
+
+-- two that refuse alike
+pub unless-both : {A B : Type 0} (R : A → B → Type 0) (n m : ℕ) (a a′ : A) (b b′ : B) → n ≡ m → R a b → (n ≡ 0 → R a′ b′) → R (unless n a a′) (unless m b b′)
+unfolding unless
+unless-both R zero zero a a′ b b′ e p q = q refl
+unless-both R (suc n) (suc m) a a′ b b′ e p q = p
+unless-both R zero (suc m) a a′ b b′ e p q = absurd (let z : 0 ≡ suc m = e in omega arith)
+unless-both R (suc n) zero a a′ b b′ e p q = absurd (let z : suc n ≡ 0 = e in omega arith)
+
+-- ════ the table looks at the records of the 256 places, and at nothing beyond
+module _ (net : Network) (f g : ℕ → Record) (same : (p : ℕ) → p < 256 → f p ≡ g p) where
+  size-same : (p : ℕ) (r : Record) → sizeNo net f p r ≡ sizeNo net g p r
+  unfolding sizeNo
+  size-same p r =
+      ap (λ (l : List Place). cond (entriesFit (net .stations) l) 0 9)
+      (placesOf-ext (changed f p r) (changed g p r) (λ k h. changed-ext f g p r k (same k h)))
+
+  judged : (h : Record → ℕ) (p : ℤ) → first (placeNo p) (h (f (placeOf p))) ≡ first (placeNo p) (h (g (placeOf p)))
+  unfolding first placeNo
+  judged h p = go (inList 256 p) refl
+    where
+      go : (t : Bool) → inList 256 p ≡ t → first (cond t 0 2) (h (f (placeOf p))) ≡ first (cond t 0 2) (h (g (placeOf p)))
+      go true e = ap h (same (placeOf p) (ltb-true _ _ (index-test p 256 ∙ e)))
+      go false e = refl
+
+  pub call-same : (count : ℕ) (c : Call) → callNo net f count c ≡ callNo net g count c
+  unfolding callNo
+  call-same count (add p r) =
+      judged (λ q. first (recordNo net r) (first (filledNo q) (sizeNo net f (placeOf p) r))) p
+      ∙ ap (λ (n : ℕ). first (placeNo p) (first (recordNo net r) (first (filledNo (g (placeOf p))) n))) (size-same (placeOf p) r)
+  call-same count (replace p r) =
+      judged (λ q. first (recordNo net r) (first (emptyNo q) (sizeNo net f (placeOf p) r))) p
+      ∙ ap (λ (n : ℕ). first (placeNo p) (first (recordNo net r) (first (emptyNo (g (placeOf p))) n))) (size-same (placeOf p) r)
+  call-same count (strike p) = judged emptyNo p
+  call-same count undo = refl
+
+-- ════ no number of the table is above 9
+first-small : (m n : ℕ) → m ≤ 9 → n ≤ 9 → first m n ≤ 9
+unfolding first
+first-small zero n p q = q
+first-small (suc m) n p q = p
+
+cond-small : (b : Bool) (m n : ℕ) → m ≤ 9 → n ≤ 9 → cond b m n ≤ 9
+cond-small true m n p q = p
+cond-small false m n p q = q
+
+module _ (net : Network) (at : ℕ → Record) where
+  place-small : (p : ℤ) → placeNo p ≤ 9
+  unfolding placeNo
+  place-small p = cond-small (inList 256 p) 0 2 (omega arith) (omega arith)
+
+  filled-small : (r : Record) → filledNo r ≤ 9
+  unfolding filledNo
+  filled-small r = cond-small (isEmpty r) 0 7 (omega arith) (omega arith)
+
+  empty-small : (r : Record) → emptyNo r ≤ 9
+  unfolding emptyNo
+  empty-small r = cond-small (isEmpty r) 7 0 (omega arith) (omega arith)
+
+  size-small : (p : ℕ) (r : Record) → sizeNo net at p r ≤ 9
+  unfolding sizeNo
+  size-small p r = cond-small (entriesFit (net .stations) (placesOf (changed at p r))) 0 9 (omega arith) (omega arith)
+
+  undo-small : (n : ℕ) → undoNo n ≤ 9
+  unfolding undoNo
+  undo-small zero = omega arith
+  undo-small (suc n) = omega arith
+
+  record-small : (r : Record) → recordNo net r ≤ 9
+  record-small r = omega (arith, record-no-small net r)
+
+  pub call-small : (count : ℕ) (c : Call) → callNo net at count c ≤ 9
+  unfolding callNo
+  call-small count (add p r) =
+      first-small _ _ (place-small p) (first-small _ _ (record-small r) (first-small _ _ (filled-small (at (placeOf p))) (size-small (placeOf p) r)))
+  call-small count (replace p r) =
+      first-small _ _ (place-small p) (first-small _ _ (record-small r) (first-small _ _ (empty-small (at (placeOf p))) (size-small (placeOf p) r)))
+  call-small count (strike p) = first-small _ _ (place-small p) (empty-small _)
+  call-small count undo = undo-small _

@@ -1,0 +1,71 @@
+-- The calls that edit a book, and the numbers of document 01's table for them. One table, by which the book and the ledger are both judged:
+-- it goes by the station list, the record at each place (counted from 0), and the number of edits that can be taken back. Assumes nothing.
+use Prim.Native.Nat.{ℕ, zero, suc, _^_}
+use mathlib.Core.Bool.{Bool, true, false, cond, _&&_}
+use mathlib.Core.List.{List}
+use lib.Dec.{eqb, leb}
+use lib.ListN.{getD}
+use lib.IntN.{ℤ, pos, natAbs}
+use Rattle.integers.specs.Tables.{tabulate}
+use Rattle.words.specs.Signed.{indexIn}
+use Rattle.network.specs.Rules.{inList, isEmpty, recordNo}
+use Rattle.network.specs.declared.Network.{Network}
+use Rattle.network.specs.declared.Place.{Place}
+use Rattle.network.specs.declared.Record.{Record}
+use Rattle.normals.specs.Formulas.{entriesFit}
+
+-- a call with its arguments other than the book
+pub data Call : Type 0 where
+  add : ℤ → Record → Call
+  replace : ℤ → Record → Call
+  strike : ℤ → Call
+  undo : Call
+
+-- the place that a number of 1 to 256 names, counted from 0; 256 for any other number
+abbrev pub placeOf : ℤ → ℕ
+placeOf p = indexIn p 256
+
+-- "Where several apply, the lowest number wins; where none does, the call is not refused": 0 is no refusal
+unfoldable pub first : ℕ → ℕ → ℕ
+first zero n = n
+first (suc m) n = suc m
+
+-- "2 | add, replace, strike | place not 1 to 256"
+unfoldable pub placeNo : ℤ → ℕ
+placeNo p = cond (inList 256 p) 0 2
+
+-- "7 | add / replace, strike | place filled / place empty"
+unfoldable pub filledNo : Record → ℕ
+filledNo r = cond (isEmpty r) 0 7
+
+unfoldable pub emptyNo : Record → ℕ
+emptyNo r = cond (isEmpty r) 7 0
+
+-- "8 | undo | history empty"
+unfoldable pub undoNo : ℕ → ℕ
+undoNo zero = 8
+undoNo (suc n) = 0
+
+-- the records with r at place p
+unfoldable pub changed : (ℕ → Record) → ℕ → Record → ℕ → Record
+changed at p r k = cond (eqb k p) r (at k)
+
+-- the 256 places that hold them
+abbrev pub placesOf : (ℕ → Record) → List Place
+placesOf at = tabulate 256 (λ p. record { entry = at p })
+
+-- "9 | add, replace, check | an entry of N or u … beyond ±2^62": of the records with r at place p
+unfoldable pub sizeNo : Network → (ℕ → Record) → ℕ → Record → ℕ
+sizeNo net at p r = cond (entriesFit (net .stations) (placesOf (changed at p r))) 0 9
+
+-- the number of a call
+unfoldable pub callNo : Network → (ℕ → Record) → ℕ → Call → ℕ
+callNo net at count (add p r) = first (placeNo p) (first (recordNo net r) (first (filledNo (at (placeOf p))) (sizeNo net at (placeOf p) r)))
+callNo net at count (replace p r) = first (placeNo p) (first (recordNo net r) (first (emptyNo (at (placeOf p))) (sizeNo net at (placeOf p) r)))
+callNo net at count (strike p) = first (placeNo p) (emptyNo (at (placeOf p)))
+callNo net at count undo = undoNo count
+
+-- a refused call changes nothing
+unfoldable pub unless : {A : Type 0} → ℕ → A → A → A
+unless zero old new = new
+unless (suc n) old new = old

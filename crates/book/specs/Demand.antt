@@ -1,0 +1,52 @@
+-- Demand 3 of document 01, the statement alone (specs/DemandHolds.antt proves it). It measures the book by the plain ledger of specs/Ledger.antt:
+-- from the book that an accepted opening gives, for every list of calls, with any arguments, refused ones among them. Assumes nothing.
+--   openedBook, bookNext, bookSays   specs/Book.antt     the book's calls: what their contracts promise
+--   nothing, ledgerNext, ledgerSays  specs/Ledger.antt   the ledger; standing: its record at a place; ledgerNormals: its N and u, worked out afresh
+--   final, answers                   specs/Run.antt      the state after a run, and the answers along it
+--   names, nameless                  specs/Rows.antt     a row is a call, or words that name none: answered −1, and nothing changes
+use Prim.Native.Nat.{ℕ, _<_}
+use mathlib.Core.Path.{_≡_}
+use mathlib.Core.Bool.{true}
+use mathlib.Core.List.{List}
+use lib.IntN.{ℤ, pos}
+use lib.ListN.{length, getD, take}
+use Rattle.network.specs.Stations.{networkOf, opens}
+use Rattle.network.specs.Records.{recordAt}
+use Rattle.network.specs.declared.Network.{Network}
+use Rattle.book.specs.declared.Book as book
+use Rattle.book.specs.Calls.{undo}
+use Rattle.book.specs.Run.{final, answers}
+use Rattle.book.specs.Rows.{Row, names, nameless, rowNext, rowSays}
+use Rattle.book.specs.Book.{openedBook, bookNext, bookSays}
+use Rattle.book.specs.Book as spec
+use Rattle.book.specs.Ledger.{Ledger, nothing, standing, ledgerNext, ledgerSays, ledgerNormals}
+
+-- the book and the ledger after a run, and their answers along it
+abbrev pub bookAfter : Network → List Row → book.Book
+bookAfter net rows = final (rowNext bookNext) (openedBook net) rows
+
+abbrev pub bookAnswers : Network → List Row → List ℤ
+bookAnswers net rows = answers (rowNext bookNext) (rowSays bookSays) (openedBook net) rows
+
+abbrev pub ledgerAfter : Network → List Row → Ledger
+ledgerAfter net rows = final (rowNext (ledgerNext net)) nothing rows
+
+abbrev pub ledgerAnswers : Network → List Row → List ℤ
+ledgerAnswers net rows = answers (rowNext (ledgerNext net)) (rowSays (ledgerSays net)) nothing rows
+
+-- the answers `said` to the rows, and the book that they leave, measured by the ledger
+pub record Demand (net : Network) (rows : List Row) (said : List ℤ) (left : book.Book) : Type 0 where
+  -- every answer, refusals with it, is the ledger's
+  pub answered : said ≡ ledgerAnswers net rows
+  -- the record in force at every place is the ledger's
+  pub records : (p : ℕ) → p < 256 → recordAt (left .places) p ≡ standing (ledgerAfter net rows .edits) p
+  -- N and u kept are those of the ledger's records, worked out afresh
+  pub normals : left .normals ≡ ledgerNormals net (ledgerAfter net rows)
+  -- an undo was refused exactly when the ledger's count was 0
+  pub refused : (k : ℕ) → k < length rows → getD rows k nameless ≡ names undo → getD said k (pos 0) ≡ pos 8 → ledgerAfter net (take k rows) .count ≡ 0
+  pub spent : (k : ℕ) → k < length rows → getD rows k nameless ≡ names undo → ledgerAfter net (take k rows) .count ≡ 0 → getD said k (pos 0) ≡ pos 8
+  -- the book left is one that the next call takes
+  pub sound : spec.sound left ≡ true
+
+abbrev pub Demand3 : Type 0
+Demand3 = (list : List ℤ) → opens list ≡ true → (rows : List Row) → Demand (networkOf list) rows (bookAnswers (networkOf list) rows) (bookAfter (networkOf list) rows)

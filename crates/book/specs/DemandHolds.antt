@@ -1,0 +1,71 @@
+-- Demand 3 holds: the book follows the ledger row by row, so over any run. Assumes nothing.
+use Prim.Native.Nat.{ℕ, _<_}
+use mathlib.Core.Path.{_≡_, refl, sym, ap, _∙_}
+use mathlib.Core.Bool.{true}
+use mathlib.Core.List.{List}
+use lib.IntN.{ℤ, pos}
+use lib.ListN.{length, getD, take}
+use Rattle.network.specs.Stations.{networkOf, networkFits}
+use Rattle.network.specs.declared.Network.{Network}
+use Rattle.book.specs.declared.Book.{Book}
+use Rattle.book.specs.Calls.{undo, undoNo, callNo}
+use Rattle.book.specs.Run.{Alike, run-answers, run-final, answer-at}
+use Rattle.book.specs.Rows.{Row, names, nameless, rowNext, rowSays}
+use Rattle.book.specs.Book.{openedBook, bookNext, bookSays}
+use Rattle.book.specs.Ledger.{Ledger, nothing, ledgerNext, ledgerSays}
+use Rattle.network.specs.OpeningLaws.{opened-fits}
+use Rattle.book.specs.CallLaws.{undo-none, none-undo}
+use Rattle.book.specs.Sound.{parts-sound}
+use Rattle.book.specs.Follows.{Follows, says, follows-next, follows-normals, follows-opened}
+use Rattle.book.specs.Demand.{Demand, Demand3, bookAfter, bookAnswers, ledgerAfter, ledgerAnswers}
+
+row-says : (net : Network) (b : Book) (l : Ledger) (r : Row) → Follows net b l → rowSays bookSays b r ≡ rowSays (ledgerSays net) l r
+unfolding rowSays
+row-says net b l (names c) o = ap pos (says net b l o c)
+row-says net b l nameless o = refl
+
+row-stays : (net : Network) (b : Book) (l : Ledger) (r : Row) → Follows net b l → Follows net (rowNext bookNext b r) (rowNext (ledgerNext net) l r)
+unfolding rowNext
+row-stays net b l (names c) o = follows-next net b l o c
+row-stays net b l nameless o = o
+
+alike : (net : Network) → Alike (rowNext bookNext) (rowSays bookSays) (rowNext (ledgerNext net)) (rowSays (ledgerSays net)) (Follows net)
+alike net = record { says-same = row-says net; stays = row-stays net }
+
+-- the ledger's answer to an undo
+undo-said : (net : Network) (l : Ledger) (r : Row) → r ≡ names undo → rowSays (ledgerSays net) l r ≡ pos (undoNo (l .count))
+unfolding rowSays callNo
+undo-said net l r e = ap (rowSays (ledgerSays net) l) e
+
+module _ (net : Network) (rows : List Row) (k : ℕ) (h : k < length rows) (e : getD rows k nameless ≡ names undo) where
+  ledger-said : getD (ledgerAnswers net rows) k (pos 0) ≡ pos (undoNo (ledgerAfter net (take k rows) .count))
+  ledger-said =
+      answer-at (rowNext (ledgerNext net)) (rowSays (ledgerSays net)) nothing rows k (pos 0) nameless h
+      ∙ undo-said net (ledgerAfter net (take k rows)) (getD rows k nameless) e
+
+  was-refused : getD (ledgerAnswers net rows) k (pos 0) ≡ pos 8 → ledgerAfter net (take k rows) .count ≡ 0
+  was-refused p = undo-none _ (let q : pos (undoNo (ledgerAfter net (take k rows) .count)) ≡ pos 8 = sym ledger-said ∙ p in cc)
+
+  was-spent : ledgerAfter net (take k rows) .count ≡ 0 → getD (ledgerAnswers net rows) k (pos 0) ≡ pos 8
+  was-spent p = ledger-said ∙ ap pos (none-undo _ p)
+
+-- what is said and left by the book's calls is what demand 3 asks
+pub demanded : (net : Network) → networkFits net ≡ true → (rows : List Row) (said : List ℤ) (left : Book) → said ≡ bookAnswers net rows → left ≡ bookAfter net rows → Demand net rows said left
+demanded net g rows said left p q =
+    let start = follows-opened net g in
+    let o : Follows net (bookAfter net rows) (ledgerAfter net rows) =
+    run-final (rowNext bookNext) (rowSays bookSays) (rowNext (ledgerNext net)) (rowSays (ledgerSays net)) (Follows net) (alike net) (openedBook net) nothing rows start in
+    let same : said ≡ ledgerAnswers net rows =
+    p ∙ run-answers (rowNext bookNext) (rowSays bookSays) (rowNext (ledgerNext net)) (rowSays (ledgerSays net)) (Follows net) (alike net) (openedBook net) nothing rows start in
+    let o′ : Follows net left (ledgerAfter net rows) = rw q o in
+    record {
+      answered = same;
+      records = o′ .holds;
+      normals = follows-normals net left (ledgerAfter net rows) o′;
+      refused = λ k h e w. was-refused net rows k h e (ap (λ (l : List ℤ). getD l k (pos 0)) (sym same) ∙ w);
+      spent = λ k h e w. ap (λ (l : List ℤ). getD l k (pos 0)) same ∙ was-spent net rows k h e w;
+      sound = parts-sound left (o′ .sound);
+    }
+
+pub demand-3 : Demand3
+demand-3 list e rows = demanded (networkOf list) (opened-fits list e) rows _ _ refl refl

@@ -1,0 +1,53 @@
+-- The journal (document 01's history): a ring of 64 reversals. `next` is the slot of the next entry, `held` how many can be taken back. Assumes nothing.
+use Prim.Native.Nat.{ℕ, zero, suc, _+_, _-_, _%_, min}
+use mathlib.Core.Bool.{Bool, _&&_, _||_}
+use mathlib.Core.List.{List, [], _∷_}
+use lib.Dec.{eqb, leb, ltb}
+use lib.ListN.{getD, set, replicate}
+use Rattle.network.specs.All.{allBelow}
+use Rattle.network.specs.Rules.{isEmpty}
+use Rattle.network.specs.declared.Record.the-variants.{Empty}
+use Rattle.book.specs.declared.Reversal.{Reversal}
+use Rattle.book.specs.declared.Journal.{Journal}
+
+-- what a free slot holds
+abbrev pub free : Reversal
+free = record { place = 0; prior = Empty }
+
+abbrev pub emptyJournal : Journal
+emptyJournal = record { entries = replicate 64 free; next = 0; held = 0 }
+
+-- the slot before another
+abbrev pub before : ℕ → ℕ
+before slot = (slot + 63) % 64
+
+-- the k entries before a slot, the latest first
+unfoldable pub entriesBefore : List Reversal → ℕ → ℕ → List Reversal
+entriesBefore entries slot zero = []
+entriesBefore entries slot (suc k) = getD entries (before slot) free ∷ entriesBefore entries (before slot) k
+
+-- the edits that can be taken back, the latest first
+abbrev pub reversals : Journal → List Reversal
+reversals j = entriesBefore (j .entries) (j .next) (j .held)
+
+-- "Each accepted edit goes on the history, which keeps the latest 64; a 65th pushes out the oldest."
+abbrev pub pushed : Journal → Reversal → Journal
+pushed j e = record { entries = set (j .entries) (j .next) e; next = (j .next + 1) % 64; held = min (j .held + 1) 64 }
+
+abbrev pub latest : Journal → Reversal
+latest j = getD (j .entries) (before (j .next)) free
+
+-- "Undo takes the latest off": its slot is free again
+abbrev pub popped : Journal → Journal
+popped j = record { entries = set (j .entries) (before (j .next)) free; next = before (j .next); held = j .held - 1 }
+
+-- the counters in range, and the slots that are not held free
+unfoldable pub isFree : Reversal → Bool
+isFree u = eqb (u .place) 0 && isEmpty (u .prior)
+
+-- the slot is among the `held` ones before `next`
+abbrev pub isHeld : Journal → ℕ → Bool
+isHeld j slot = ltb ((j .next + 63 - slot) % 64) (j .held)
+
+unfoldable pub journalFits : Journal → Bool
+journalFits j = ltb (j .next) 64 && leb (j .held) 64 && allBelow 64 (λ slot. isHeld j slot || isFree (getD (j .entries) slot free))

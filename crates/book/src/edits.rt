@@ -1,0 +1,169 @@
+// Opening a book, and the calls that edit it: refusals in front of one core edit. A refusal gives the book back as it came.
+use super::Book;
+use super::Edited;
+use super::Journal;
+use super::Reversal;
+use super::refusals;
+use network::Network;
+use network::Place;
+use network::Record;
+use normals::Normals;
+ghost use mathlib.Core.Path.{_≡_};
+ghost use mathlib.Core.Bool.{true};
+ghost use Prim.Native.Nat.{_<_};
+ghost use Rattle.network.specs.Stations.{opens};
+ghost use Rattle.network.specs.Records.{recordAt};
+ghost use Rattle.network.specs.Rules.{recordFits};
+ghost use Rattle.book.specs.Calls.{Call};
+ghost use Rattle.book.specs.Book.{openedBook, opening, withEntry, edited, settled, outcome, sound};
+ghost use Rattle.book.specs.Sound.{Sound};
+ghost use Rattle.book.specs.SoundLaws.{Enters};
+
+impl Book {
+    // No records, nothing to take back.
+    fn blank(net: Network) -> Book
+        ensures { λ b. ⌜ b ≡ openedBook net ⌝ }
+    {
+        let none = Record::Empty;
+        let vacant = Place { entry: none };
+        let free = Reversal {
+            place: 0,
+            prior: none,
+        };
+        let normals = Normals::blank();
+        Book {
+            network: net,
+            places: [vacant; 256],
+            journal: Journal {
+                entries: [free; 64],
+                next: 0,
+                held: 0,
+            },
+            normals,
+        }
+    }
+
+    // A book on a list of numbers, four a station: kind (1 known, 2 free, 3 height), E, N, U.
+    pub fn open(list: &[i64]) -> Edited
+        ensures { λ e. ⌜ (e ≡ opening (now (list .entry))) × (opens (now (list .entry)) ≡ true → sound (e .book) ≡ true) ⌝ }
+    {
+        if network::opens(list) {
+            let net = network::network_of(list);
+            let book = Book::blank(net);
+            return Edited { refusal: 0, book };
+        }
+        let none = network::network_of(&list[0..0]);
+        let book = Book::blank(none);
+        Edited { refusal: 1, book }
+    }
+
+    // The record at a place, counted from 0; an empty one beyond the last.
+    fn record_at(self, i: usize) -> Record
+        ensures { λ r. ⌜ r ≡ recordAt (self .places) i ⌝ }
+    {
+        if i < 256 {
+            let q = self.places[i];
+            return q.entry;
+        }
+        Record::Empty
+    }
+
+    // The one core edit: r at place i, its share of N and u in, that of what the place held out, and the journal given.
+    fn put(self, i: usize, r: Record, journal: Journal) -> Book
+        requires { ⌜ (i < 256) × (recordFits (self .network) r ≡ true) × Sound self ⌝ }
+        ensures { λ b. ⌜ b ≡ withEntry self i r journal ⌝ }
+    {
+        let network = self.network;
+        let mut places = self.places;
+        let q = places[i];
+        let old = q.entry;
+        places[i] = Place { entry: r };
+        let kept = self.normals;
+        let normals = kept.exchange(network, old, r);
+        Book {
+            network,
+            places,
+            journal,
+            normals,
+        }
+    }
+
+    // The edit, unless it is refused.
+    fn settle(self, n: u64, i: usize, r: Record) -> Edited
+        requires { ⌜ Sound self × (n ≡ 0 → Enters self i r) ⌝ }
+        ensures { λ e. ⌜ e ≡ settled n self (edited self i r) ⌝ }
+    {
+        if n == 0 {
+            let old = self.record_at(i);
+            let journal = self.journal;
+            let longer = journal.push(Reversal {
+                place: i,
+                prior: old,
+            });
+            let book = self.put(i, r, longer);
+            return Edited { refusal: 0, book };
+        }
+        Edited {
+            refusal: n,
+            book: self,
+        }
+    }
+
+    // Fills an empty place.
+    pub fn add(self, place: i64, entry: Record) -> Edited
+        requires { ⌜ sound self ≡ true ⌝ }
+        ensures { λ e. ⌜ (e ≡ outcome self (Call.add place entry)) × (sound (e .book) ≡ true) ⌝ }
+    {
+        let net = self.network;
+        let i = words::index_in(place, 256);
+        let held = self.record_at(i);
+        let rules = network::record_no(net, entry);
+        let n = refusals::add_no(place, rules, held);
+        self.settle(n, i, entry)
+    }
+
+    // Changes a filled place.
+    pub fn replace(self, place: i64, entry: Record) -> Edited
+        requires { ⌜ sound self ≡ true ⌝ }
+        ensures { λ e. ⌜ (e ≡ outcome self (Call.replace place entry)) × (sound (e .book) ≡ true) ⌝ }
+    {
+        let net = self.network;
+        let i = words::index_in(place, 256);
+        let held = self.record_at(i);
+        let rules = network::record_no(net, entry);
+        let n = refusals::replace_no(place, rules, held);
+        self.settle(n, i, entry)
+    }
+
+    // Empties a filled place.
+    pub fn strike(self, place: i64) -> Edited
+        requires { ⌜ sound self ≡ true ⌝ }
+        ensures { λ e. ⌜ (e ≡ outcome self (Call.strike place)) × (sound (e .book) ≡ true) ⌝ }
+    {
+        let i = words::index_in(place, 256);
+        let held = self.record_at(i);
+        let n = refusals::strike_no(place, held);
+        self.settle(n, i, Record::Empty)
+    }
+
+    // Takes the latest edit back.
+    pub fn undo(self) -> Edited
+        requires { ⌜ sound self ≡ true ⌝ }
+        ensures { λ e. ⌜ (e ≡ outcome self Call.undo) × (sound (e .book) ≡ true) ⌝ }
+    {
+        let journal = self.journal;
+        let held = journal.held;
+        if held == 0 {
+            return Edited {
+                refusal: 8,
+                book: self,
+            };
+        }
+        let last = journal.last();
+        let shorter = journal.pop();
+        let place = last.place;
+        let prior = last.prior;
+        let book = self.put(place, prior, shorter);
+        Edited { refusal: 0, book }
+    }
+}

@@ -1,0 +1,46 @@
+// The record book: opening, edits, undo.
+mod edits;
+mod history;
+mod refusals;
+mod rows;
+mod soundness;
+
+use network::Network;
+use network::Place;
+use network::Record;
+use normals::Normals;
+pub use rows::replay;
+pub use soundness::is_sound;
+
+// What an undo restores: a place, counted from 0, and what it held before.
+pub struct Reversal {
+    pub place: usize,
+    pub prior: Record,
+}
+
+// Document 01's history: a ring of the latest 64 edits.
+pub struct Journal {
+    pub entries: [Reversal; 64],
+    pub next: usize,
+    pub held: usize,
+}
+
+// Document 01's record book.
+pub struct Book {
+    pub network: Network,
+    pub places: [Place; 256],
+    pub journal: Journal,
+    pub normals: Normals,
+}
+
+// The answer to an opening, an edit or an undo: a refusal's number or 0, and the book.
+pub struct Edited {
+    pub refusal: u64,
+    pub book: Book,
+}
+
+// What a row of a replay is answered, and the book afterwards.
+pub struct Answered {
+    pub answer: i64,
+    pub book: Book,
+}

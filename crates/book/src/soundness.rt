@@ -1,0 +1,161 @@
+// What 25 tests of a book's value, for every value: the station list first, then the records, the journal and what it would restore, each judged by the
+// rules, and N and u last, since their sums are in range only for records by the rules.
+use super::Book;
+use super::Journal;
+use super::Reversal;
+use network::Network;
+use network::Place;
+use network::Record;
+use normals::Normals;
+ghost use mathlib.Core.Path.{_≡_};
+ghost use mathlib.Core.Bool.{true, not, _&&_, _||_};
+ghost use Prim.Native.Nat.{_+_, _-_, _%_, _<_};
+ghost use lib.Dec.{ltb};
+ghost use lib.ListN.{getD};
+ghost use Rattle.network.specs.All.{allBelow};
+ghost use Rattle.network.specs.Stations.{coordinates, networkFits};
+ghost use Rattle.network.specs.Records.{recordAt};
+ghost use Rattle.network.specs.Rules.{isEmpty, recordFits};
+ghost use Rattle.book.specs.Journal.{free, isFree, isHeld, journalFits, reversals};
+ghost use Rattle.book.specs.Book.{undoable, sound};
+
+fn is_free(u: Reversal) -> bool
+    ensures { λ t. ⌜ t ≡ isFree u ⌝ }
+{
+    let place = u.place;
+    let prior = u.prior;
+    (place == 0) & network::is_empty(prior)
+}
+
+// A slot is held, or it is free.
+fn slot_fits(next: usize, held: usize, slot: usize, u: Reversal) -> bool
+    requires { ⌜ (next < 64) × (slot < 64) ⌝ }
+    ensures { λ t. ⌜ t ≡ (ltb ((next + 63 - slot) % 64) held || isFree u) ⌝ }
+{
+    let age = (next + 63 - slot) % 64;
+    if age < held {
+        return true;
+    }
+    is_free(u)
+}
+
+fn slots_fit(journal: Journal) -> bool
+    requires { ⌜ journal .next < 64 ⌝ }
+    ensures { λ t. ⌜ t ≡ allBelow 64 (λ slot. isHeld journal slot || isFree (getD (journal .entries) slot free)) ⌝ }
+{
+    let entries = journal.entries;
+    let next = journal.next;
+    let held = journal.held;
+    let mut slot = 0;
+    while slot < 64 {
+        let u = entries[slot];
+        if !slot_fits(next, held, slot, u) {
+            return false;
+        }
+        slot = slot + 1;
+    }
+    true
+}
+
+fn journal_fits(journal: Journal) -> bool
+    ensures { λ t. ⌜ t ≡ journalFits journal ⌝ }
+{
+    let next = journal.next;
+    let held = journal.held;
+    if next >= 64 {
+        return false;
+    }
+    if held > 64 {
+        return false;
+    }
+    slots_fit(journal)
+}
+
+// A record by the rules of the network, whose provisional coordinates are given.
+fn record_fits(net: Network, coordinate: &[i64; 96], r: Record) -> bool
+    requires { ⌜ (networkFits net ≡ true) × (now coordinate ≡ coordinates (net .stations)) ⌝ }
+    ensures { λ t. ⌜ t ≡ recordFits net r ⌝ }
+{
+    let count = net.count;
+    network::record_fits_over(count, coordinate, r)
+}
+
+fn records_fit(net: Network, coordinate: &[i64; 96], places: [Place; 256]) -> bool
+    requires { ⌜ (networkFits net ≡ true) × (now coordinate ≡ coordinates (net .stations)) ⌝ }
+    ensures { λ t. ⌜ t ≡ allBelow 256 (λ p. recordFits net (recordAt places p)) ⌝ }
+{
+    let mut p = 0;
+    while p < 256 {
+        let q = places[p];
+        let r = q.entry;
+        if !record_fits(net, coordinate, r) {
+            return false;
+        }
+        p = p + 1;
+    }
+    true
+}
+
+// Restoring `prior` where `held` stands: by the rules, and not from an empty place to an empty one.
+fn restores(net: Network, coordinate: &[i64; 96], held: Record, prior: Record) -> bool
+    requires { ⌜ (networkFits net ≡ true) × (now coordinate ≡ coordinates (net .stations)) ⌝ }
+    ensures { λ t. ⌜ t ≡ (recordFits net prior && not (isEmpty held && isEmpty prior)) ⌝ }
+{
+    let fits = record_fits(net, coordinate, prior);
+    let none = network::is_empty(held) & network::is_empty(prior);
+    fits & !none
+}
+
+// The journal walked back on a copy of the places.
+fn can_undo(net: Network, coordinate: &[i64; 96], places: [Place; 256], journal: Journal) -> bool
+    requires { ⌜ (networkFits net ≡ true) × (now coordinate ≡ coordinates (net .stations)) × (journal .next < 64) ⌝ }
+    ensures { λ t. ⌜ t ≡ undoable net (recordAt places) (reversals journal) ⌝ }
+{
+    let entries = journal.entries;
+    let mut state = places;
+    let mut slot = journal.next;
+    let mut left = journal.held;
+    while left > 0 {
+        slot = (slot + 63) % 64;
+        let u = entries[slot];
+        let p = u.place;
+        let prior = u.prior;
+        if p >= 256 {
+            return false;
+        }
+        let q = state[p];
+        let held = q.entry;
+        if !restores(net, coordinate, held, prior) {
+            return false;
+        }
+        state[p] = Place { entry: prior };
+        left = left - 1;
+    }
+    true
+}
+
+// A book passes what 25 tests.
+pub fn is_sound(book: Book) -> bool
+    ensures { λ t. ⌜ t ≡ sound book ⌝ }
+{
+    let net = book.network;
+    if !network::network_fits(net) {
+        return false;
+    }
+    let stations = net.stations;
+    let coordinate = network::coordinates_of(stations);
+    let places = book.places;
+    if !records_fit(net, &coordinate, places) {
+        return false;
+    }
+    let journal = book.journal;
+    if !journal_fits(journal) {
+        return false;
+    }
+    if !can_undo(net, &coordinate, places, journal) {
+        return false;
+    }
+    let kept = book.normals;
+    let fresh = Normals::of(net, places);
+    kept.same(fresh)
+}

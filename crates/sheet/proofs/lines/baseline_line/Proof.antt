@@ -1,0 +1,73 @@
+use borrow.Author.Needs.{needs, sfits-of}
+use mathlib.Core.Path.{refl, ap₂, _∙_}
+use mathlib.Core.List.{_∷_}
+use lib.Dec.{lit<, lit≤}
+use lib.ListN.{getD}
+use lib.IntN.{pos}
+use mir.Syntax.{w64}
+use mir.ValLaws.{toZ-ofZ}
+use Rattle.network.specs.Records.{joins}
+use Rattle.network.specs.Stored.{back, kept}
+use Rattle.network.specs.declared.Record.the-variants.{Baseline as baseline}
+use Rattle.sheet.specs.Residuals.{observationVariance, adjugate}
+use Rattle.sheet.specs.Lines.{recordWordsIn}
+use Rattle.sheet.proofs.Products.{stored-quotient, verdict-told}
+use Rattle.sheet.proofs.lines.baseline_line.Statement.{statement}
+use Rattle.sheet.proofs.lines.baseline_line.Tie as tie
+
+numbered-requires : tie.Need-numbered-requires
+numbered-requires c κs = search needs
+
+adjugate-of-requires : tie.Need-adjugate-of-requires
+adjugate-of-requires c κs = search needs
+
+array-copy-out-x : tie.Need-array-copy-out-x
+array-copy-out-x c = search needs
+
+array-copy-out-y : tie.Need-array-copy-out-y
+array-copy-out-y c = search needs
+
+array-copy-out-z : tie.Need-array-copy-out-z
+array-copy-out-z c = search needs
+
+verdict-at-requires : tie.Need-verdict-at-requires
+verdict-at-requires c κs =
+    let s = c .before .before .before .before .before .before .before in let q = c .before .before .before .before .before .adjugate-of .ensures in
+    (kept (getD (s .args .t3) 0 (pos 0)) (s .pre .3 .bound 0) tt, stored-quotient (s .pre .2 .east) (q .0) (q .3), s .pre .1 .to, s .pre .1 .from, lit< tt, lit≤ tt, s .pre .4)
+
+verdict-at-requires-2 : tie.Need-verdict-at-requires-2
+verdict-at-requires-2 c κs =
+    let s = c .before .before .before .before .before .before .before .before .before .before in let q = c .before .before .before .before .before .before .before .before .adjugate-of .ensures in
+    (kept (getD (s .args .t3) 1 (pos 0)) (s .pre .3 .bound 1) tt, stored-quotient (s .pre .2 .north) (q .1) (q .3), s .pre .1 .to, s .pre .1 .from, lit< tt, lit≤ tt, s .pre .4)
+
+verdict-at-requires-3 : tie.Need-verdict-at-requires-3
+verdict-at-requires-3 c κs =
+    let s = c .before .before .before .before .before .before .before .before .before .before .before .before .before in let q = c .before .before .before .before .before .before .before .before .before .before .before .adjugate-of .ensures in
+    (kept (getD (s .args .t3) 2 (pos 0)) (s .pre .3 .bound 2) tt, stored-quotient (s .pre .2 .up) (q .2) (q .3), s .pre .1 .to, s .pre .1 .from, lit< tt, lit≤ tt, s .pre .4)
+
+returns : tie.Need-returns
+unfolding recordWordsIn joins observationVariance adjugate
+returns c =
+    let s = c .before .before .before .before .before .before .before .before .before .before .before .before .before .before in let k = c .before .before .before .before .before .before .before .before .before .before .before .before .before in let q = c .before .before .before .before .before .before .before .before .before .before .before .before .adjugate-of .ensures in
+    ap₂ _∷_ (toZ-ofZ w64 (k .numbered .result) (sfits-of (k .numbered .ok)) ∙ k .numbered .ensures)
+    (ap₂ _∷_ (back (getD (s .args .t3) 0 (pos 0)) (s .pre .3 .bound 0) tt) (ap₂ _∷_ (back (getD (s .args .t3) 1 (pos 0)) (s .pre .3 .bound 1) tt) (ap₂ _∷_ (back (getD (s .args .t3) 2 (pos 0)) (s .pre .3 .bound 2) tt)
+    (ap₂ _∷_ (verdict-told (s .pre .2 .east) (q .0) (q .3) (s .args .number .now) (s .args .unknown .now) (s .args .m .now) (s .args .n) (baseline (s .args .b)) (s .args .t) (s .args .f) 0 (getD (s .args .t3) 0 (pos 0)) (c .before .before .before .before .before .before .verdict-at .result)
+    (s .pre .3 .bound 0) (s .pre .1) refl refl (sfits-of (c .before .before .before .before .before .before .verdict-at .ok)) (c .before .before .before .before .before .before .verdict-at .ensures))
+    (ap₂ _∷_ (verdict-told (s .pre .2 .north) (q .1) (q .3) (s .args .number .now) (s .args .unknown .now) (s .args .m .now) (s .args .n) (baseline (s .args .b)) (s .args .t) (s .args .f) 1 (getD (s .args .t3) 1 (pos 0)) (c .before .before .before .verdict-at2 .result)
+    (s .pre .3 .bound 1) (s .pre .1) refl refl (sfits-of (c .before .before .before .verdict-at2 .ok)) (c .before .before .before .verdict-at2 .ensures))
+    (ap₂ _∷_ (verdict-told (s .pre .2 .up) (q .2) (q .3) (s .args .number .now) (s .args .unknown .now) (s .args .m .now) (s .args .n) (baseline (s .args .b)) (s .args .t) (s .args .f) 2 (getD (s .args .t3) 2 (pos 0)) (c .verdict-at3 .result)
+    (s .pre .3 .bound 2) (s .pre .1) refl refl (sfits-of (c .verdict-at3 .ok)) (c .verdict-at3 .ensures)) refl))))))
+
+pub baseline-line-spec : {M : Type 1} → statement M
+baseline-line-spec =
+    tie.close
+    (tie.spec
+    numbered-requires
+    adjugate-of-requires
+    array-copy-out-x
+    array-copy-out-y
+    array-copy-out-z
+    verdict-at-requires
+    verdict-at-requires-2
+    verdict-at-requires-3
+    returns)

@@ -1,0 +1,12 @@
+pub mod Residuals
+pub mod Components
+pub mod Weights
+pub mod Ranges
+pub mod Written
+pub mod Verdicts
+pub mod VerdictLaws
+pub mod Sheet
+pub mod Totals
+pub mod Lines
+pub mod SheetLaws
+pub mod ExactVariance

@@ -1,0 +1,209 @@
+-- The lines of a sheet over the tables of components, as the code has them; each is the line that Sheet says. Assumes nothing.
+use Prim.Native.Nat.{ℕ, zero, suc, _+_, _*_, _<_, _≤_}
+use mathlib.Core.Path.{_≡_, refl, sym, ap, ap₂, _∙_}
+use mathlib.Core.List.{List, [], _∷_, _++_}
+use native.Mathlib.Omega.{arith}
+use native.Mathlib.Numerals.{add-one}
+use lib.Dec.{lit<}
+use lib.ListN.{getD, length, length-append}
+use lib.IntN.{ℤ, pos, _+ℤ_, _-ℤ_}
+use Rattle.integers.specs.Sums.{sumN, sumN-suc, sumN-ext, sumN-first}
+use Rattle.integers.specs.Tables.{getD-tabulate}
+use Rattle.network.specs.Stations.{unknownCount, coordinate, coordinates}
+use Rattle.network.specs.Records.{fromOf, toOf, joins, recordAt}
+use Rattle.network.specs.declared.Station.{Station}
+use Rattle.network.specs.declared.Place.{Place}
+use Rattle.network.specs.declared.Record.{Record}
+use Rattle.network.specs.declared.Record.the-variants.{Empty, Baseline as baseline, Height as height}
+use Rattle.sheet.specs.Residuals.{correction, adjusted, residual, observationVariance, residualVariance}
+use Rattle.sheet.specs.Verdicts.{verdictWord, localVerdict}
+use Rattle.sheet.specs.Sheet.{stationWords, stationLines, recordWords, recordLines, verdictAt, wordsOf}
+use Rattle.sheet.specs.Components.{unknownsOf, numbersOf, correctionsOf, covarianceIn, covariance-in, differenceIn, difference-in, residualsIn, residual-in}
+use Rattle.sheet.specs.Written.{written, written-none, written-then}
+
+-- ════ lines one after the other
+unfoldable pub lines : ℕ → (ℕ → List ℤ) → List ℤ
+lines zero f = []
+lines (suc k) f = lines k f ++ f k
+
+pub lines-zero : (f : ℕ → List ℤ) → lines 0 f ≡ []
+unfolding lines
+lines-zero f = refl
+
+pub lines-+1 : (k : ℕ) (f : ℕ → List ℤ) → lines (k + 1) f ≡ lines k f ++ f k
+unfolding lines
+lines-+1 k f = rw (add-one k)
+
+pub lines-ext : (k : ℕ) (f g : ℕ → List ℤ) → ((i : ℕ) → i < k → f i ≡ g i) → lines k f ≡ lines k g
+unfolding lines
+lines-ext zero f g h = refl
+lines-ext (suc k) f g h = ap₂ _++_ (lines-ext k f g (λ i l. h i (omega arith))) (h k (omega arith))
+
+pub length-lines : (k : ℕ) (f : ℕ → List ℤ) → length (lines k f) ≡ sumN k (λ i. length (f i))
+unfolding lines sumN
+length-lines zero f = refl
+length-lines (suc k) f = length-append (lines k f) (f k) ∙ ap (λ (n : ℕ). n + length (f k)) (length-lines k f)
+
+-- a sheet on which w was stored from index `from` on, and the next index is `at`
+pub record Put (l : List ℤ) (from : ℕ) (w sheet : List ℤ) (at : ℕ) : Type 0 where
+  pub holds : sheet ≡ written l from w
+  pub next : at ≡ from + length w
+
+pub put-none : (l : List ℤ) (from : ℕ) → Put l from [] l from
+put-none l from = record { holds = sym (written-none l from); next = omega arith }
+
+pub put-more : {l : List ℤ} {from : ℕ} {w sheet : List ℤ} {at : ℕ} → Put l from w sheet at
+    → (v now : List ℤ) (then : ℕ) → now ≡ written sheet at v → then ≡ at + length v → Put l from (w ++ v) now then
+put-more {l} {from} {w} {sheet} {at} p v now then e q =
+    record {
+      holds = e ∙ ap₂ (λ (s : List ℤ) (i : ℕ). written s i v) (p .holds) (p .next) ∙ written-then l from w v;
+      next = let n = p .next in omega (arith, length-append w v);
+    }
+
+-- ════ the line of a station
+module _ (coordinate corrections : List ℤ) (numbers : List ℕ) (unknowns m : List ℤ) (n : ℕ) where
+  abbrev pub adjustedIn : ℕ → ℤ
+  adjustedIn q = getD coordinate q (pos 0) +ℤ getD corrections q (pos 0)
+
+  unfoldable pub stationWordsIn : ℕ → List ℤ
+  stationWordsIn s =
+      pos (s + 1)
+      ∷ adjustedIn (s * 3) ∷ adjustedIn (s * 3 + 1) ∷ adjustedIn (s * 3 + 2)
+      ∷ covarianceIn numbers unknowns m n (s * 3) (s * 3) ∷ covarianceIn numbers unknowns m n (s * 3 + 1) (s * 3 + 1) ∷ covarianceIn numbers unknowns m n (s * 3 + 2) (s * 3 + 2)
+      ∷ []
+
+  pub station-length : (s : ℕ) → length (stationWordsIn s) ≡ 7
+  unfolding stationWordsIn
+  station-length s = refl
+
+-- ════ the line of a record, with its residuals v
+module _ (numbers : List ℕ) (unknowns m : List ℤ) (n : ℕ) where
+  unfoldable pub verdictIn : Record → ℕ → ℤ → ℤ
+  verdictIn r a v = verdictWord (localVerdict v (observationVariance r a -ℤ differenceIn numbers unknowns m n (toOf r * 3 + a) (fromOf r * 3 + a) (joins r)))
+
+  unfoldable pub recordWordsIn : ℕ → Record → List ℤ → List ℤ
+  recordWordsIn p Empty v = []
+  recordWordsIn p (baseline b) v =
+      pos (p + 1)
+      ∷ getD v 0 (pos 0) ∷ getD v 1 (pos 0) ∷ getD v 2 (pos 0)
+      ∷ verdictIn (baseline b) 0 (getD v 0 (pos 0)) ∷ verdictIn (baseline b) 1 (getD v 1 (pos 0)) ∷ verdictIn (baseline b) 2 (getD v 2 (pos 0))
+      ∷ []
+  recordWordsIn p (height h) v = pos (p + 1) ∷ getD v 2 (pos 0) ∷ verdictIn (height h) 2 (getD v 2 (pos 0)) ∷ []
+
+  pub record-length : (p : ℕ) (r : Record) (v : List ℤ) → length (recordWordsIn p r v) ≡ wordsOf r
+  unfolding recordWordsIn wordsOf
+  record-length p Empty v = refl
+  record-length p (baseline b) v = refl
+  record-length p (height h) v = refl
+
+-- ════ the first k lines
+module _ (coordinate corrections : List ℤ) (numbers : List ℕ) (unknowns m : List ℤ) (n : ℕ) where
+  unfoldable pub stationLinesIn : ℕ → List ℤ
+  stationLinesIn k = lines k (stationWordsIn coordinate corrections numbers unknowns m n)
+
+  recordLineIn : List Place → ℕ → List ℤ
+  recordLineIn places p = recordWordsIn numbers unknowns m n p (recordAt places p) (residualsIn coordinate corrections (recordAt places p))
+
+  unfoldable pub recordLinesIn : List Place → ℕ → List ℤ
+  unfolding recordLineIn
+  recordLinesIn places k = lines k (recordLineIn places)
+
+  pub stations-none : stationLinesIn 0 ≡ []
+  unfolding stationLinesIn
+  stations-none = lines-zero (stationWordsIn coordinate corrections numbers unknowns m n)
+
+  pub stations-more : (k : ℕ) → stationLinesIn (k + 1) ≡ stationLinesIn k ++ stationWordsIn coordinate corrections numbers unknowns m n k
+  unfolding stationLinesIn
+  stations-more k = lines-+1 k (stationWordsIn coordinate corrections numbers unknowns m n)
+
+  pub stations-length : (k : ℕ) → length (stationLinesIn k) ≡ 7 * k
+  unfolding stationLinesIn sumN
+  stations-length k = length-lines k (stationWordsIn coordinate corrections numbers unknowns m n) ∙ sevens k
+    where
+      sevens : (k : ℕ) → sumN k (λ s. length (stationWordsIn coordinate corrections numbers unknowns m n s)) ≡ 7 * k
+      sevens zero = omega arith
+      sevens (suc k) = omega (arith, sevens k, station-length coordinate corrections numbers unknowns m n k)
+
+  module _ (places : List Place) where
+    pub records-none : recordLinesIn places 0 ≡ []
+    unfolding recordLinesIn
+    records-none = lines-zero (recordLineIn places)
+
+    pub records-more : (k : ℕ) → recordLinesIn places (k + 1)
+        ≡ recordLinesIn places k ++ recordWordsIn numbers unknowns m n k (recordAt places k) (residualsIn coordinate corrections (recordAt places k))
+    unfolding recordLinesIn recordLineIn
+    records-more k = lines-+1 k (recordLineIn places)
+
+    pub records-length : (k : ℕ) → length (recordLinesIn places k) ≡ sumN k (λ p. wordsOf (recordAt places p))
+    unfolding recordLinesIn recordLineIn
+    records-length k =
+        length-lines k (recordLineIn places)
+        ∙ sumN-ext k (λ p h. record-length numbers unknowns m n p (recordAt places p) (residualsIn coordinate corrections (recordAt places p)))
+
+    -- room for all leaves room for the next
+    pub records-room : (from at long k : ℕ) → from + sumN 256 (λ p. wordsOf (recordAt places p)) ≤ long → at ≡ from + length (recordLinesIn places k) → k < 256
+        → at + wordsOf (recordAt places k) ≤ long
+    records-room from at long k h e l =
+        omega (arith, records-length k, sumN-suc k (λ p. wordsOf (recordAt places p)), sumN-first (suc k) 256 (λ p. wordsOf (recordAt places p)) l)
+
+-- ════ over the tables of a station list they are the sheet's
+module _ (stations : List Station) (x m : List ℤ) where
+  adjusted-in : (q : ℕ) → q < 96 → getD (coordinates stations) q (pos 0) +ℤ getD (correctionsOf stations x) q (pos 0) ≡ adjusted stations x q
+  unfolding adjusted
+  adjusted-in q h = ap₂ _+ℤ_ (getD-tabulate 96 (coordinate stations) q (pos 0) h) (getD-tabulate 96 (correction stations x) q (pos 0) h)
+
+  station-in : (s : ℕ) → s < 32
+      → stationWordsIn (coordinates stations) (correctionsOf stations x) (numbersOf stations) (unknownsOf stations) m (unknownCount stations) s ≡ stationWords stations x m s
+  unfolding stationWordsIn stationWords
+  station-in s h =
+      let e : s * 3 < 96 = omega arith in let n : s * 3 + 1 < 96 = omega arith in let u : s * 3 + 2 < 96 = omega arith in
+      rw (
+        adjusted-in (s * 3) e,
+        adjusted-in (s * 3 + 1) n,
+        adjusted-in (s * 3 + 2) u,
+        covariance-in stations m (s * 3) (s * 3) e e,
+        covariance-in stations m (s * 3 + 1) (s * 3 + 1) n n,
+        covariance-in stations m (s * 3 + 2) (s * 3 + 2) u u,
+      )
+
+  verdict-in : (r : Record) → fromOf r < 32 → toOf r < 32 → (a : ℕ) → a < 3
+      → verdictIn (numbersOf stations) (unknownsOf stations) m (unknownCount stations) r a (residual stations x r a) ≡ verdictAt stations x m r a
+  unfolding verdictIn verdictAt residualVariance
+  verdict-in r f t a h = rw (difference-in stations m r f t a h)
+
+  record-in : (p : ℕ) (r : Record) → fromOf r < 32 → toOf r < 32
+      → recordWordsIn (numbersOf stations) (unknownsOf stations) m (unknownCount stations) p r (residualsIn (coordinates stations) (correctionsOf stations x) r)
+      ≡ recordWords stations x m p r
+  unfolding recordWordsIn recordWords
+  record-in p Empty f t = refl
+  record-in p (baseline b) f t =
+      rw (
+        residual-in stations x (baseline b) f t 0 (lit< tt),
+        residual-in stations x (baseline b) f t 1 (lit< tt),
+        residual-in stations x (baseline b) f t 2 (lit< tt),
+        verdict-in (baseline b) f t 0 (lit< tt),
+        verdict-in (baseline b) f t 1 (lit< tt),
+        verdict-in (baseline b) f t 2 (lit< tt),
+      )
+  record-in p (height h) f t = rw (residual-in stations x (height h) f t 2 (lit< tt), verdict-in (height h) f t 2 (lit< tt))
+
+  station-lines : (k : ℕ) → stationLines stations x m k ≡ lines k (stationWords stations x m)
+  unfolding stationLines lines
+  station-lines zero = refl
+  station-lines (suc k) = ap (λ (l : List ℤ). l ++ stationWords stations x m k) (station-lines k)
+
+  record-lines : (places : List Place) (k : ℕ) → recordLines stations x m places k ≡ lines k (λ p. recordWords stations x m p (recordAt places p))
+  unfolding recordLines lines
+  record-lines places zero = refl
+  record-lines places (suc k) = ap (λ (l : List ℤ). l ++ recordWords stations x m k (recordAt places k)) (record-lines places k)
+
+  pub stations-in : (k : ℕ) → k ≤ 32
+      → stationLinesIn (coordinates stations) (correctionsOf stations x) (numbersOf stations) (unknownsOf stations) m (unknownCount stations) k ≡ stationLines stations x m k
+  unfolding stationLinesIn
+  stations-in k h = lines-ext k _ (stationWords stations x m) (λ s l. station-in s (omega arith)) ∙ sym (station-lines k)
+
+  pub records-in : (places : List Place) → ((p : ℕ) → p < 256 → (fromOf (recordAt places p) < 32) × (toOf (recordAt places p) < 32))
+      → recordLinesIn (coordinates stations) (correctionsOf stations x) (numbersOf stations) (unknownsOf stations) m (unknownCount stations) places 256 ≡ recordLines stations x m places 256
+  unfolding recordLinesIn recordLineIn
+  records-in places h =
+      lines-ext 256 _ (λ p. recordWords stations x m p (recordAt places p)) (λ p l. record-in p (recordAt places p) (h p l .0) (h p l .1)) ∙ sym (record-lines places 256)

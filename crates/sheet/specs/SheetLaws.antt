@@ -1,0 +1,93 @@
+-- The sheet as it is written part by part, and its length. Assumes nothing.
+use Prim.Native.Nat.{ℕ, zero, suc, _+_, _*_, _<_, _≤_}
+use mathlib.Core.Path.{_≡_, refl, sym, ap, _∙_, subst}
+use mathlib.Core.List.{List, [], _∷_, _++_}
+use native.Mathlib.Omega.{arith}
+use lib.ListN.{length, drop, length-append}
+use lib.IntN.{ℤ, pos}
+use Rattle.integers.specs.Sums.{sumN, sumN-suc}
+use Rattle.network.specs.Stations.{unknownCount}
+use Rattle.network.specs.Records.{recordAt}
+use Rattle.network.specs.declared.Station.{Station}
+use Rattle.network.specs.declared.Network.{Network}
+use Rattle.network.specs.declared.Place.{Place}
+use Rattle.network.specs.declared.Record.{Record}
+use Rattle.network.specs.declared.Record.the-variants.{Empty, Baseline as baseline, Height as height}
+use Rattle.sheet.specs.Residuals.{recordCount, T, D}
+use Rattle.sheet.specs.Verdicts.{verdictWord, globalVerdict}
+use Rattle.sheet.specs.Sheet.{stationWords, stationLines, recordWords, recordLines, globalWords, sheetWords, wordsOf, room}
+use Rattle.sheet.specs.Written.{written, written-then, written-front}
+
+-- ════ lengths
+station-length : (stations : List Station) (x m : List ℤ) (s : ℕ) → length (stationWords stations x m s) ≡ 7
+unfolding stationWords
+station-length stations x m s = refl
+
+record-length : (stations : List Station) (x m : List ℤ) (p : ℕ) (r : Record) → length (recordWords stations x m p r) ≡ wordsOf r
+unfolding recordWords wordsOf
+record-length stations x m p Empty = refl
+record-length stations x m p (baseline b) = refl
+record-length stations x m p (height h) = refl
+
+module _ (stations : List Station) (x m : List ℤ) where
+  pub stations-long : (k : ℕ) → length (stationLines stations x m k) ≡ 7 * k
+  unfolding stationLines
+  stations-long zero = omega arith
+  stations-long (suc k) =
+      omega (arith, length-append (stationLines stations x m k) (stationWords stations x m k), stations-long k, station-length stations x m k)
+
+  pub records-long : (places : List Place) (k : ℕ) → length (recordLines stations x m places k) ≡ sumN k (λ p. wordsOf (recordAt places p))
+  unfolding recordLines sumN
+  records-long places zero = refl
+  records-long places (suc k) =
+      omega (
+        arith,
+        length-append (recordLines stations x m places k) (recordWords stations x m k (recordAt places k)),
+        records-long places k,
+        record-length stations x m k (recordAt places k),
+      )
+
+-- ════ four parts, one after the other
+module _ (H S R G : List ℤ) where
+  pub parts-length : length (H ++ S ++ R ++ G) ≡ length H + length S + length R + length G
+  parts-length = omega (arith, length-append (H ++ S ++ R) G, length-append (H ++ S) R, length-append H S)
+
+  pub parts-written : (l a b c d : List ℤ) (at next : ℕ)
+      → a ≡ written l 0 H → b ≡ written a (length H) S → at ≡ length H + length S → c ≡ written b at R → next ≡ at + length R → d ≡ written c next G
+      → length (H ++ S ++ R ++ G) ≤ length l → d ≡ (H ++ S ++ R ++ G) ++ drop (length (H ++ S ++ R ++ G)) l
+  parts-written l a b c d at next ea eb eat ec en ed h =
+      let zero-first : 0 + length H ≡ length H = omega arith in
+      let p : b ≡ written l 0 (H ++ S) = eb ∙ (λ k. written (ea k) (sym zero-first k) S) ∙ written-then l 0 H S in
+      let i : at ≡ 0 + length (H ++ S) = omega (arith, length-append H S) in
+      let q : c ≡ written l 0 (H ++ S ++ R) = ec ∙ (λ k. written (p k) (i k) R) ∙ written-then l 0 (H ++ S) R in
+      let j : next ≡ 0 + length (H ++ S ++ R) = omega (arith, length-append H S, length-append (H ++ S) R) in
+      let r : d ≡ written l 0 (H ++ S ++ R ++ G) = ed ∙ (λ k. written (q k) (j k) G) ∙ written-then l 0 (H ++ S ++ R) G in
+      r ∙ written-front l (H ++ S ++ R ++ G) h
+
+global-long : (stations : List Station) (places : List Place) (x : List ℤ) → length (globalWords stations places x) ≡ 3
+unfolding globalWords
+global-long stations places x = refl
+
+module _ (net : Network) (places : List Place) (x m : List ℤ) where
+  -- the sheet takes its room
+  pub sheet-length : length (sheetWords net places x m) ≡ room net places
+  unfolding sheetWords room
+  sheet-length =
+      parts-length (pos (recordCount places) ∷ pos (unknownCount (net .stations)) ∷ []) (stationLines (net .stations) x m (net .count)) (recordLines (net .stations) x m places 256) (globalWords (net .stations) places x)
+      ∙ rw (stations-long (net .stations) x m (net .count), records-long (net .stations) x m places 256, global-long (net .stations) places x) (omega arith)
+
+  pub sheet-written : (l a b c d : List ℤ) (at next : ℕ)
+      → a ≡ written l 0 (pos (recordCount places) ∷ pos (unknownCount (net .stations)) ∷ [])
+      → b ≡ written a 2 (stationLines (net .stations) x m (net .count))
+      → at ≡ 2 + 7 * net .count
+      → c ≡ written b at (recordLines (net .stations) x m places 256)
+      → next ≡ at + sumN 256 (λ p. wordsOf (recordAt places p))
+      → d ≡ written c next (globalWords (net .stations) places x)
+      → room net places ≤ length l → d ≡ sheetWords net places x m ++ drop (room net places) l
+  unfolding sheetWords
+  sheet-written l a b c d at next ea eb eat ec en ed h =
+      let n : length (sheetWords net places x m) ≡ room net places = sheet-length in
+      parts-written (pos (recordCount places) ∷ pos (unknownCount (net .stations)) ∷ []) (stationLines (net .stations) x m (net .count)) (recordLines (net .stations) x m places 256) (globalWords (net .stations) places x)
+      l a b c d at next ea eb (eat ∙ ap (λ (k : ℕ). 2 + k) (sym (stations-long (net .stations) x m (net .count)))) ec
+      (en ∙ ap (λ (k : ℕ). at + k) (sym (records-long (net .stations) x m places 256))) ed (subst (λ (k : ℕ). k ≤ length l) (sym n) h)
+      ∙ ap (λ (k : ℕ). sheetWords net places x m ++ drop k l) n
