@@ -1,0 +1,61 @@
+use mathlib.Core.Path.{_≡_}
+use mathlib.Core.Bool.{true}
+use Rattle.book.specs.Book.{sound}
+use borrow.Author.Needs.{needs}
+use Rattle.book_runs.proofs.series.Statement.{statement}
+use Rattle.book_runs.proofs.series.Tie as tie
+use Rattle.book_runs.proofs.series.Reads as reads
+use Rattle.book_runs.proofs.series.Lts as lts
+use Rattle.book_runs.proofs.accepted_more.Reads as accepted-more-reads
+use Rattle.book_runs.proofs.call.Reads as call-reads
+use Rattle.book_runs.proofs.samples.level.Reads as level-reads
+use Rattle.words.proofs.to_signed.Reads as to-signed-reads
+
+abbrev Inv-loop : tie.InvT-loop
+Inv-loop kind n state₀ accepted₀ left₀ state accepted left = sound state ≡ true
+
+abbrev μ-loop : tie.MeasureT-loop
+μ-loop kind n state₀ accepted₀ left₀ state accepted left = left
+
+loop-holds : tie.Need-loop-holds Inv-loop μ-loop
+loop-holds c = search needs
+
+to-signed-requires : tie.Need-to-signed-requires Inv-loop μ-loop
+to-signed-requires c κs = search needs
+
+level-requires : tie.Need-level-requires Inv-loop μ-loop
+level-requires c κs = search needs
+
+call-requires : tie.Need-call-requires Inv-loop μ-loop
+call-requires c κs = search needs
+
+accepted-more-requires : tie.Need-accepted-more-requires Inv-loop μ-loop
+accepted-more-requires c κs = search needs
+
+sub-left : tie.Need-sub-left Inv-loop μ-loop
+sub-left c = search needs
+
+loop-less : tie.Need-loop-less Inv-loop μ-loop
+loop-less c = search needs
+
+loop-again : tie.Need-loop-again Inv-loop μ-loop
+loop-again c = search needs
+
+returns : tie.Need-returns Inv-loop μ-loop
+returns c = search needs
+
+pub series-spec : {M : Type 1} → statement M
+series-spec =
+    tie.close
+    (tie.spec
+    Inv-loop
+    μ-loop
+    loop-holds
+    to-signed-requires
+    level-requires
+    call-requires
+    accepted-more-requires
+    sub-left
+    loop-less
+    loop-again
+    returns)

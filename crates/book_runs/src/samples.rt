@@ -1,0 +1,143 @@
+// Random calls from a fixed seed, out of range now and then, so that every refusal comes up that can.
+use network::Baseline;
+use network::Level;
+use network::Record;
+ghost use Prim.Native.Nat.{_<_};
+
+// A known station, three free ones and two height ones.
+pub fn list() -> [i64; 24] {
+    [
+        1,
+        0,
+        0,
+        100000,
+        2,
+        0,
+        0,
+        101000,
+        2,
+        500,
+        300,
+        100500,
+        2,
+        0,
+        1000,
+        100000,
+        3,
+        0,
+        0,
+        101000,
+        3,
+        700,
+        0,
+        99000,
+    ]
+}
+
+// A linear congruential generator.
+pub fn next(s: u64) -> u64
+    ensures { λ r. ⌜ r < 2147483647 ⌝ }
+{
+    (s % 2147483647) * 16807 % 2147483647
+}
+
+// Of ten calls four add, three replace, one strikes and two undo.
+pub fn kind(s: u64) -> usize {
+    let d = s / 7 % 10;
+    if d < 4 {
+        return 0;
+    }
+    if d < 7 {
+        return 1;
+    }
+    if d < 8 { 2 } else { 3 }
+}
+
+// low to low + n - 1.
+fn above(s: u64, n: u64, low: u64) -> i64
+    requires { ⌜ (0 < n) × (n < 1000000) × (low < 1000000) ⌝ }
+{
+    words::to_signed(s % n + low)
+}
+
+// -less to n - less - 1.
+fn around(s: u64, n: u64, less: u64) -> i64
+    requires { ⌜ 0 < n ⌝ }
+{
+    let v = s % n;
+    if v < less {
+        let t = less - v;
+        return words::to_signed(18446744073709551615 - (t - 1));
+    }
+    words::to_signed(v - less)
+}
+
+// Mostly 0 to 60, now and then 250 to 259.
+pub fn place(s: u64) -> i64 {
+    if s % 11 == 0 {
+        return above(s / 11, 10, 250);
+    }
+    above(s / 11, 61, 0)
+}
+
+pub fn level() -> Record {
+    Record::Height(Level {
+        from: 1,
+        to: 2,
+        up: 1000,
+        weight: 100,
+    })
+}
+
+fn height(s: u64) -> Record {
+    let from = above(s, 8, 0);
+    let to = above(s / 8, 7, 1);
+    let up = around(s / 100, 104000, 1000);
+    let weight = above(s / 3000, 10100, 0);
+    Record::Height(Level {
+        from,
+        to,
+        up,
+        weight,
+    })
+}
+
+fn baseline(s: u64) -> Record {
+    let from = above(s, 6, 1);
+    let to = above(s / 6, 7, 0);
+    let east = above(s / 40, 101000, 0);
+    let north = around(s / 50, 3000, 1500);
+    let up = above(s / 60, 5000, 0);
+    let ee = above(s / 70, 200, 90);
+    let en = around(s / 80, 240, 120);
+    let eu = around(s / 90, 60, 30);
+    let nn = above(s / 110, 300, 80);
+    let nu = around(s / 130, 80, 40);
+    let uu = above(s / 170, 400, 70);
+    Record::Baseline(Baseline {
+        from,
+        to,
+        east,
+        north,
+        up,
+        ee,
+        en,
+        eu,
+        nn,
+        nu,
+        uu,
+    })
+}
+
+pub fn entry(s: u64) -> Record {
+    let d = s % 50;
+    if d == 0 {
+        return Record::Empty;
+    }
+    if d < 25 {
+        let r = height(s / 50);
+        return r;
+    }
+    let r = baseline(s / 50);
+    r
+}

@@ -1,0 +1,100 @@
+-- What a sound book and an acceptance give: the ranges that the sheet's code asks for, and that 9 never comes.
+use Prim.Native.Nat.{ℕ, _*_, _≤_, _^_}
+use mathlib.Core.Path.{_≡_, refl, sym, ap, _∙_}
+use mathlib.Core.Bool.{Bool, true, cond}
+use mathlib.Core.List.{List, _++_}
+use borrow.Author.Tests.{le-leb, leb-true}
+use lib.Dec.{leb}
+use lib.ListN.{length, drop}
+use lib.IntN.{ℤ, natAbs}
+use Rattle.words.specs.Bools.{and-both, and-right}
+use Rattle.network.specs.Stations.{unknownCount}
+use Rattle.normals.specs.Sound.{Sound}
+use Rattle.normals.specs.Sizes.{never-9}
+use Rattle.normals.specs.Formulas.{matrixOf, rightOf, entriesFit}
+use Rattle.acceptance.specs.Tests.{lengthsFit}
+use Rattle.acceptance.specs.JudgeLaws.{Fit, lengths-of, corrections-small, inverse-small}
+use Rattle.acceptance.specs.Judge.{judge}
+use Rattle.acceptance.specs.Exactly.{answer, fit-of, accepted-all}
+use Rattle.acceptance.specs.declared.Answer.{Answer}
+use Rattle.acceptance.specs.declared.Answer.the-variants.{Accepted, Refused, Untied}
+use Rattle.book.specs.declared.Book.{Book}
+use Rattle.book.specs.Sound as Parts
+use Rattle.sheet.specs.Residuals.{T}
+use Rattle.sheet.specs.Sheet.{sheetWords, room}
+use Rattle.sheet.specs.Ranges.{Solved, Inverse}
+use Rattle.sheet.specs.Totals.{T-fits}
+use Rattle.checks.specs.Checks.{sizesFit, thenNine, checked, hasRoom, onAcceptance, sheetAfter}
+
+room-of-test : (n : ℕ) (x m : List ℤ) (r : Bool) → lengthsFit n x m r ≡ true → r ≡ true
+unfolding lengthsFit
+room-of-test n x m r e = and-right _ r e
+
+module _ (b : Book) (g : Parts.Sound b) where
+  pub rules : Sound (b .network) (b .places)
+  rules = record { network = g .network; each = λ p h. g .records p }
+
+  -- N and u are those of the records
+  pub matrix-is : b .normals .matrix ≡ matrixOf (b .network .stations) (b .places)
+  matrix-is = ap (λ (n : Rattle.normals.specs.declared.Normals.Normals). n .matrix) (g .normals)
+
+  pub right-is : b .normals .right ≡ rightOf (b .network .stations) (b .places)
+  right-is = ap (λ (n : Rattle.normals.specs.declared.Normals.Normals). n .right) (g .normals)
+
+  pub fit : Fit (b .network) (b .places) (b .normals .matrix) (b .normals .right)
+  fit = rw (matrix-is, right-is) (fit-of (b .network) (b .places) rules)
+
+  module _ (x m : List ℤ) (r : Bool) where
+    -- the answer of `accept` on the book's own N and u
+    pub judge-is : judge (b .network) (b .places) (b .normals .matrix) (b .normals .right) x m r ≡ answer (b .network) (b .places) x m r
+    unfolding answer
+    judge-is = rw (matrix-is, right-is)
+
+    module _ (e : answer (b .network) (b .places) x m r ≡ Accepted) where
+      pub solved : Solved (b .network) (b .places) x
+      solved =
+          let h = accepted-all (b .network) (b .places) rules x m r e in
+          record {
+            moved = record { network = g .network; corrections = record { long = lengths-of _ x m r (h .first) .0; bound = corrections-small x (h .third) } };
+            records = λ p l. g .records p;
+          }
+
+      pub inverse : Inverse (b .network) m
+      inverse =
+          let h = accepted-all (b .network) (b .places) rules x m r e in
+          record { long = lengths-of _ x m r (h .first) .1; bound = inverse-small m (h .fourth) }
+
+      pub has-room : r ≡ true
+      has-room = room-of-test _ x m r (accepted-all (b .network) (b .places) rules x m r e .first)
+
+      pub sizes-fit : sizesFit (b .network) (b .places) x ≡ true
+      unfolding sizesFit
+      sizes-fit = and-both _ _ (never-9 (b .network) (b .places) rules) (le-leb _ _ (T-fits solved))
+
+    -- 9 never comes
+    pub checked-is : checked b x m r ≡ answer (b .network) (b .places) x m r
+    unfolding checked thenNine
+    checked-is = go (answer (b .network) (b .places) x m r) refl
+      where
+        go : (a : Answer) → answer (b .network) (b .places) x m r ≡ a → thenNine (answer (b .network) (b .places) x m r) (sizesFit (b .network) (b .places) x) ≡ answer (b .network) (b .places) x m r
+        go Accepted e = rw (e, sizes-fit e)
+        go (Refused k) e = rw e
+        go (Untied k) e = rw e
+
+  -- the words afterwards, by the answer
+  module _ (x m sheet : List ℤ) where
+    pub after-accepted : answer (b .network) (b .places) x m (hasRoom b sheet) ≡ Accepted
+        → sheetWords (b .network) (b .places) x m ++ drop (room (b .network) (b .places)) sheet ≡ sheetAfter b x m sheet
+    unfolding sheetAfter onAcceptance
+    after-accepted e = rw (checked-is x m (hasRoom b sheet), e)
+
+    pub after-refused : (k : ℕ) → answer (b .network) (b .places) x m (hasRoom b sheet) ≡ Refused k → sheet ≡ sheetAfter b x m sheet
+    unfolding sheetAfter onAcceptance
+    after-refused k e = rw (checked-is x m (hasRoom b sheet), e)
+
+    pub after-untied : (k : ℕ) → answer (b .network) (b .places) x m (hasRoom b sheet) ≡ Untied k → sheet ≡ sheetAfter b x m sheet
+    unfolding sheetAfter onAcceptance
+    after-untied k e = rw (checked-is x m (hasRoom b sheet), e)
+
+    pub room-enough : answer (b .network) (b .places) x m (hasRoom b sheet) ≡ Accepted → room (b .network) (b .places) ≤ length sheet
+    room-enough e = leb-true _ _ (has-room x m (hasRoom b sheet) e)

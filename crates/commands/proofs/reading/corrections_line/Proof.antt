@@ -1,0 +1,46 @@
+use Rattle.commands.specs.CommandLaws.{counted-none, counted-some}
+use Rattle.commands.specs.declared.Command.the-variants.{Corrections}
+use borrow.Author.Needs.{needs}
+use Rattle.commands.proofs.reading.corrections_line.Statement.{statement}
+use Rattle.commands.proofs.reading.corrections_line.Tie as tie
+use Rattle.commands.proofs.reading.corrections_line.Reads as reads
+use Rattle.commands.proofs.reading.corrections_line.Lts as lts
+use Rattle.text.proofs.read_rest.Reads as read-rest-reads
+
+read-rest-requires : tie.Need-read-rest-requires
+read-rest-requires c κs = search needs
+
+enum-told : tie.Need-enum-told
+enum-told c = search needs
+
+enum-known-n : tie.Need-enum-known-n
+enum-known-n c = search needs
+
+same-length : tie.Need-same-length
+same-length c = search needs
+
+returns : tie.Need-returns
+returns c =
+    let r = c .before .before .before in
+    (counted-none Corrections _ _ (r .read-rest .ensures .counts) (c .enum-told .given .1), r .read-rest .ensures .stores)
+
+same-length-2 : tie.Need-same-length-2
+same-length-2 c = search needs
+
+returns-2 : tie.Need-returns-2
+returns-2 c =
+    let n = c .before in
+    let r = n .before .before .before in
+    (counted-some Corrections _ _ (r .read-rest .ensures .counts) _ (n .n .given .1), r .read-rest .ensures .stores)
+
+pub corrections-line-spec : {M : Type 1} → statement M
+corrections-line-spec =
+    tie.close
+    (tie.spec
+    read-rest-requires
+    enum-told
+    enum-known-n
+    same-length
+    returns
+    same-length-2
+    returns-2)

@@ -1,0 +1,48 @@
+use Rattle.commands.specs.CommandLaws.{it-is, it-is-not}
+use Rattle.commands.specs.Commands.{entryOf}
+use mathlib.Core.Path.{sym, _∙_}
+use borrow.Author.Needs.{needs}
+use Rattle.commands.proofs.reading.entry_at.Statement.{statement}
+use Rattle.commands.proofs.reading.entry_at.Tie as tie
+use Rattle.commands.proofs.reading.entry_at.Reads as reads
+use Rattle.commands.proofs.reading.entry_at.Lts as lts
+use Rattle.commands.proofs.reading.baseline_entry.Reads as baseline-entry-reads
+use Rattle.commands.proofs.reading.level_entry.Reads as level-entry-reads
+use Rattle.text.proofs.letter_at.Reads as letter-at-reads
+
+letter-at-requires : tie.Need-letter-at-requires
+letter-at-requires c κs = search needs
+
+level-entry-requires : tie.Need-level-entry-requires
+level-entry-requires c κs = search needs
+
+returns : tie.Need-returns
+unfolding entryOf
+returns c = let l = c .before .before .letter-at .ensures in rw (it-is l 72 (c .before .if1 .taken)) (c .level-entry .ensures)
+
+baseline-entry-requires : tie.Need-baseline-entry-requires
+baseline-entry-requires c κs = search needs
+
+returns-2 : tie.Need-returns-2
+unfolding entryOf
+returns-2 c =
+    let t = c .before in
+    let l = t .before .before .letter-at .ensures in
+    rw (it-is-not l 72 (t .before .if1 .left), it-is l 66 (t .if2 .taken)) (c .baseline-entry .ensures)
+
+returns-3 : tie.Need-returns-3
+unfolding entryOf
+returns-3 c =
+    let l = c .before .before .letter-at .ensures in
+    rw (it-is-not l 72 (c .before .if1 .left), it-is-not l 66 (c .if2 .left))
+
+pub entry-at-spec : {M : Type 1} → statement M
+entry-at-spec =
+    tie.close
+    (tie.spec
+    letter-at-requires
+    level-entry-requires
+    returns
+    baseline-entry-requires
+    returns-2
+    returns-3)

@@ -1,0 +1,71 @@
+use Rattle.commands.specs.CommandLaws.{it-is, it-is-not}
+use Rattle.commands.specs.Commands.{otherOf, added, entryOf}
+use Rattle.text.specs.Fields.{restFields}
+use Prim.Native.Nat.{ℕ}
+use mathlib.Core.Path.{refl, sym, ap, _∙_}
+use borrow.Author.Needs.{needs}
+use Rattle.commands.proofs.reading.other_line.Statement.{statement}
+use Rattle.commands.proofs.reading.other_line.Tie as tie
+use Rattle.commands.proofs.reading.other_line.Reads as reads
+use Rattle.commands.proofs.reading.other_line.Lts as lts
+use Rattle.commands.proofs.reading.add.Reads as add-reads
+use Rattle.commands.proofs.reading.entry_at.Reads as entry-at-reads
+use Rattle.commands.proofs.reading.replace_line.Reads as replace-line-reads
+use Rattle.commands.proofs.reading.strike_line.Reads as strike-line-reads
+use Rattle.commands.proofs.reading.undo_line.Reads as undo-line-reads
+
+replace-line-requires : tie.Need-replace-line-requires
+replace-line-requires c κs = search needs
+
+returns : tie.Need-returns
+unfolding otherOf
+returns c = rw (it-is refl 82 (c .before .if1 .taken)) (c .replace-line .ensures)
+
+strike-line-requires : tie.Need-strike-line-requires
+strike-line-requires c κs = search needs
+
+returns-2 : tie.Need-returns-2
+unfolding otherOf
+returns-2 c =
+    let t = c .before in
+    rw (it-is-not refl 82 (t .before .if1 .left), it-is refl 68 (t .if2 .taken)) (c .strike-line .ensures)
+
+undo-line-requires : tie.Need-undo-line-requires
+undo-line-requires c κs = search needs
+
+returns-3 : tie.Need-returns-3
+unfolding otherOf
+returns-3 c =
+    let t = c .before in
+    let u = t .before in
+    rw (it-is-not refl 82 (u .before .if1 .left), it-is-not refl 68 (u .if2 .left), it-is refl 85 (t .if3 .taken)) (c .undo-line .ensures)
+
+entry-at-requires : tie.Need-entry-at-requires
+entry-at-requires c κs = search needs
+
+add-requires : tie.Need-add-requires
+add-requires c κs = search needs
+
+returns-4 : tie.Need-returns-4
+unfolding otherOf
+returns-4 c =
+    let e = c .before in
+    let t = e .before in
+    let u = t .before in
+    let s = u .before .before .before in
+    rw (it-is-not refl 82 (u .before .if1 .left), it-is-not refl 68 (u .if2 .left), it-is-not refl 85 (t .if3 .left))
+    (c .add .ensures ∙ ap added (e .entry-at .ensures ∙ ap (λ (l : ℕ). entryOf l (restFields (s .args .line .now))) (sym (s .pre))))
+
+pub other-line-spec : {M : Type 1} → statement M
+other-line-spec =
+    tie.close
+    (tie.spec
+    replace-line-requires
+    returns
+    strike-line-requires
+    returns-2
+    undo-line-requires
+    returns-3
+    entry-at-requires
+    add-requires
+    returns-4)

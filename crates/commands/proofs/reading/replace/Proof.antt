@@ -1,0 +1,23 @@
+use Rattle.commands.specs.CommandLaws.{replaced-of, replaced-none}
+use mir.Facts.{toZ-ofZ}
+use mir.Syntax.{w64}
+use borrow.Author.Needs.{needs}
+use Rattle.commands.proofs.reading.replace.Statement.{statement}
+use Rattle.commands.proofs.reading.replace.Tie as tie
+use Rattle.commands.proofs.reading.replace.Reads as reads
+use Rattle.commands.proofs.reading.replace.Lts as lts
+
+enum-known-e : tie.Need-enum-known-e
+enum-known-e c = search needs
+
+enum-told : tie.Need-enum-told
+enum-told c = search needs
+
+returns : tie.Need-returns
+returns c = replaced-of _ _ _ _ (c .before .e .given .1) (toZ-ofZ {w = w64} (search needs))
+
+returns-2 : tie.Need-returns-2
+returns-2 c = replaced-none _ (c .enum-told .given .1)
+
+pub replace-spec : {M : Type 1} → statement M
+replace-spec = tie.close (tie.spec enum-known-e enum-told returns returns-2)

@@ -1,0 +1,16 @@
+use Rattle.commands.specs.SheetLaws.{seven-words, three-words}
+use mathlib.Core.Path.{sym}
+use borrow.Author.Needs.{needs}
+use Rattle.commands.proofs.sheet.record_words.Statement.{statement}
+use Rattle.commands.proofs.sheet.record_words.Tie as tie
+use Rattle.commands.proofs.sheet.record_words.Reads as reads
+use Rattle.commands.proofs.sheet.record_words.Lts as lts
+
+returns : tie.Need-returns
+returns c = sym (seven-words _ (c .if1 .taken))
+
+returns-2 : tie.Need-returns-2
+returns-2 c = sym (three-words _ (c .if1 .left))
+
+pub record-words-spec : {M : Type 1} → statement M
+record-words-spec = tie.close (tie.spec returns returns-2)

@@ -1,0 +1,298 @@
+-- Laws of commands: numbers that were read into an array of just their count, and the cases of each line. Assumes nothing.
+use mathlib.Core.Path.{_≡_, refl, sym, ap, _∙_}
+use mathlib.Core.Bool.{Bool, true, false, cond}
+use mathlib.Core.List.{List, [], _∷_, _++_, append-nil}
+use Prim.Native.Nat.{ℕ, zero, suc, _+_, _-_, _≤_, _<_}
+use native.Mathlib.Omega.{arith}
+use native.Mathlib.Decide.{decLe}
+use lib.Dec.{leb, eqb, eqb·suc-suc}
+use lib.ListN.{length, getD, take, drop, drop-of-length-le}
+use lib.Seq.{sets, sets-eq, take-all}
+use lib.IntN.{ℤ, pos, negsuc, natAbs}
+use lib.Signed.{ltZ}
+use mir.Syntax.{w64}
+use mir.Val.{SFits, toZ, ofZ}
+use mir.Facts.{toZ-ofZ}
+use borrow.Author.Tests.{eq-eqb, ne-eqb, leb-false, ltb-true, lt-ltb, le-ltb}
+use Rattle.words.specs.Bools.{clash}
+use Rattle.words.specs.Signed.{eqZ}
+use Rattle.network.specs.declared.Kind.{Kind}
+use Rattle.network.specs.declared.Record.{Record}
+use Rattle.text.specs.Numbers.{numberOf}
+use Rattle.text.specs.Fields.{firstField, restFields, letterOf, Numbers, numbers, unreadable, numbersOf, atMost, countOf, storedIn, Stored}
+use Rattle.text.specs.FieldLaws.{first-and-rest, no-rest, some-rest, fields-more, letter-cut}
+use Rattle.text.specs.Lines.{Kept, kept}
+use Rattle.text.specs.declared.Number.{Number}
+use Rattle.text.specs.declared.Number.the-variants as number
+use Rattle.text.specs.declared.Count.{Count}
+use Rattle.text.specs.declared.Count.the-variants as count
+use Rattle.commands.specs.declared.Entry.{Entry}
+use Rattle.commands.specs.declared.Entry.the-variants as entry
+use Rattle.commands.specs.declared.Command.{Command}
+use Rattle.commands.specs.declared.Command.the-variants.{Add, Replace, Undo, Corrections, Matrix, Unreadable}
+use Rattle.commands.specs.Commands.{exactly, levelEntry, baselineEntry, entryOf, added, replaced, replaceOf, undoOf, counted, correctionsIn, matrixIn, stationWith, kindOf, inTurn, stationOf, otherOf, fieldsCommand, letterIn, commandOf, isStationLine, keptCommand, correctionsAfter, matrixAfter, Obeys}
+
+-- all of a list is stored over
+sets-all : (out vs : List ℤ) → length vs ≡ length out → sets out 0 vs ≡ vs
+sets-all out vs e =
+    sets-eq vs out 0 (omega arith)
+    ∙ ap (λ (l : List ℤ). vs ++ l) (drop-of-length-le out {i = 0 + length vs} (omega arith))
+    ∙ append-nil vs
+
+module _ {A : Type 0} (k : ℕ) (other : A) (f : (ℕ → ℤ) → A) (out : List ℤ) (ns : Numbers) (r : Count) (after : List ℤ) (s : Stored out (atMost k ns) r after) where
+  pub exactly-none : r ≡ count.Unreadable → other ≡ exactly k other f ns
+  unfolding exactly atMost countOf
+  exactly-none e = by ns (sym e ∙ s .counts)
+    where
+      some : (vs : List ℤ) (t : Bool) → leb (length vs) k ≡ t → count.Unreadable ≡ countOf (cond t (numbers vs) unreadable) → other ≡ cond (eqb (length vs) k) (f (λ i. getD vs i (pos 0))) other
+      some vs true h c = cc
+      some vs false h c = rw (ne-eqb (length vs) k (λ q. omega (arith, leb-false (length vs) k h)))
+
+      by : (ns : Numbers) → count.Unreadable ≡ countOf (atMost k ns) → other ≡ exactly k other f ns
+      by unreadable c = refl
+      by (numbers vs) c = some vs (leb (length vs) k) refl c
+
+  -- n of them were read: these are after's first
+  read-all : (n : ℕ) → r ≡ count.Numbers n → (vs : List ℤ) → ns ≡ numbers vs → (length vs ≡ n) × (after ≡ sets out 0 vs)
+  unfolding atMost countOf storedIn
+  read-all n e vs q = by (leb (length vs) k) (sym e ∙ s .counts ∙ ap (λ (x : Numbers). countOf (atMost k x)) q) (s .stores ∙ ap (λ (x : Numbers). storedIn out (atMost k x)) q)
+    where
+      by : (t : Bool) → count.Numbers n ≡ countOf (cond t (numbers vs) unreadable) → after ≡ storedIn out (cond t (numbers vs) unreadable) → (length vs ≡ n) × (after ≡ sets out 0 vs)
+      by true c w = (cc, w)
+      by false c w = (cc, cc)
+
+  pub exactly-other : (n : ℕ) → r ≡ count.Numbers n → (n ≡ k → ⊥) → other ≡ exactly k other f ns
+  unfolding exactly
+  exactly-other n e q = by ns (read-all n e)
+    where
+      by : (ns : Numbers) → ((vs : List ℤ) → ns ≡ numbers vs → (length vs ≡ n) × (after ≡ sets out 0 vs)) → other ≡ exactly k other f ns
+      by unreadable all = refl
+      by (numbers vs) all = rw (ne-eqb (length vs) k (λ p. q (omega (arith, all vs refl .0))))
+
+  pub exactly-all : (n : ℕ) → r ≡ count.Numbers n → n ≡ k → length out ≡ k → f (λ i. getD after i (pos 0)) ≡ exactly k other f ns
+  unfolding exactly atMost countOf
+  exactly-all n e q room = by ns (read-all n e) (sym e ∙ s .counts)
+    where
+      by :
+          (ns : Numbers) →
+          ((vs : List ℤ) → ns ≡ numbers vs → (length vs ≡ n) × (after ≡ sets out 0 vs)) →
+          count.Numbers n ≡ countOf (atMost k ns) →
+          f (λ i. getD after i (pos 0)) ≡ exactly k other f ns
+      by unreadable all c = cc
+      by (numbers vs) all c =
+          let l : length vs ≡ k = all vs refl .0 ∙ q in
+          rw (eq-eqb (length vs) k l) (ap (λ (l : List ℤ). f (λ i. getD l i (pos 0))) (all vs refl .1 ∙ sets-all out vs (omega arith)))
+
+-- ════ a test of a letter
+module _ {letter l : ℕ} (is : letter ≡ l) (k : ℕ) where
+  pub it-is : letter ≡ k → eqb l k ≡ true
+  it-is e = eq-eqb l k (sym is ∙ e)
+
+  pub it-is-not : (letter ≡ k → ⊥) → eqb l k ≡ false
+  it-is-not q = ne-eqb l k (λ e. q (is ∙ e))
+
+-- ════ numbers as they lie in a struct
+abbrev bits : (ℕ → ℤ) → ℕ → ℤ
+bits v i = toZ w64 (ofZ w64 (v i))
+
+pub level-bits :
+    (v : ℕ → ℤ) → SFits w64 (v 0) → SFits w64 (v 1) → SFits w64 (v 2) → SFits w64 (v 3) → SFits w64 (v 4) → levelEntry (bits v) ≡ levelEntry v
+level-bits v a b c d e = rw (toZ-ofZ a, toZ-ofZ b, toZ-ofZ c, toZ-ofZ d, toZ-ofZ e)
+
+pub station-bits :
+    (k : Kind) (v : ℕ → ℤ) → SFits w64 (v 0) → SFits w64 (v 1) → SFits w64 (v 2) → stationWith k (bits v) ≡ stationWith k v
+station-bits k v a b c = rw (toZ-ofZ a, toZ-ofZ b, toZ-ofZ c)
+
+pub baseline-bits :
+    (v : ℕ → ℤ) →
+    SFits w64 (v 0) → SFits w64 (v 1) → SFits w64 (v 2) → SFits w64 (v 3) → SFits w64 (v 4) → SFits w64 (v 5) →
+    SFits w64 (v 6) → SFits w64 (v 7) → SFits w64 (v 8) → SFits w64 (v 9) → SFits w64 (v 10) → SFits w64 (v 11) →
+    baselineEntry (bits v) ≡ baselineEntry v
+baseline-bits v a b c d e f g h i j k l =
+    rw (toZ-ofZ a, toZ-ofZ b, toZ-ofZ c, toZ-ofZ d, toZ-ofZ e, toZ-ofZ f, toZ-ofZ g, toZ-ofZ h, toZ-ofZ i, toZ-ofZ j, toZ-ofZ k, toZ-ofZ l)
+
+-- ════ a record for a place
+module _ (e : Entry) where
+  pub added-of : (place p : ℤ) (r : Record) → e ≡ entry.Of place r → p ≡ place → Add p r ≡ added e
+  unfolding added
+  added-of place p r q s = rw (q, s)
+
+  pub added-none : e ≡ entry.Unreadable → Unreadable ≡ added e
+  unfolding added
+  added-none q = rw q
+
+  pub replaced-of : (place p : ℤ) (r : Record) → e ≡ entry.Of place r → p ≡ place → Replace p r ≡ replaced e
+  unfolding replaced
+  replaced-of place p r q s = rw (q, s)
+
+  pub replaced-none : e ≡ entry.Unreadable → Unreadable ≡ replaced e
+  unfolding replaced
+  replaced-none q = rw q
+
+-- ════ the fields after the first, which ends before e
+module _ (s : List ℕ) (e : ℕ) (is : e ≡ 0 + length (firstField s)) where
+  next-field : e < length s → restFields s ≡ firstField (drop (e + 1) s) ∷ restFields (drop (e + 1) s)
+  next-field h = some-rest s 0 e is h ∙ first-and-rest (drop (e + 1) s)
+
+  pub replace-none : length s ≤ e → Unreadable ≡ replaceOf (restFields s)
+  unfolding replaceOf
+  replace-none h = rw (no-rest s 0 e is h)
+
+  pub replace-some :
+      e < length s → replaced (entryOf (letterOf (firstField (drop (e + 1) s))) (restFields (drop (e + 1) s))) ≡ replaceOf (restFields s)
+  unfolding replaceOf
+  replace-some h = rw (next-field h)
+
+  pub undo-none : length s ≤ e → Undo ≡ undoOf (restFields s)
+  unfolding undoOf
+  undo-none h = rw (no-rest s 0 e is h)
+
+  pub undo-some : e < length s → Unreadable ≡ undoOf (restFields s)
+  unfolding undoOf
+  undo-some h = rw (next-field h)
+
+  module _ (read : ℕ) where
+    pub station-none : length s ≤ e → Unreadable ≡ stationOf read (restFields s)
+    unfolding stationOf
+    station-none h = rw (no-rest s 0 e is h)
+
+    -- the second field starts at i and ends before f
+    module _ (h : e < length s) (f : ℕ) (next : f ≡ e + 1 + length (firstField (drop (e + 1) s))) where
+      pub station-one : length s ≤ f → Unreadable ≡ stationOf read (restFields s)
+      unfolding stationOf
+      station-one g = rw (next-field h, no-rest s (e + 1) f next g)
+
+      both : f < length s → restFields s ≡ take (f - (e + 1)) (drop (e + 1) s) ∷ firstField (drop (f + 1) s) ∷ restFields (drop (f + 1) s)
+      both g = some-rest s 0 e is h ∙ fields-more s (e + 1) f next g ∙ rw (first-and-rest (drop (f + 1) s))
+
+      module _ (g : f < length s) (r : Number) (reads : r ≡ numberOf (take (f - (e + 1)) (drop (e + 1) s))) where
+        pub station-wrong : inTurn read r ≡ false → Unreadable ≡ stationOf read (restFields s)
+        unfolding stationOf
+        station-wrong t = rw (both g, ← reads, t)
+
+        pub station-turn :
+            inTurn read r ≡ true →
+            kindOf (letterOf (firstField (drop (f + 1) s))) (numbersOf (restFields (drop (f + 1) s))) ≡ stationOf read (restFields s)
+        unfolding stationOf
+        station-turn t = rw (both g, ← reads, t)
+
+pub turn-none : (read : ℕ) (r : Number) → r ≡ number.Unreadable → inTurn read r ≡ false
+unfolding inTurn
+turn-none read r e = rw e
+
+pub turn-is : (read : ℕ) (r : Number) (v : ℤ) (t : Bool) → r ≡ number.Value v → t ≡ eqZ v (pos (suc read)) → inTurn read r ≡ t
+unfolding inTurn
+turn-is read r v t e q = rw (e, q)
+
+-- ════ one more than `read`
+pub turn-negative : (v : ℤ) (n : ℕ) → ltZ v (pos 0) ≡ true → false ≡ eqZ v (pos (suc n))
+turn-negative (pos m) n e = let h : m < 0 = ltb-true m 0 e in absurd (omega arith)
+turn-negative (negsuc k) n e = refl
+
+pub turn-zero : (v : ℤ) (n m : ℕ) → m ≡ natAbs v → m ≡ 0 → false ≡ eqZ v (pos (suc n))
+turn-zero (pos k) n m e z = sym (ne-eqb k (suc n) (λ q. omega arith))
+turn-zero (negsuc k) n m e z = refl
+
+pub turn-size : (v : ℤ) (n m : ℕ) → ltZ v (pos 0) ≡ false → m ≡ natAbs v → (m ≡ 0 → ⊥) → eqb (m - 1) n ≡ eqZ v (pos (suc n))
+turn-size (pos zero) n m s e q = absurd (q e)
+turn-size (pos (suc k)) n m s e q = let j : m - 1 ≡ k = omega arith in rw (j, eqb·suc-suc k n)
+turn-size (negsuc k) n m s e q = clash refl s
+
+-- ════ X and M
+module _ (make : ℕ → Command) (ns : Numbers) (r : Count) (is : r ≡ countOf ns) where
+  pub counted-none : r ≡ count.Unreadable → Unreadable ≡ counted make ns
+  unfolding counted countOf
+  counted-none e = by ns (sym e ∙ is)
+    where
+      by : (ns : Numbers) → count.Unreadable ≡ countOf ns → Unreadable ≡ counted make ns
+      by unreadable c = refl
+      by (numbers vs) c = cc
+
+  pub counted-some : (n : ℕ) → r ≡ count.Numbers n → make n ≡ counted make ns
+  unfolding counted countOf
+  counted-some n e = by ns (sym e ∙ is)
+    where
+      by : (ns : Numbers) → count.Numbers n ≡ countOf ns → make n ≡ counted make ns
+      by unreadable c = cc
+      by (numbers vs) c = let k : n ≡ length vs = cc in ap make k
+
+-- ════ a line of a kind
+module _ (read : ℕ) (unopened : Bool) (line : List ℕ) (over : Bool) (x m : List ℤ) (r : Command) where
+  pub obeys-cut : over ≡ true → r ≡ Unreadable → Obeys read unopened (record { text = line; over = over }) x m r x m
+  unfolding keptCommand correctionsAfter matrixAfter
+  obeys-cut o e = record { asks = rw (o, e); corrections = rw o; matrix = rw o }
+
+  module _ (o : over ≡ false) (letter : ℕ) (is : letter ≡ letterIn line) where
+    module _ (e : letter ≡ 83) where
+      pub obeys-station : unopened ≡ true → r ≡ stationOf read (restFields line) → Obeys read unopened (record { text = line; over = over }) x m r x m
+      unfolding keptCommand correctionsAfter matrixAfter fieldsCommand
+      obeys-station u q =
+          record {
+            asks = rw (o, it-is is 83 e, u) q;
+            corrections = rw (o, it-is-not is 88 (λ w. omega arith));
+            matrix = rw (o, it-is-not is 77 (λ w. omega arith));
+          }
+
+      pub obeys-late : unopened ≡ false → r ≡ Unreadable → Obeys read unopened (record { text = line; over = over }) x m r x m
+      unfolding keptCommand correctionsAfter matrixAfter fieldsCommand
+      obeys-late u q =
+          record {
+            asks = rw (o, it-is is 83 e, u) q;
+            corrections = rw (o, it-is-not is 88 (λ w. omega arith));
+            matrix = rw (o, it-is-not is 77 (λ w. omega arith));
+          }
+
+    pub obeys-corrections :
+        (xs : List ℤ) →
+        letter ≡ 88 →
+        r ≡ counted Corrections (correctionsIn (restFields line)) →
+        xs ≡ storedIn x (correctionsIn (restFields line)) →
+        Obeys read unopened (record { text = line; over = over }) x m r xs m
+    unfolding keptCommand correctionsAfter matrixAfter fieldsCommand
+    obeys-corrections xs e q w =
+        record {
+          asks = rw (o, it-is-not is 83 (λ w. omega arith), it-is is 88 e) q;
+          corrections = rw (o, it-is is 88 e) w;
+          matrix = rw (o, it-is-not is 77 (λ w. omega arith));
+        }
+
+    pub obeys-matrix :
+        (ms : List ℤ) →
+        letter ≡ 77 →
+        r ≡ counted Matrix (matrixIn (restFields line)) →
+        ms ≡ storedIn m (matrixIn (restFields line)) →
+        Obeys read unopened (record { text = line; over = over }) x m r x ms
+    unfolding keptCommand correctionsAfter matrixAfter fieldsCommand
+    obeys-matrix ms e q w =
+        record {
+          asks = rw (o, it-is-not is 83 (λ w. omega arith), it-is-not is 88 (λ w. omega arith), it-is is 77 e) q;
+          corrections = rw (o, it-is-not is 88 (λ w. omega arith));
+          matrix = rw (o, it-is is 77 e) w;
+        }
+
+    pub obeys-other :
+        (letter ≡ 83 → ⊥) →
+        (letter ≡ 88 → ⊥) →
+        (letter ≡ 77 → ⊥) →
+        r ≡ otherOf letter (restFields line) →
+        Obeys read unopened (record { text = line; over = over }) x m r x m
+    unfolding keptCommand correctionsAfter matrixAfter fieldsCommand
+    obeys-other s c t q =
+        record {
+          asks = rw (o, it-is-not is 83 s, it-is-not is 88 c, it-is-not is 77 t) (q ∙ rw is);
+          corrections = rw (o, it-is-not is 88 c);
+          matrix = rw (o, it-is-not is 77 t);
+        }
+
+-- ════ what is kept of a line asks what the line does
+pub kept-command : (read : ℕ) (unopened : Bool) (line : List ℕ) → keptCommand read unopened (kept 50000 line) ≡ commandOf read unopened line
+unfolding keptCommand commandOf
+kept-command read unopened line = by (decLe (length line) 50000)
+  where
+    by : Dec (length line ≤ 50000) → keptCommand read unopened (kept 50000 line) ≡ commandOf read unopened line
+    by (yes h) = rw (le-ltb 50000 (length line) h, take-all 50000 line h)
+    by (no h) = rw (lt-ltb 50000 (length line) (omega arith))
+
+-- the first field of a line that was cut is still known
+pub kept-station-line : (line : List ℕ) → isStationLine (take 50000 line) ≡ isStationLine line
+kept-station-line line = ap (λ (l : ℕ). eqb l 83) (letter-cut 50000 line (omega arith))

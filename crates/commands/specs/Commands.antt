@@ -1,0 +1,147 @@
+-- A line to a command, in the words of document 01's "The night print". Letters are bytes: S 83, H 72, B 66, R 82, D 68, U 85, X 88, M 77;
+-- K 75, F 70, V 86. Assumes nothing.
+use mathlib.Core.Path.{_≡_}
+use Prim.Native.Nat.{ℕ, suc}
+use mathlib.Core.Bool.{Bool, cond, false}
+use mathlib.Core.List.{List, [], _∷_}
+use lib.Dec.{ltb, eqb}
+use lib.ListN.{length, getD}
+use lib.IntN.{ℤ, pos}
+use Rattle.words.specs.Signed.{eqZ}
+use Rattle.network.specs.declared.Kind.{Kind}
+use Rattle.network.specs.declared.Kind.the-variants as kind
+use Rattle.network.specs.declared.Record.{Record}
+use Rattle.network.specs.declared.Record.the-variants as record-of
+use Rattle.text.specs.Numbers.{numberOf}
+use Rattle.text.specs.Fields.{firstField, restFields, letterOf, Numbers, numbers, unreadable, numbersOf, atMost, storedIn}
+use Rattle.text.specs.Lines.{Kept}
+use Rattle.text.specs.declared.Number.{Number}
+use Rattle.text.specs.declared.Number.the-variants as number
+use Rattle.commands.specs.declared.Entry.{Entry}
+use Rattle.commands.specs.declared.Entry.the-variants as entry
+use Rattle.commands.specs.declared.Command.{Command}
+use Rattle.commands.specs.declared.Command.the-variants.{Station, Add, Replace, Strike, Undo, Corrections, Matrix, Unreadable}
+
+-- "A wrong number of fields … makes a line unreadable": f of just k numbers, counted from 0; else `other`
+unfoldable pub exactly : {A : Type 0} → ℕ → A → ((ℕ → ℤ) → A) → Numbers → A
+exactly k other f unreadable = other
+exactly k other f (numbers vs) = cond (eqb (length vs) k) (f (λ i. getD vs i (pos 0))) other
+
+-- ════ H and B
+-- "H: place, from, to, difference, weight"
+abbrev pub levelEntry : (ℕ → ℤ) → Entry
+levelEntry v = entry.Of (v 0) (record-of.Height (record { from = v 1; to = v 2; up = v 3; weight = v 4 }))
+
+-- "B: place, from, to, three differences, weights EE EN EU NN NU UU"
+abbrev pub baselineEntry : (ℕ → ℤ) → Entry
+baselineEntry v =
+    entry.Of (v 0)
+    (record-of.Baseline
+    (record { from = v 1; to = v 2; east = v 3; north = v 4; up = v 5; ee = v 6; en = v 7; eu = v 8; nn = v 9; nu = v 10; uu = v 11 }))
+
+-- the fields after the letter
+unfoldable pub entryOf : ℕ → List (List ℕ) → Entry
+entryOf letter fields =
+    cond (eqb letter 72) (exactly 5 entry.Unreadable levelEntry (numbersOf fields))
+    (cond (eqb letter 66) (exactly 12 entry.Unreadable baselineEntry (numbersOf fields)) entry.Unreadable)
+
+-- "H or B adds"
+unfoldable pub added : Entry → Command
+added (entry.Of place r) = Add place r
+added entry.Unreadable = Unreadable
+
+-- "R before H or B replaces"
+unfoldable pub replaced : Entry → Command
+replaced (entry.Of place r) = Replace place r
+replaced entry.Unreadable = Unreadable
+
+unfoldable pub replaceOf : List (List ℕ) → Command
+replaceOf [] = Unreadable
+replaceOf (f ∷ fs) = replaced (entryOf (letterOf f) fs)
+
+-- ════ D, U, X and M
+-- "D and a place strikes"
+abbrev pub strikeOf : (ℕ → ℤ) → Command
+strikeOf v = Strike (v 0)
+
+-- "U undoes"
+unfoldable pub undoOf : List (List ℕ) → Command
+undoOf [] = Undo
+undoOf (f ∷ fs) = Unreadable
+
+-- "X gives the corrections, M the matrix by rows": how many there are, where they are readable
+unfoldable pub counted : (ℕ → Command) → Numbers → Command
+counted make unreadable = Unreadable
+counted make (numbers vs) = make (length vs)
+
+-- "over 48 numbers for X or 2,304 for M … makes a line unreadable"
+abbrev pub correctionsIn : List (List ℕ) → Numbers
+correctionsIn fields = atMost 48 (numbersOf fields)
+
+abbrev pub matrixIn : List (List ℕ) → Numbers
+matrixIn fields = atMost 2304 (numbersOf fields)
+
+-- ════ S: "(K known, F free, V height …)", number, kind and coordinates
+abbrev pub stationWith : Kind → (ℕ → ℤ) → Command
+stationWith k v = Station (record { kind = k; east = v 0; north = v 1; up = v 2 })
+
+-- "of another kind letter is unreadable"
+unfoldable pub kindOf : ℕ → Numbers → Command
+kindOf letter ns =
+    cond (eqb letter 75) (exactly 3 Unreadable (stationWith kind.Known) ns)
+    (cond (eqb letter 70) (exactly 3 Unreadable (stationWith kind.Free) ns)
+    (cond (eqb letter 86) (exactly 3 Unreadable (stationWith kind.Height) ns) Unreadable))
+
+-- "not numbered in turn from 1": the number is one more than there were S lines read
+unfoldable pub inTurn : ℕ → Number → Bool
+inTurn read number.Unreadable = false
+inTurn read (number.Value v) = eqZ v (pos (suc read))
+
+unfoldable pub stationOf : ℕ → List (List ℕ) → Command
+stationOf read [] = Unreadable
+stationOf read (n ∷ []) = Unreadable
+stationOf read (n ∷ k ∷ fs) = cond (inTurn read (numberOf n)) (kindOf (letterOf k) (numbersOf fs)) Unreadable
+
+-- ════ a line
+-- what the first field's letter asks of the others
+unfoldable pub otherOf : ℕ → List (List ℕ) → Command
+otherOf letter fields =
+    cond (eqb letter 82) (replaceOf fields)
+    (cond (eqb letter 68) (exactly 1 Unreadable strikeOf (numbersOf fields))
+    (cond (eqb letter 85) (undoOf fields) (added (entryOf letter fields))))
+
+-- "An S line later … is unreadable": `unopened` while the station list may go on
+unfoldable pub fieldsCommand : ℕ → Bool → ℕ → List (List ℕ) → Command
+fieldsCommand read unopened letter fields =
+    cond (eqb letter 83) (cond unopened (stationOf read fields) Unreadable)
+    (cond (eqb letter 88) (counted Corrections (correctionsIn fields))
+    (cond (eqb letter 77) (counted Matrix (matrixIn fields)) (otherOf letter fields)))
+
+abbrev pub letterIn : List ℕ → ℕ
+letterIn line = letterOf (firstField line)
+
+-- the command of a line, after so many S lines that were read; "over 50,000 bytes makes a line unreadable"
+unfoldable pub commandOf : ℕ → Bool → List ℕ → Command
+commandOf read unopened line =
+    cond (ltb 50000 (length line)) Unreadable (fieldsCommand read unopened (letterIn line) (restFields line))
+
+-- "S lines come first; the first line whose first field isn't S, or the end, opens"
+abbrev pub isStationLine : List ℕ → Bool
+isStationLine line = eqb (letterIn line) 83
+
+-- ════ the same of what is kept of a line, and the numbers that X and M leave
+unfoldable pub keptCommand : ℕ → Bool → Kept → Command
+keptCommand read unopened k = cond (k .over) Unreadable (fieldsCommand read unopened (letterIn (k .text)) (restFields (k .text)))
+
+-- "a later one replaces an earlier", from the front; an unreadable line leaves them
+unfoldable pub correctionsAfter : List ℤ → Kept → List ℤ
+correctionsAfter x k = cond (k .over) x (cond (eqb (letterIn (k .text)) 88) (storedIn x (correctionsIn (restFields (k .text)))) x)
+
+unfoldable pub matrixAfter : List ℤ → Kept → List ℤ
+matrixAfter m k = cond (k .over) m (cond (eqb (letterIn (k .text)) 77) (storedIn m (matrixIn (restFields (k .text)))) m)
+
+-- what a line asked, and what it left of the corrections and the matrix
+pub record Obeys (read : ℕ) (unopened : Bool) (k : Kept) (x m : List ℤ) (r : Command) (xs ms : List ℤ) : Type 0 where
+  pub asks : r ≡ keptCommand read unopened k
+  pub corrections : xs ≡ correctionsAfter x k
+  pub matrix : ms ≡ matrixAfter m k

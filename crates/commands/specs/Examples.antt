@@ -1,0 +1,102 @@
+-- The definitions at document 01's own example. Assumes nothing.
+use mathlib.Core.Path.{_≡_, refl}
+use mathlib.Core.Bool.{true, false}
+use mathlib.Core.List.{List, [], _∷_, _++_}
+use Prim.Native.Nat.{ℕ}
+use lib.IntN.{ℤ, pos, negsuc}
+use Rattle.network.specs.declared.Kind.the-variants as kind
+use Rattle.network.specs.declared.Record.the-variants as record-of
+use Rattle.text.specs.Before.{before}
+use Rattle.text.specs.Numbers.{allDigits, isDecimal, valueAfter, signedOf, numberOf, decimalIn, decimal}
+use Rattle.text.specs.Fields.{fieldsOf, restFields, letterOf, numbersOf, atMost}
+use Rattle.commands.specs.Commands.{exactly, entryOf, added, replaced, replaceOf, undoOf, counted, kindOf, inTurn, stationOf, otherOf, fieldsCommand, commandOf}
+use Rattle.commands.specs.Sheet.{spaced, highVerdict, verdict, headLine, stationLine, baselineLine, heightLine, globalLine, stationLines, recordLine, recordWords, recordStart, recordLines, globalStart, sheetText}
+use Rattle.commands.specs.declared.Command.the-variants.{Station, Add, Replace, Strike, Undo, Corrections, Matrix, Unreadable}
+
+-- `S 2 V 0 0 7`, after one S line
+station : commandOf 1 true (83 ∷ 32 ∷ 50 ∷ 32 ∷ 86 ∷ 32 ∷ 48 ∷ 32 ∷ 48 ∷ 32 ∷ 55 ∷ []) ≡ Station (record { kind = kind.Height; east = pos 0; north = pos 0; up = pos 7 })
+unfolding commandOf fieldsCommand stationOf inTurn kindOf exactly letterOf restFields fieldsOf before numbersOf numberOf signedOf isDecimal allDigits valueAfter
+station = refl
+
+-- the same line as the first, and once the book is open
+out-of-turn : commandOf 0 true (83 ∷ 32 ∷ 50 ∷ 32 ∷ 86 ∷ 32 ∷ 48 ∷ 32 ∷ 48 ∷ 32 ∷ 55 ∷ []) ≡ Unreadable
+unfolding commandOf fieldsCommand stationOf inTurn kindOf exactly letterOf restFields fieldsOf before numbersOf numberOf signedOf isDecimal allDigits valueAfter
+out-of-turn = refl
+
+late : commandOf 1 false (83 ∷ 32 ∷ 50 ∷ 32 ∷ 86 ∷ 32 ∷ 48 ∷ 32 ∷ 48 ∷ 32 ∷ 55 ∷ []) ≡ Unreadable
+unfolding commandOf fieldsCommand stationOf inTurn kindOf exactly letterOf restFields fieldsOf before numbersOf numberOf signedOf isDecimal allDigits valueAfter
+late = refl
+
+-- `H 1 1 2 9 3`, and `R` before it
+level-line : List ℕ
+level-line = 72 ∷ 32 ∷ 49 ∷ 32 ∷ 49 ∷ 32 ∷ 50 ∷ 32 ∷ 57 ∷ 32 ∷ 51 ∷ []
+
+adds : commandOf 2 false level-line ≡ Add (pos 1) (record-of.Height (record { from = pos 1; to = pos 2; up = pos 9; weight = pos 3 }))
+unfolding level-line commandOf fieldsCommand otherOf added entryOf exactly letterOf restFields fieldsOf before numbersOf numberOf signedOf isDecimal allDigits valueAfter
+adds = refl
+
+replaces : commandOf 2 false (82 ∷ 32 ∷ level-line) ≡ Replace (pos 1) (record-of.Height (record { from = pos 1; to = pos 2; up = pos 9; weight = pos 3 }))
+unfolding level-line commandOf fieldsCommand otherOf replaceOf replaced entryOf exactly letterOf restFields fieldsOf before numbersOf numberOf signedOf isDecimal allDigits valueAfter
+replaces = refl
+
+-- `D 7`, `U`, `R D 7`, `R U`, `U `
+strikes : commandOf 2 false (68 ∷ 32 ∷ 55 ∷ []) ≡ Strike (pos 7)
+unfolding commandOf fieldsCommand otherOf exactly letterOf restFields fieldsOf before numbersOf numberOf signedOf isDecimal allDigits valueAfter
+strikes = refl
+
+undoes : commandOf 2 false (85 ∷ []) ≡ Undo
+unfolding commandOf fieldsCommand otherOf undoOf letterOf restFields fieldsOf before
+undoes = refl
+
+no-replaced-strike : commandOf 2 false (82 ∷ 32 ∷ 68 ∷ 32 ∷ 55 ∷ []) ≡ Unreadable
+unfolding commandOf fieldsCommand otherOf replaceOf replaced entryOf letterOf restFields fieldsOf before
+no-replaced-strike = refl
+
+no-replaced-undo : commandOf 2 false (82 ∷ 32 ∷ 85 ∷ []) ≡ Unreadable
+unfolding commandOf fieldsCommand otherOf replaceOf replaced entryOf letterOf restFields fieldsOf before
+no-replaced-undo = refl
+
+no-more-fields : commandOf 2 false (85 ∷ 32 ∷ []) ≡ Unreadable
+unfolding commandOf fieldsCommand otherOf undoOf letterOf restFields fieldsOf before
+no-more-fields = refl
+
+-- `X 50`, `X`, `X `, an empty line
+one-correction : commandOf 2 false (88 ∷ 32 ∷ 53 ∷ 48 ∷ []) ≡ Corrections 1
+unfolding commandOf fieldsCommand counted atMost letterOf restFields fieldsOf before numbersOf numberOf signedOf isDecimal allDigits valueAfter
+one-correction = refl
+
+no-corrections : commandOf 2 false (88 ∷ []) ≡ Corrections 0
+unfolding commandOf fieldsCommand counted atMost letterOf restFields fieldsOf before numbersOf
+no-corrections = refl
+
+empty-correction : commandOf 2 false (88 ∷ 32 ∷ []) ≡ Unreadable
+unfolding commandOf fieldsCommand counted atMost letterOf restFields fieldsOf before numbersOf numberOf
+empty-correction = refl
+
+empty-line : commandOf 2 false [] ≡ Unreadable
+unfolding commandOf fieldsCommand otherOf added entryOf letterOf restFields fieldsOf before
+empty-line = refl
+
+-- ════ document 01's sheet: two stations, two height differences
+words : List ℤ
+words =
+    pos 2 ∷ pos 1
+    ∷ pos 1 ∷ pos 0 ∷ pos 0 ∷ pos 100000 ∷ pos 0 ∷ pos 0 ∷ pos 0
+    ∷ pos 2 ∷ pos 0 ∷ pos 0 ∷ pos 101050 ∷ pos 0 ∷ pos 0 ∷ pos 5368709
+    ∷ pos 1 ∷ negsuc 49 ∷ pos 0
+    ∷ pos 2 ∷ pos 50 ∷ pos 0
+    ∷ pos 500000 ∷ pos 1 ∷ pos 0 ∷ []
+
+-- `SHEET 2 RECORDS 1 UNKNOWNS`, `1 0 0 100000 0 0 0`, `2 0 0 101050 0 0 5368709`, `1 -50 PASS`, `2 50 PASS`, `GLOBAL 500000 1 PASS`
+printed : List ℕ
+printed =
+    (83 ∷ 72 ∷ 69 ∷ 69 ∷ 84 ∷ 32 ∷ 50 ∷ 32 ∷ 82 ∷ 69 ∷ 67 ∷ 79 ∷ 82 ∷ 68 ∷ 83 ∷ 32 ∷ 49 ∷ 32 ∷ 85 ∷ 78 ∷ 75 ∷ 78 ∷ 79 ∷ 87 ∷ 78 ∷ 83 ∷ 10 ∷ [])
+    ++ (49 ∷ 32 ∷ 48 ∷ 32 ∷ 48 ∷ 32 ∷ 49 ∷ 48 ∷ 48 ∷ 48 ∷ 48 ∷ 48 ∷ 32 ∷ 48 ∷ 32 ∷ 48 ∷ 32 ∷ 48 ∷ 10 ∷ [])
+    ++ (50 ∷ 32 ∷ 48 ∷ 32 ∷ 48 ∷ 32 ∷ 49 ∷ 48 ∷ 49 ∷ 48 ∷ 53 ∷ 48 ∷ 32 ∷ 48 ∷ 32 ∷ 48 ∷ 32 ∷ 53 ∷ 51 ∷ 54 ∷ 56 ∷ 55 ∷ 48 ∷ 57 ∷ 10 ∷ [])
+    ++ (49 ∷ 32 ∷ 45 ∷ 53 ∷ 48 ∷ 32 ∷ 80 ∷ 65 ∷ 83 ∷ 83 ∷ 10 ∷ [])
+    ++ (50 ∷ 32 ∷ 53 ∷ 48 ∷ 32 ∷ 80 ∷ 65 ∷ 83 ∷ 83 ∷ 10 ∷ [])
+    ++ (71 ∷ 76 ∷ 79 ∷ 66 ∷ 65 ∷ 76 ∷ 32 ∷ 53 ∷ 48 ∷ 48 ∷ 48 ∷ 48 ∷ 48 ∷ 32 ∷ 49 ∷ 32 ∷ 80 ∷ 65 ∷ 83 ∷ 83 ∷ 10 ∷ [])
+
+sheet : sheetText words 2 (2 ∷ 2 ∷ []) ≡ printed
+unfolding words printed sheetText headLine stationLines stationLine recordLines recordLine recordStart recordWords heightLine baselineLine globalStart globalLine spaced verdict highVerdict decimal decimalIn
+sheet = refl

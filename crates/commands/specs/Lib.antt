@@ -1,0 +1,6 @@
+pub mod Commands
+pub mod CommandLaws
+pub mod Messages
+pub mod Sheet
+pub mod SheetLaws
+pub mod Examples

@@ -1,0 +1,292 @@
+// A line to a command.
+use super::Command;
+use super::Entry;
+use network::Baseline;
+use network::Kind;
+use network::Level;
+use network::Record;
+use network::Station;
+use text::Count;
+use text::Number;
+ghost use mathlib.Core.Path.{_≡_};
+ghost use Prim.Native.Nat.{suc, _≤_};
+ghost use lib.IntN.{pos};
+ghost use lib.ListN.{length, drop};
+ghost use Rattle.words.specs.Signed.{eqZ};
+ghost use Rattle.text.specs.Fields.{firstField, restFields, letterOf, numbersOf, storedIn};
+ghost use Rattle.text.specs.Lines.{Kept};
+ghost use Rattle.commands.specs.Commands.{exactly, levelEntry, baselineEntry, entryOf, added, replaced, replaceOf, strikeOf, undoOf};
+ghost use Rattle.commands.specs.Commands.{counted, correctionsIn, matrixIn, stationWith, kindOf, stationOf, otherOf, letterIn, isStationLine, Obeys};
+ghost use Rattle.commands.specs.declared.Entry.the-variants as entry;
+ghost use Rattle.commands.specs.declared.Command.the-variants as command;
+
+// The fields after the letter at `from`: place, from, to, difference, weight.
+fn level_entry(line: &[u8], from: usize) -> Entry
+    ensures { λ r. ⌜ r ≡ exactly 5 entry.Unreadable levelEntry (numbersOf (restFields (drop from (now (line .entry))))) ⌝ }
+{
+    let mut a = [0i64; 5];
+    match text::read_rest(line, from, 5, &mut a) {
+        Count::Unreadable => Entry::Unreadable,
+        Count::Numbers(n) => {
+            if n != 5 {
+                return Entry::Unreadable;
+            }
+            let level = Level {
+                from: a[1],
+                to: a[2],
+                up: a[3],
+                weight: a[4],
+            };
+            let of = Record::Height(level);
+            Entry::Of(a[0], of)
+        }
+    }
+}
+
+// The fields after the letter at `from`: place, from, to, three differences, six weights.
+fn baseline_entry(line: &[u8], from: usize) -> Entry
+    ensures { λ r. ⌜ r ≡ exactly 12 entry.Unreadable baselineEntry (numbersOf (restFields (drop from (now (line .entry))))) ⌝ }
+{
+    let mut a = [0i64; 12];
+    match text::read_rest(line, from, 12, &mut a) {
+        Count::Unreadable => Entry::Unreadable,
+        Count::Numbers(n) => {
+            if n != 12 {
+                return Entry::Unreadable;
+            }
+            let baseline = Baseline {
+                from: a[1],
+                to: a[2],
+                east: a[3],
+                north: a[4],
+                up: a[5],
+                ee: a[6],
+                en: a[7],
+                eu: a[8],
+                nn: a[9],
+                nu: a[10],
+                uu: a[11],
+            };
+            let of = Record::Baseline(baseline);
+            Entry::Of(a[0], of)
+        }
+    }
+}
+
+// The field at `from` is the letter of a record; what it says with the fields after it.
+fn entry_at(line: &[u8], from: usize) -> Entry
+    ensures { λ r. ⌜ r ≡ entryOf (letterOf (firstField (drop from (now (line .entry))))) (restFields (drop from (now (line .entry)))) ⌝ }
+{
+    let letter = text::letter_at(line, from);
+    if letter == 72 {
+        return level_entry(line, from);
+    }
+    if letter == 66 {
+        return baseline_entry(line, from);
+    }
+    Entry::Unreadable
+}
+
+fn add(e: Entry) -> Command
+    ensures { λ r. ⌜ r ≡ added e ⌝ }
+{
+    match e {
+        Entry::Of(place, of) => Command::Add(place, of),
+        Entry::Unreadable => Command::Unreadable,
+    }
+}
+
+fn replace(e: Entry) -> Command
+    ensures { λ r. ⌜ r ≡ replaced e ⌝ }
+{
+    match e {
+        Entry::Of(place, of) => Command::Replace(place, of),
+        Entry::Unreadable => Command::Unreadable,
+    }
+}
+
+fn replace_line(line: &[u8]) -> Command
+    ensures { λ r. ⌜ r ≡ replaceOf (restFields (now (line .entry))) ⌝ }
+{
+    let end = text::field_end(line, 0);
+    if line.len() <= end {
+        return Command::Unreadable;
+    }
+    replace(entry_at(line, end + 1))
+}
+
+fn strike_line(line: &[u8]) -> Command
+    ensures { λ r. ⌜ r ≡ exactly 1 command.Unreadable strikeOf (numbersOf (restFields (now (line .entry)))) ⌝ }
+{
+    let mut a = [0i64; 1];
+    match text::read_rest(line, 0, 1, &mut a) {
+        Count::Unreadable => Command::Unreadable,
+        Count::Numbers(n) => {
+            if n != 1 {
+                return Command::Unreadable;
+            }
+            Command::Strike(a[0])
+        }
+    }
+}
+
+fn undo_line(line: &[u8]) -> Command
+    ensures { λ r. ⌜ r ≡ undoOf (restFields (now (line .entry))) ⌝ }
+{
+    let end = text::field_end(line, 0);
+    if line.len() <= end {
+        return Command::Undo;
+    }
+    Command::Unreadable
+}
+
+fn corrections_line(line: &[u8], x: &mut [i64]) -> Command
+    requires { ⌜ 48 ≤ length (now x) ⌝ }
+    ensures { λ r. ⌜ (r ≡ counted command.Corrections (correctionsIn (restFields (now (line .entry))))) × (now (x .exit) ≡ storedIn (now (x .entry)) (correctionsIn (restFields (now (line .entry))))) ⌝ }
+{
+    match text::read_rest(line, 0, 48, x) {
+        Count::Unreadable => Command::Unreadable,
+        Count::Numbers(n) => Command::Corrections(n),
+    }
+}
+
+fn matrix_line(line: &[u8], m: &mut [i64]) -> Command
+    requires { ⌜ 2304 ≤ length (now m) ⌝ }
+    ensures { λ r. ⌜ (r ≡ counted command.Matrix (matrixIn (restFields (now (line .entry))))) × (now (m .exit) ≡ storedIn (now (m .entry)) (matrixIn (restFields (now (line .entry))))) ⌝ }
+{
+    match text::read_rest(line, 0, 2304, m) {
+        Count::Unreadable => Command::Unreadable,
+        Count::Numbers(n) => Command::Matrix(n),
+    }
+}
+
+// A station of a kind, with the three coordinates in the fields after the one at `from`.
+fn station_with(line: &[u8], from: usize, kind: Kind) -> Command
+    ensures { λ r. ⌜ r ≡ exactly 3 command.Unreadable (stationWith kind) (numbersOf (restFields (drop from (now (line .entry))))) ⌝ }
+{
+    let mut a = [0i64; 3];
+    match text::read_rest(line, from, 3, &mut a) {
+        Count::Unreadable => Command::Unreadable,
+        Count::Numbers(n) => {
+            if n != 3 {
+                return Command::Unreadable;
+            }
+            let station = Station {
+                kind,
+                east: a[0],
+                north: a[1],
+                up: a[2],
+            };
+            Command::Station(station)
+        }
+    }
+}
+
+// The field at `from` is the letter of a kind.
+fn kind_at(line: &[u8], from: usize) -> Command
+    ensures { λ r. ⌜ r ≡ kindOf (letterOf (firstField (drop from (now (line .entry))))) (numbersOf (restFields (drop from (now (line .entry))))) ⌝ }
+{
+    let letter = text::letter_at(line, from);
+    if letter == 75 {
+        return station_with(line, from, Kind::Known);
+    }
+    if letter == 70 {
+        return station_with(line, from, Kind::Free);
+    }
+    if letter == 86 {
+        return station_with(line, from, Kind::Height);
+    }
+    Command::Unreadable
+}
+
+// v is one more than `read`.
+fn in_turn(v: i64, read: u64) -> bool
+    ensures { λ r. ⌜ r ≡ eqZ v (pos (suc read)) ⌝ }
+{
+    if words::is_negative(v) {
+        return false;
+    }
+    let n = words::size(v);
+    if n == 0 {
+        return false;
+    }
+    n - 1 == read
+}
+
+fn station_line(line: &[u8], read: u64) -> Command
+    ensures { λ r. ⌜ r ≡ stationOf read (restFields (now (line .entry))) ⌝ }
+{
+    let letter_end = text::field_end(line, 0);
+    if line.len() <= letter_end {
+        return Command::Unreadable;
+    }
+    let from = letter_end + 1;
+    let end = text::field_end(line, from);
+    if line.len() <= end {
+        return Command::Unreadable;
+    }
+    match text::number_of(&line[from..end]) {
+        Number::Unreadable => Command::Unreadable,
+        Number::Value(v) => {
+            if !in_turn(v, read) {
+                return Command::Unreadable;
+            }
+            kind_at(line, end + 1)
+        }
+    }
+}
+
+// A line whose first field is `letter`, and neither S nor X nor M.
+fn other_line(line: &[u8], letter: u8) -> Command
+    requires { ⌜ letter ≡ letterIn (now line) ⌝ }
+    ensures { λ r. ⌜ r ≡ otherOf letter (restFields (now (line .entry))) ⌝ }
+{
+    if letter == 82 {
+        return replace_line(line);
+    }
+    if letter == 68 {
+        return strike_line(line);
+    }
+    if letter == 85 {
+        return undo_line(line);
+    }
+    add(entry_at(line, 0))
+}
+
+// What a line asks, after `read` S lines; `over` where it was cut. The numbers of an X or M line go to the front of x or m.
+pub fn read_command(
+    line: &[u8],
+    over: bool,
+    read: u64,
+    unopened: bool,
+    x: &mut [i64],
+    m: &mut [i64],
+) -> Command
+    requires { ⌜ (48 ≤ length (now x)) × (2304 ≤ length (now m)) ⌝ }
+    ensures { λ r. ⌜ Obeys read unopened (record { text = now (line .entry); over = over }) (now (x .entry)) (now (m .entry)) r (now (x .exit)) (now (m .exit)) ⌝ }
+{
+    if over {
+        return Command::Unreadable;
+    }
+    let letter = text::letter_at(line, 0);
+    if letter == 83 {
+        if unopened {
+            return station_line(line, read);
+        }
+        return Command::Unreadable;
+    }
+    if letter == 88 {
+        return corrections_line(line, x);
+    }
+    if letter == 77 {
+        return matrix_line(line, m);
+    }
+    other_line(line, letter)
+}
+
+// Whether a line keeps the station list open.
+pub fn is_station_line(line: &[u8]) -> bool
+    ensures { λ r. ⌜ r ≡ isStationLine (now (line .entry)) ⌝ }
+{
+    text::letter_at(line, 0) == 83
+}

@@ -1,0 +1,18 @@
+use borrow.Author.Needs.{needs}
+use Rattle.text.proofs.writing.write_natural.Statement.{statement}
+use Rattle.text.proofs.writing.write_natural.Tie as tie
+use Rattle.text.proofs.writing.write_natural.Reads as reads
+use Rattle.text.proofs.writing.write_natural.Lts as lts
+use Rattle.text.proofs.writing.write_digits.Reads as write-digits-reads
+
+write-digits-requires : tie.Need-write-digits-requires
+write-digits-requires c κs = search needs
+
+same-length : tie.Need-same-length
+same-length c = search needs
+
+returns : tie.Need-returns
+returns c = search needs
+
+pub write-natural-spec : {M : Type 1} → statement M
+write-natural-spec = tie.close (tie.spec write-digits-requires same-length returns)

@@ -1,0 +1,11 @@
+pub mod Before
+pub mod Digits
+pub mod Examples
+pub mod Fields
+pub mod FieldLaws
+pub mod Lines
+pub mod LineLaws
+pub mod Numbers
+pub mod NumberLaws
+pub mod Reading
+pub mod Writing
