@@ -1,10 +1,10 @@
 -- What a sound book and an acceptance give: the ranges that the sheet's code asks for, and that 9 never comes.
 use Prim.Native.Nat.{ℕ, _*_, _≤_, _^_}
 use mathlib.Core.Path.{_≡_, refl, sym, ap, _∙_}
-use mathlib.Core.Bool.{Bool, true, cond}
+use mathlib.Core.Bool.{Bool, true, _&&_}
 use mathlib.Core.List.{List, _++_}
 use borrow.Author.Tests.{le-leb, leb-true}
-use lib.Dec.{leb}
+use lib.Dec.{eqb}
 use lib.ListN.{length, drop}
 use lib.IntN.{ℤ, natAbs}
 use Rattle.words.specs.Bools.{and-both, and-right}
@@ -28,7 +28,7 @@ use Rattle.checks.specs.Checks.{sizesFit, thenNine, checked, hasRoom, on
 
 room-of-test : (n : ℕ) (x m : List ℤ) (r : Bool) → lengthsFit n x m r ≡ true → r ≡ true
 unfolding lengthsFit
-room-of-test n x m r e = and-right _ r e
+room-of-test n x m r e = and-right (eqb (length x) n && eqb (length m) (n * n)) r e
 
 module _ (b : Book) (g : Parts.Sound b) where
   pub rules : Sound (b .network) (b .places)

@@ -1,0 +1,25 @@
+use borrow.Author.Needs.{needs}
+use mathlib.Core.Path.{_≡_, sym, ap, _∙_}
+use mathlib.Core.Bool.{Bool, true}
+use Rattle.network.specs.Filling.{length-mapped}
+use Rattle.acceptance.specs.Judge.{judge}
+use Rattle.acceptance.specs.JudgeLaws.{Fit}
+use Rattle.acceptance.specs.Exactly.{answer}
+use Rattle.book.specs.Sound.{Sound, sound-parts}
+use Rattle.checks.specs.CheckLaws.{fit, judge-is, checked-is}
+use Rattle.checks.proofs.check.Statement.{statement}
+use Rattle.checks.proofs.check.Tie as tie
+
+sound-book : (c : tie.Start) → Sound (c .args .book)
+sound-book c = sound-parts (c .args .book) (record { places = search (needs, length-mapped); entries = search (needs, length-mapped); matrix = search needs; right = search needs }) (c .pre)
+
+accept-requires : tie.Need-accept-requires
+accept-requires c κs = let s = c .before .before .before .before .before .before .before in fit (s .args .book) (sound-book s)
+
+returns : tie.Need-returns
+returns c =
+    let s = c .before .before .before .before .before .before .before .before in
+    c .accept .ensures ∙ judge-is (s .args .book) (sound-book s) (s .args .x .now) (s .args .m .now) true ∙ sym (checked-is (s .args .book) (sound-book s) (s .args .x .now) (s .args .m .now) true)
+
+pub check-spec : {M : Type 1} → statement M
+check-spec = tie.close (tie.spec accept-requires returns)
