@@ -1,6 +1,7 @@
 // Test 5: M against N. "for each row, the sizes of (S·I − MN) add up to at most 2^26".
 use super::limits;
 use super::products::dot;
+use normals::Normals;
 ghost use mathlib.Core.Path.{_≡_};
 ghost use Prim.Native.Nat.{_*_, _<_, _^_};
 ghost use lib.Dec.{leb};
@@ -10,13 +11,20 @@ ghost use Rattle.acceptance.specs.Tests.{byRows, defect, defectSmall};
 ghost use Rattle.acceptance.specs.Loops.{Pair};
 
 // The size of the entry of S·I − MN in row i and column j; the row of M starts at `row`.
-fn defect_size(m: &[i64], row: usize, normal: &[i64; 2304], i: usize, j: usize, n: usize) -> u64
+fn defect_size(
+    m: &[i64],
+    row: usize,
+    normal: &[i64; Normals::ENTRIES],
+    i: usize,
+    j: usize,
+    n: usize,
+) -> u64
     requires { ⌜ Pair n (now m) (now normal) ⌝ }
     requires { ⌜ (row ≡ i * n) × ((i < n) × (j < n)) ⌝ }
     ensures { λ r. ⌜ r ≡ natAbs (defect n (byRows 48 (now (normal .entry))) (byRows n (now (m .entry))) i j) ⌝ }
     ensures small { λ r. ⌜ r < 2 ^ 63 ⌝ }
 {
-    let d = dot(m, row, normal, j, 48, n);
+    let d = dot(m, row, normal, j, Normals::ROW, n);
     if i == j {
         return words::size(limits::SCALE - d);
     }
@@ -24,7 +32,7 @@ fn defect_size(m: &[i64], row: usize, normal: &[i64; 2304], i: usize, j: usize, 
 }
 
 // Whether the sizes in row i add up to at most 2^26; it stops where they pass it.
-fn row_near(m: &[i64], row: usize, normal: &[i64; 2304], i: usize, n: usize) -> bool
+fn row_near(m: &[i64], row: usize, normal: &[i64; Normals::ENTRIES], i: usize, n: usize) -> bool
     requires { ⌜ Pair n (now m) (now normal) ⌝ }
     requires { ⌜ (row ≡ i * n) × (i < n) ⌝ }
     ensures { λ r. ⌜ r ≡ leb (sumN n (λ j. natAbs (defect n (byRows 48 (now (normal .entry))) (byRows n (now (m .entry))) i j))) (2 ^ 26) ⌝ }
@@ -42,7 +50,7 @@ fn row_near(m: &[i64], row: usize, normal: &[i64; 2304], i: usize, n: usize) -> 
 }
 
 // Whether every row of M is near the inverse.
-pub fn rows_near(m: &[i64], normal: &[i64; 2304], n: usize) -> bool
+pub fn rows_near(m: &[i64], normal: &[i64; Normals::ENTRIES], n: usize) -> bool
     requires { ⌜ Pair n (now m) (now normal) ⌝ }
     ensures { λ r. ⌜ r ≡ defectSmall n (byRows 48 (now (normal .entry))) (byRows n (now (m .entry))) ⌝ }
 {

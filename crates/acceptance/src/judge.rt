@@ -7,6 +7,8 @@ use super::refinement::refinements_within;
 use super::sizes::first_within;
 use network::Network;
 use network::Place;
+use network::Unit;
+use normals::Normals;
 ghost use mathlib.Core.Path.{_≡_};
 ghost use mathlib.Core.Bool.{_&&_};
 ghost use Prim.Native.Nat.{_*_, _≤_};
@@ -51,7 +53,13 @@ fn lengths_fit(x: usize, m: usize, n: usize, room: bool) -> bool
 }
 
 // Tests 3 to 7.
-fn judge_numbers(normal: &[i64; 2304], right: &[i64; 48], x: &[i64], m: &[i64], n: usize) -> Answer
+fn judge_numbers(
+    normal: &[i64; Normals::ENTRIES],
+    right: &[i64; Normals::ROW],
+    x: &[i64],
+    m: &[i64],
+    n: usize,
+) -> Answer
     requires { ⌜ Numbers n (now normal) (now right) (now x) (now m) ⌝ }
     ensures { λ r. ⌜ r ≡ judgeNumbers n (byRows 48 (now (normal .entry))) (at (now (right .entry))) (now (x .entry)) (now (m .entry)) ⌝ }
 {
@@ -77,9 +85,9 @@ fn judge_numbers(normal: &[i64; 2304], right: &[i64; 48], x: &[i64], m: &[i64], 
 // The seven tests of x and M against the book's stations, records, N and u; `room`: the sheet, where one is lent, has room.
 pub fn accept(
     net: Network,
-    places: [Place; 256],
-    normal: &[i64; 2304],
-    right: &[i64; 48],
+    places: [Place; Unit::PLACES],
+    normal: &[i64; Normals::ENTRIES],
+    right: &[i64; Normals::ROW],
     x: &[i64],
     m: &[i64],
     room: bool,
@@ -88,12 +96,12 @@ pub fn accept(
     ensures { λ r. ⌜ r ≡ judge net places (byRows 48 (now (normal .entry))) (at (now (right .entry))) (now (x .entry)) (now (m .entry)) room ⌝ }
 {
     let stations = net.stations;
-    let n = network::number_of(stations, 96);
+    let n = network::number_of(stations, Unit::COMPONENTS);
     if !lengths_fit(x.len(), m.len(), n, room) {
         return Answer::Refused(10);
     }
     let q = chains::first_untied(net, places);
-    if q < 96 {
+    if q < Unit::COMPONENTS {
         let before = network::number_of(stations, q);
         return Answer::Untied((before + 1) as u64);
     }

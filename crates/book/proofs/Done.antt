@@ -1,6 +1,6 @@
 -- What the code of a call has shown when it returns, in the words of its contract. Assumes nothing.
 use Prim.Native.Nat.{ℕ, zero, suc}
-use mathlib.Core.Path.{_≡_, refl, sym, ap, _∙_, subst}
+use mathlib.Core.Path.{_≡_, refl, sym, ap, _∙_}
 use mathlib.Core.Bool.{Bool, true, false, cond}
 use mathlib.Core.List.{List, []}
 use native.Mathlib.Omega.{arith}
@@ -17,7 +17,7 @@ use Rattle.book.specs.declared.Edited.{Edited}
 use Rattle.book.specs.declared.Journal.{Journal}
 use Rattle.book.specs.declared.Reversal.{Reversal}
 use Rattle.book.specs.Journal.{pushed, popped, latest}
-use Rattle.book.specs.Calls.{Call, add, replace, strike, placeOf, first, placeNo, filledNo, emptyNo, undoNo, callNo, unless}
+use Rattle.book.specs.Calls.{Call, add, replace, strike, first, placeNo, filledNo, emptyNo, undoNo, callNo, unless}
 use Rattle.book.specs.Book.{openedBook, opening, withEntry, edited, undone, bookSays, bookAccepts, settled, outcome, sound}
 use Rattle.book.specs.Sound.{Sound, parts-sound}
 use Rattle.book.specs.SoundLaws.{sound-next}

@@ -1,14 +1,9 @@
 -- What the code's branches say in the words of the table. Assumes nothing.
-use Prim.Native.Nat.{ℕ, zero, suc, _≤_}
+use Prim.Native.Nat.{ℕ, zero, suc}
 use mathlib.Core.Path.{_≡_, refl, sym, ap}
 use mathlib.Core.Bool.{Bool, cond}
 use native.Mathlib.Omega.{arith}
-use mathlib.Core.List.{List}
 use lib.IntN.{ℤ}
-use lib.ListN.{length, List·getD-eq-default}
-use Rattle.network.specs.Records.{vacant, recordAt}
-use Rattle.network.specs.declared.Place.{Place}
-use Rattle.network.specs.declared.Record.the-variants.{Empty}
 use Rattle.network.specs.Rules.{inList}
 use Rattle.book.specs.Calls.{first, placeNo}
 
@@ -25,6 +20,3 @@ first-this (suc a) b e = refl
 pub place-is : (p : ℤ) (t : Bool) → inList 256 p ≡ t → cond t 0 2 ≡ placeNo p
 unfolding placeNo
 place-is p t e = ap (λ (b : Bool). cond b 0 2) (sym e)
-
-pub record-beyond : (l : List Place) (p : ℕ) → length l ≡ 256 → 256 ≤ p → Empty ≡ recordAt l p
-record-beyond l p e h = sym (ap (λ (q : Place). q .entry) (List·getD-eq-default l vacant {n = p} (let w : length l ≤ p = omega arith in w)))

@@ -2,12 +2,12 @@
 use Prim.Native.Nat.{ℕ, zero, suc, _-_, _<_, _≤_}
 use mathlib.Core.Path.{_≡_, refl, sym, ap, _∙_}
 use mathlib.Core.Bool.{Bool, true, false, not, _&&_}
-use mathlib.Core.List.{List, [], _∷_}
+use mathlib.Core.List.{List, _∷_}
 use native.Mathlib.Omega.{arith}
 use borrow.Author.Tests.{lt-ltb, le-ltb}
 use lib.Dec.{ltb}
 use lib.ListN.{length, getD, set}
-use Rattle.words.specs.Bools.{and-left, and-right, and-no-left}
+use Rattle.words.specs.Bools.{and-left, and-right}
 use Rattle.network.specs.Records.{recordAt}
 use Rattle.network.specs.Rules.{isEmpty, recordFits}
 use Rattle.network.specs.declared.Network.{Network}

@@ -1,22 +1,17 @@
 -- Laws of the table: what a call that is not refused has shown, that the table looks at the 256 places alone, and how large its numbers are.
 -- Assumes nothing.
 use Prim.Native.Nat.{ℕ, zero, suc, _<_, _≤_}
-use mathlib.Core.Path.{_≡_, refl, sym, ap, _∙_}
-use mathlib.Core.Bool.{Bool, true, false, cond, _&&_}
+use mathlib.Core.Path.{_≡_, refl, ap, _∙_}
+use mathlib.Core.Bool.{Bool, true, false, cond}
 use mathlib.Core.List.{List}
 use native.Mathlib.Omega.{arith}
 use borrow.Author.Tests.{ltb-true}
-use lib.Dec.{ltb}
-use lib.IntN.{ℤ, pos}
-use lib.Signed.{leZ}
-use Rattle.words.specs.Bools.{clash, true-or-false}
-use Rattle.words.specs.Signed.{indexIn}
+use lib.IntN.{ℤ}
 use Rattle.words.specs.SignedLaws.{index-test}
 use Rattle.network.specs.Rules.{inList, isEmpty, recordNo}
 use Rattle.network.specs.declared.Network.{Network}
 use Rattle.network.specs.declared.Place.{Place}
 use Rattle.network.specs.declared.Record.{Record}
-use Rattle.network.specs.declared.Record.the-variants.{Empty}
 use Rattle.normals.specs.Formulas.{entriesFit}
 use Rattle.network.specs.RuleLaws.{record-no-small}
 use Rattle.book.specs.Calls.{Call, add, replace, strike, undo, placeOf, first, placeNo, filledNo, emptyNo, undoNo, changed, placesOf, sizeNo, callNo, unless}

@@ -1,11 +1,10 @@
 -- The calls that edit a book, and the numbers of document 01's table for them. One table, by which the book and the ledger are both judged:
 -- it goes by the station list, the record at each place (counted from 0), and the number of edits that can be taken back. Assumes nothing.
-use Prim.Native.Nat.{ℕ, zero, suc, _^_}
-use mathlib.Core.Bool.{Bool, true, false, cond, _&&_}
+use Prim.Native.Nat.{ℕ, zero, suc}
+use mathlib.Core.Bool.{cond}
 use mathlib.Core.List.{List}
-use lib.Dec.{eqb, leb}
-use lib.ListN.{getD}
-use lib.IntN.{ℤ, pos, natAbs}
+use lib.Dec.{eqb}
+use lib.IntN.{ℤ}
 use Rattle.integers.specs.Tables.{tabulate}
 use Rattle.words.specs.Signed.{indexIn}
 use Rattle.network.specs.Rules.{inList, isEmpty, recordNo}

@@ -7,7 +7,6 @@ use Rattle.network.specs.Records.{recordAt}
 use Rattle.network.specs.Rules.{recordFits}
 use Rattle.network.specs.declared.Record.{Record}
 use Rattle.normals.specs.declared.Normals.{Normals}
-use Rattle.normals.specs.Formulas.{normalsOf}
 use Rattle.normals.specs.Sound as normals
 use Rattle.normals.specs.Exchange.{Exchangeable, exchangeable, exchanged, exchange-N, exchange-u}
 use Rattle.book.specs.declared.Book.{Book}

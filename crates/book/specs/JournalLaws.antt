@@ -2,15 +2,15 @@
 use Prim.Native.Nat.{ℕ, zero, suc, _+_, _-_, _%_, _≤_, _<_, min}
 use mathlib.Core.Path.{_≡_, refl, sym, ap, _∙_}
 use mathlib.Core.Bool.{Bool, true, false, _&&_, _||_}
-use mathlib.Core.List.{List, [], _∷_}
+use mathlib.Core.List.{List, _∷_}
 use native.Mathlib.Omega.{arith}
 use native.Mathlib.Decide.{ℕ-discrete, decLt}
-use borrow.Author.Tests.{lt-ltb, le-ltb, le-leb, ltb-true, ltb-false, leb-true}
-use lib.Dec.{eqb, leb, ltb}
-use lib.ListN.{take, length, set, getD, length-set}
+use borrow.Author.Tests.{lt-ltb, le-ltb, le-leb, ltb-true, leb-true}
+use lib.Dec.{leb, ltb}
+use lib.ListN.{take, length, set, getD}
 use lib.Seq.{getD-set-same, getD-set-other}
 use Rattle.words.specs.Bools.{clash, and-left, and-right, and-both}
-use Rattle.network.specs.All.{allBelow, all-at, all-by}
+use Rattle.network.specs.All.{all-at, all-by}
 use Rattle.network.specs.Rules.{isEmpty}
 use Rattle.book.specs.declared.Reversal.{Reversal}
 use Rattle.book.specs.declared.Journal.{Journal}

@@ -1,6 +1,6 @@
 -- Document 01's plain ledger, by which demand 3 measures the book: "It is fed the opened station list and each call with its arguments other than
 -- the book, and nothing else." It knows nothing of how a book is kept. Assumes nothing.
-use Prim.Native.Nat.{ℕ, zero, suc, _+_, _-_, min}
+use Prim.Native.Nat.{ℕ, _+_, _-_, min}
 use mathlib.Core.Bool.{cond}
 use mathlib.Core.List.{List, [], _∷_}
 use lib.Dec.{eqb}

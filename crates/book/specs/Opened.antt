@@ -12,7 +12,7 @@ use Rattle.network.specs.declared.Record.{Record}
 use Rattle.network.specs.declared.Record.the-variants.{Empty}
 use Rattle.normals.specs.Formulas.{normalsOf}
 use Rattle.normals.specs.Blank.{blankNormals, blank-is}
-use Rattle.book.specs.Journal.{free, emptyJournal, entriesBefore, isFree}
+use Rattle.book.specs.Journal.{free, entriesBefore, isFree}
 use Rattle.book.specs.Book.{openedBook}
 use Rattle.network.specs.RuleLaws.{fits-empty}
 use Rattle.book.specs.Sound.{Sound}

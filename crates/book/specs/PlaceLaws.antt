@@ -1,18 +1,19 @@
 -- One place changed: as a function of the place, and in the list of places. Assumes nothing.
-use Prim.Native.Nat.{ℕ, _<_}
-use mathlib.Core.Path.{_≡_, refl, sym, ap, _∙_}
+use Prim.Native.Nat.{ℕ, _≤_, _<_}
+use mathlib.Core.Path.{_≡_, sym, ap, _∙_}
 use mathlib.Core.Bool.{cond}
 use mathlib.Core.List.{List}
 use native.Mathlib.Omega.{arith}
 use native.Mathlib.Decide.{ℕ-discrete}
 use borrow.Author.Tests.{eq-eqb, ne-eqb}
 use lib.Dec.{eqb}
-use lib.ListN.{length, getD, set}
+use lib.ListN.{length, set, List·getD-eq-default}
 use lib.Seq.{getD-set-same, getD-set-other}
 use Rattle.integers.specs.Tables.{getD-tabulate, is-tabulate, tabulate-ext}
 use Rattle.network.specs.Records.{vacant, recordAt}
 use Rattle.network.specs.declared.Place.{Place}
 use Rattle.network.specs.declared.Record.{Record}
+use Rattle.network.specs.declared.Record.the-variants.{Empty}
 use Rattle.book.specs.Calls.{changed, placesOf}
 
 pub changed-same : (at : ℕ → Record) (p : ℕ) (r : Record) (k : ℕ) → k ≡ p → changed at p r k ≡ r
@@ -62,3 +63,7 @@ is-placesOf l f e h = is-tabulate 256 (λ p. record { entry = f p }) l vacant e 
 
 pub placesOf-ext : (f g : ℕ → Record) → ((p : ℕ) → p < 256 → f p ≡ g p) → placesOf f ≡ placesOf g
 placesOf-ext f g h = tabulate-ext 256 (λ p. record { entry = f p }) (λ p. record { entry = g p }) vacant (λ k q. λ i. record { entry = h k q i })
+
+-- beyond the last place
+pub record-beyond : (l : List Place) (p : ℕ) → length l ≡ 256 → 256 ≤ p → recordAt l p ≡ Empty
+record-beyond l p e h = ap (λ (q : Place). q .entry) (List·getD-eq-default l vacant {n = p} (omega arith))

@@ -1,15 +1,15 @@
 -- A run row by row: the state and the answers after one row more, and what a filled list of answers holds. Assumes nothing.
 use Prim.Native.Nat.{ℕ, _+_, _*_, _<_, _≤_}
-use mathlib.Core.Path.{_≡_, refl, sym, ap, _∙_}
+use mathlib.Core.Path.{_≡_, sym, ap, _∙_}
 use mathlib.Core.List.{List}
 use native.Mathlib.Numerals.{add-one}
 use native.Mathlib.Omega.{arith}
 use lib.IntN.{ℤ, pos}
 use lib.ListN.{length, take, drop, getD, length-take, length-drop}
 use lib.Seq.{ext-getD, getD-take, getD-drop, take-all}
-use Rattle.integers.specs.Tables.{tabulate, length-tabulate, getD-tabulate, is-tabulate}
+use Rattle.integers.specs.Tables.{length-tabulate, getD-tabulate}
 use Rattle.network.specs.Filling.{Mapped}
-use Rattle.book.specs.Run.{final, answers, final-suc, answer-at, length-answers}
+use Rattle.book.specs.Run.{final, answers, final-suc, answer-at}
 use Rattle.book.specs.Rows.{Row, nameless, rowIn, rowsIn}
 
 -- ════ the rows

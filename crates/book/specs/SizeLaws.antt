@@ -1,27 +1,18 @@
 -- Refusal 9 never comes to an edit: N and u of records by the rules are far below 2^62. So the code needs no test for it. Assumes nothing.
-use Prim.Native.Nat.{ℕ, zero, suc, _/_, _%_, _≤_, _^_}
-use mathlib.Core.Path.{_≡_, refl, sym, ap, _∙_, subst}
+use Prim.Native.Nat.{ℕ, zero, suc}
+use mathlib.Core.Path.{_≡_, refl, sym, ap, _∙_}
 use mathlib.Core.Bool.{Bool, true, cond}
-use mathlib.Core.List.{List}
-use borrow.Author.Tests.{le-leb}
-use lib.Dec.{leb}
-use lib.IntN.{ℤ, pos, natAbs}
-use lib.ListN.{getD}
-use Rattle.integers.specs.Tables.{getD-tabulate}
-use Rattle.words.specs.Bools.{and-both}
-use Rattle.network.specs.All.{all-by}
+use lib.IntN.{ℤ}
 use Rattle.network.specs.Stations.{networkFits}
 use Rattle.network.specs.Records.{recordAt}
 use Rattle.network.specs.Rules.{recordNo, recordFits}
 use Rattle.network.specs.RuleLaws.{accepted-fits}
 use Rattle.network.specs.declared.Network.{Network}
-use Rattle.network.specs.declared.Place.{Place}
 use Rattle.network.specs.declared.Record.{Record}
-use Rattle.normals.specs.Formulas.{entryN, entryU, matrixOf, rightOf, normalsOf}
 use Rattle.normals.specs.Sound.{Sound}
 use Rattle.normals.specs.Sizes.{never-9}
 use Rattle.book.specs.declared.Book.{Book}
-use Rattle.book.specs.Calls.{Call, add, replace, placeOf, first, placeNo, filledNo, emptyNo, changed, placesOf, sizeNo, callNo}
+use Rattle.book.specs.Calls.{add, replace, placeOf, first, placeNo, filledNo, emptyNo, changed, placesOf, sizeNo, callNo}
 use Rattle.book.specs.Book.{bookSays}
 use Rattle.book.specs.PlaceLaws.{changed-each, placesOf-at}
 use Rattle.book.specs.CallLaws.{first-none}

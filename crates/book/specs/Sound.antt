@@ -1,18 +1,18 @@
 -- What `sound` says, in parts: a book is sound exactly where each of them holds. Assumes nothing.
 use Prim.Native.Nat.{ℕ, _<_}
-use mathlib.Core.Path.{_≡_, refl, sym, ap, _∙_, subst}
+use mathlib.Core.Path.{_≡_, refl, sym, ap, _∙_}
 use mathlib.Core.Bool.{Bool, true, false, not, _&&_}
-use mathlib.Core.List.{List, [], _∷_}
+use mathlib.Core.List.{List, _∷_}
 use native.Mathlib.Decide.{decLt}
 use native.Mathlib.Omega.{arith}
 use borrow.Author.Tests.{ltb-true, lt-ltb}
 use lib.Dec.{ltb}
-use lib.ListN.{length, getD, List·getD-eq-default}
+use lib.ListN.{length}
 use Rattle.integers.specs.Tables.{length-tabulate}
-use Rattle.words.specs.Bools.{clash, true-or-false, and-left, and-right, and-both}
+use Rattle.words.specs.Bools.{clash, and-left, and-right, and-both}
 use Rattle.network.specs.All.{allBelow, all-at, all-by}
 use Rattle.network.specs.Stations.{networkFits}
-use Rattle.network.specs.Records.{vacant, recordAt}
+use Rattle.network.specs.Records.{recordAt}
 use Rattle.network.specs.Rules.{isEmpty, recordFits}
 use Rattle.network.specs.declared.Network.{Network}
 use Rattle.network.specs.declared.Place.{Place}
@@ -25,6 +25,7 @@ use Rattle.book.specs.Calls.{changed}
 use Rattle.book.specs.Journal.{reversals, journalFits}
 use Rattle.book.specs.Book.{undoable, recordsFit, sound}
 use Rattle.network.specs.RuleLaws.{fits-empty}
+use Rattle.book.specs.PlaceLaws.{record-beyond}
 use Rattle.book.specs.JournalLaws.{Tidy, fits-tidy, tidy-fits}
 
 -- true of every value: the arrays' lengths
@@ -44,15 +45,12 @@ pub record Sound (b : Book) : Type 0 where
   pub entries : length (b .journal .entries) ≡ 64
 
 -- ════ the records
-pub record-beyond : (l : List Place) (p : ℕ) → length l ≡ 256 → (p < 256 → ⊥) → vacant ≡ getD l p vacant
-record-beyond l p e h = sym (List·getD-eq-default l vacant {n = p} (omega arith))
-
 every-record : (net : Network) (l : List Place) → length l ≡ 256 → allBelow 256 (λ p. recordFits net (recordAt l p)) ≡ true → (p : ℕ) → recordFits net (recordAt l p) ≡ true
 every-record net l e f p = go (decLt p 256)
   where
     go : Dec (p < 256) → recordFits net (recordAt l p) ≡ true
     go (yes h) = all-at 256 (λ k. recordFits net (recordAt l k)) p f h
-    go (no h) = ap (λ (q : Place). recordFits net (q .entry)) (sym (record-beyond l p e h)) ∙ fits-empty net
+    go (no h) = ap (recordFits net) (record-beyond l p e (omega arith)) ∙ fits-empty net
 
 -- ════ the journal's reversals, the latest first
 pub record Undoes (net : Network) (at : ℕ → Record) (u : Reversal) (h : List Reversal) : Type 0 where

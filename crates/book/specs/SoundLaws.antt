@@ -17,13 +17,13 @@ use Rattle.network.specs.declared.Record.the-variants.{Empty}
 use Rattle.book.specs.declared.Reversal.{Reversal}
 use Rattle.book.specs.declared.Book.{Book}
 use Rattle.book.specs.Calls.{Call, add, replace, strike, undo, placeOf, first, placeNo, callNo, changed}
-use Rattle.book.specs.Journal.{reversals, pushed, popped, latest}
-use Rattle.book.specs.Book.{edited, undone, bookAccepts, bookSays, bookNext, undoable, sound}
+use Rattle.book.specs.Journal.{reversals, popped, latest}
+use Rattle.book.specs.Book.{edited, undone, bookAccepts, bookSays, bookNext, undoable}
 use Rattle.network.specs.RuleLaws.{fits-empty, accepted-fits, accepted-filled}
 use Rattle.book.specs.PlaceLaws.{changed-same, changed-ext, changed-each, changed-back, record-set}
 use Rattle.book.specs.JournalLaws.{reversals-push, reversals-pop, tidy-pushed, tidy-popped}
 use Rattle.book.specs.CallLaws.{first-zero, place-inside, empty-is, undo-some, unless-either}
-use Rattle.book.specs.Sound.{Sized, Sound, Undoes, undoable-first, first-undoable, sound-parts, parts-sound}
+use Rattle.book.specs.Sound.{Sound, Undoes, undoable-first, first-undoable}
 
 -- ════ an edit that is not refused
 pub record Enters (b : Book) (p : ℕ) (r : Record) : Type 0 where

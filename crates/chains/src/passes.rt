@@ -1,6 +1,7 @@
 // The search for what chains of edges join to a start. An edge's ends, below 32, stand in one number: from · 32 + to.
 use super::sets::has;
 use super::sets::with;
+use network::Unit;
 ghost use mathlib.Core.Path.{_≡_};
 ghost use Prim.Native.Nat.{_<_};
 ghost use Rattle.chains.specs.Search.{join, pass, Found};
@@ -22,13 +23,13 @@ fn join_ends(w: u32, a: usize, b: usize) -> u32
 }
 
 // One pass over the edges.
-fn one_pass(edges: &[usize; 256], w: u32) -> u32
+fn one_pass(edges: &[usize; Unit::PLACES], w: u32) -> u32
     requires { ⌜ Low (now edges) ⌝ }
     ensures { λ r. ⌜ r ≡ pass (fromEnd (now (edges .entry))) (toEnd (now (edges .entry))) 256 w ⌝ }
 {
     let mut v = w;
     let mut p: usize = 0;
-    while p < 256 {
+    while p < Unit::PLACES {
         let e = edges[p];
         v = join_ends(v, e / 32, e % 32);
         p += 1;
@@ -37,7 +38,7 @@ fn one_pass(edges: &[usize; 256], w: u32) -> u32
 }
 
 // The numbers that chains of edges join to one of the set h.
-pub fn search(edges: &[usize; 256], h: u32) -> u32
+pub fn search(edges: &[usize; Unit::PLACES], h: u32) -> u32
     requires { ⌜ Low (now edges) ⌝ }
     ensures { λ r. ⌜ Found (fromEnd (now (edges .entry))) (toEnd (now (edges .entry))) 256 h r ⌝ }
 {

@@ -7,6 +7,7 @@ use network::Network;
 use network::Place;
 use network::Record;
 use network::Station;
+use network::Unit;
 ghost use mathlib.Core.Path.{_≡_};
 ghost use mathlib.Core.Bool.{true, cond};
 ghost use Prim.Native.Nat.{_<_, _≤_};
@@ -40,13 +41,13 @@ fn edge_of(r: Record, c: usize) -> usize
     0
 }
 
-fn edges_in(places: [Place; 256], c: usize) -> [usize; 256]
+fn edges_in(places: [Place; Unit::PLACES], c: usize) -> [usize; Unit::PLACES]
     requires { ⌜ EndsLow places ⌝ }
     ensures { λ r. ⌜ r ≡ edges places c ⌝ }
 {
-    let mut out = [0usize; 256];
+    let mut out = [0usize; Unit::PLACES];
     let mut p: usize = 0;
-    while p < 256 {
+    while p < Unit::PLACES {
         let place = places[p];
         let r = place.entry;
         let e = edge_of(r, c);
@@ -68,7 +69,7 @@ fn with_held(w: u32, s: usize, k: Kind, c: usize) -> u32
 }
 
 // The first n stations, those of them that are held in component c.
-fn held_in(n: usize, stations: [Station; 32], c: usize) -> u32
+fn held_in(n: usize, stations: [Station; Unit::STATIONS], c: usize) -> u32
     requires { ⌜ (n ≤ 32) × (c < 3) ⌝ }
     ensures { λ r. ⌜ r ≡ setOf n (isHeld stations c) ⌝ }
 {
@@ -84,7 +85,7 @@ fn held_in(n: usize, stations: [Station; 32], c: usize) -> u32
 }
 
 // The stations that are tied in component c.
-fn tied_in(net: Network, places: [Place; 256], c: usize) -> u32
+fn tied_in(net: Network, places: [Place; Unit::PLACES], c: usize) -> u32
     requires { ⌜ Ends net places × (c < 3) ⌝ }
     ensures { λ r. ⌜ SameSet net places c r ⌝ }
 {
@@ -107,11 +108,11 @@ fn held_or_in(k: Kind, c: usize, w: u32, s: usize) -> bool
 }
 
 // The first component, by station and then E, N, U, that is neither held nor in its set; 96 where there is none.
-fn first_missing(stations: [Station; 32], found: [u32; 3]) -> usize
+fn first_missing(stations: [Station; Unit::STATIONS], found: [u32; 3]) -> usize
     ensures { λ r. ⌜ r ≡ firstFailing 96 (heldOrIn stations found) ⌝ }
 {
     let mut q: usize = 0;
-    while q < 96 {
+    while q < Unit::COMPONENTS {
         let x = stations[q / 3];
         let k = x.kind;
         let w = found[q % 3];
@@ -120,11 +121,11 @@ fn first_missing(stations: [Station; 32], found: [u32; 3]) -> usize
         }
         q += 1;
     }
-    96
+    Unit::COMPONENTS
 }
 
 // The first component, by station and then E, N, U, that is neither held nor tied; 96 where there is none.
-pub fn first_untied(net: Network, places: [Place; 256]) -> usize
+pub fn first_untied(net: Network, places: [Place; Unit::PLACES]) -> usize
     requires { ⌜ Ends net places ⌝ }
     ensures { λ r. ⌜ r ≡ firstFailing 96 (isTied net places) ⌝ }
 {

@@ -12,10 +12,10 @@ use Rattle.network.specs.Stations.{unknownCount}
 use Rattle.normals.specs.Sound.{Sound}
 use Rattle.normals.specs.Sizes.{never-9}
 use Rattle.normals.specs.Formulas.{matrixOf, rightOf, entriesFit}
-use Rattle.acceptance.specs.Tests.{lengthsFit}
+use Rattle.acceptance.specs.Tests.{at, byRows, lengthsFit}
 use Rattle.acceptance.specs.JudgeLaws.{Fit, lengths-of, corrections-small, inverse-small}
 use Rattle.acceptance.specs.Judge.{judge}
-use Rattle.acceptance.specs.Exactly.{answer, fit-of, accepted-all}
+use Rattle.acceptance.specs.Exactly.{answer, fit-of, kept-answer, accepted-all}
 use Rattle.acceptance.specs.declared.Answer.{Answer}
 use Rattle.acceptance.specs.declared.Answer.the-variants.{Accepted, Refused, Untied}
 use Rattle.book.specs.declared.Book.{Book}
@@ -46,9 +46,8 @@ module _ (b : Book) (g : Parts.Sound b) where
 
   module _ (x m : List ℤ) (r : Bool) where
     -- the answer of `accept` on the book's own N and u
-    pub judge-is : judge (b .network) (b .places) (b .normals .matrix) (b .normals .right) x m r ≡ answer (b .network) (b .places) x m r
-    unfolding answer
-    judge-is = rw (matrix-is, right-is)
+    pub judge-is : judge (b .network) (b .places) (byRows 48 (b .normals .matrix)) (at (b .normals .right)) x m r ≡ answer (b .network) (b .places) x m r
+    judge-is = rw (matrix-is, right-is) (kept-answer (b .network) (b .places) rules x m r)
 
     module _ (e : answer (b .network) (b .places) x m r ≡ Accepted) where
       pub solved : Solved (b .network) (b .places) x

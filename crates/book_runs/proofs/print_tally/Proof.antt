@@ -1,12 +1,8 @@
+-- `print_tally` meets its contract. Assumes nothing.
 use Prim.Native.Nat.{_-_, _≤_}
 use borrow.Author.Needs.{needs}
 use Rattle.book_runs.proofs.print_tally.Statement.{statement}
 use Rattle.book_runs.proofs.print_tally.Tie as tie
-use Rattle.book_runs.proofs.print_tally.Reads as reads
-use Rattle.book_runs.proofs.print_tally.Lts as lts
-use Rattle.book_runs.proofs.print_line.Reads as print-line-reads
-use Rattle.io.proofs.print_decimal.Reads as print-decimal-reads
-use Rattle.io.proofs.write_all.Reads as write-all-reads
 
 abbrev Inv-loop : tie.InvT-loop
 Inv-loop tally answers i₀ t6 t7 i = i ≤ 10

@@ -1,17 +1,9 @@
+-- `pushed_out` meets its contract. Assumes nothing.
 use mathlib.Core.Path.{sym, _∙_}
 use borrow.Author.Tests.{not-false}
 use borrow.Author.Needs.{needs}
 use Rattle.book_runs.proofs.pushed_out.Statement.{statement}
 use Rattle.book_runs.proofs.pushed_out.Tie as tie
-use Rattle.book_runs.proofs.pushed_out.Reads as reads
-use Rattle.book_runs.proofs.pushed_out.Lts as lts
-use Rattle.book.proofs.Book.open.Reads as open-reads
-use Rattle.book.proofs.Book.undo.Reads as undo-reads
-use Rattle.book.proofs.is_sound.Reads as is-sound-reads
-use Rattle.book_runs.proofs.ledger.filled.Reads as filled-reads
-use Rattle.book_runs.proofs.print_line.Reads as print-line-reads
-use Rattle.book_runs.proofs.samples.list.Reads as list-reads
-use Rattle.book_runs.proofs.series.Reads as series-reads
 
 list-requires : tie.Need-list-requires
 list-requires c κs = search needs

@@ -1,10 +1,8 @@
+-- `random_runs` meets its contract. Assumes nothing.
 use Prim.Native.Nat.{_-_, _≤_}
 use borrow.Author.Needs.{needs}
 use Rattle.book_runs.proofs.random_runs.Statement.{statement}
 use Rattle.book_runs.proofs.random_runs.Tie as tie
-use Rattle.book_runs.proofs.random_runs.Reads as reads
-use Rattle.book_runs.proofs.random_runs.Lts as lts
-use Rattle.book_runs.proofs.run.Reads as run-reads
 
 abbrev Inv-loop : tie.InvT-loop
 Inv-loop tally₀ r₀ tally r = r ≤ 250

@@ -1,3 +1,4 @@
+-- `run` meets its contract. Assumes nothing.
 use Prim.Native.Nat.{_-_, _≤_}
 use mathlib.Core.Path.{_≡_, sym, _∙_}
 use mathlib.Core.Bool.{true}
@@ -7,14 +8,6 @@ use borrow.Author.Tests.{not-false}
 use Rattle.book.specs.Book.{sound}
 use Rattle.book_runs.proofs.run.Statement.{statement}
 use Rattle.book_runs.proofs.run.Tie as tie
-use Rattle.book_runs.proofs.run.Reads as reads
-use Rattle.book_runs.proofs.run.Lts as lts
-use Rattle.book.proofs.Book.open.Reads as open-reads
-use Rattle.book.proofs.is_sound.Reads as is-sound-reads
-use Rattle.book_runs.proofs.Tally.judged.Reads as judged-reads
-use Rattle.book_runs.proofs.ledger.Ledger.new.Reads as new-reads
-use Rattle.book_runs.proofs.samples.list.Reads as list-reads
-use Rattle.book_runs.proofs.step.Reads as step-reads
 
 abbrev Inv-loop : tie.InvT-loop
 Inv-loop seed side₀ k₀ side k = (k ≤ 400) × (sound (side .book) ≡ true)

@@ -1,15 +1,10 @@
+-- `series` meets its contract. Assumes nothing.
 use mathlib.Core.Path.{_≡_}
 use mathlib.Core.Bool.{true}
 use Rattle.book.specs.Book.{sound}
 use borrow.Author.Needs.{needs}
 use Rattle.book_runs.proofs.series.Statement.{statement}
 use Rattle.book_runs.proofs.series.Tie as tie
-use Rattle.book_runs.proofs.series.Reads as reads
-use Rattle.book_runs.proofs.series.Lts as lts
-use Rattle.book_runs.proofs.accepted_more.Reads as accepted-more-reads
-use Rattle.book_runs.proofs.call.Reads as call-reads
-use Rattle.book_runs.proofs.samples.level.Reads as level-reads
-use Rattle.words.proofs.to_signed.Reads as to-signed-reads
 
 abbrev Inv-loop : tie.InvT-loop
 Inv-loop kind n state₀ accepted₀ left₀ state accepted left = sound state ≡ true

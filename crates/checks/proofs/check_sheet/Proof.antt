@@ -3,6 +3,7 @@ use mathlib.Core.Path.{_≡_, sym, ap, _∙_}
 use mathlib.Core.Bool.{Bool, true}
 use Rattle.network.specs.Filling.{length-mapped}
 use Rattle.acceptance.specs.Judge.{judge}
+use Rattle.acceptance.specs.Tests.{at, byRows}
 use Rattle.acceptance.specs.JudgeLaws.{Fit}
 use Rattle.acceptance.specs.Exactly.{answer}
 use Rattle.book.specs.Sound.{Sound, sound-parts}
@@ -26,7 +27,7 @@ answered : (c : tie.After-accept)
 answered c =
     let s = c .before .before .before .before .before .before .before .before .before .before in let k = s .args .book in
     let r : c .before .before .before .has-room .result ≡ hasRoom k (s .args .sheet .now) = c .before .before .before .has-room .ensures ∙ ap (λ (w : ℕ). leb w (length (s .args .sheet .now))) (c .before .before .before .before .room-of .ensures) in
-    c .accept .ensures ∙ ap (λ (q : Bool). judge (k .network) (k .places) (k .normals .matrix) (k .normals .right) (s .args .x .now) (s .args .m .now) q) r
+    c .accept .ensures ∙ ap (λ (q : Bool). judge (k .network) (k .places) (byRows 48 (k .normals .matrix)) (at (k .normals .right)) (s .args .x .now) (s .args .m .now) q) r
     ∙ judge-is k (sound-book s) (s .args .x .now) (s .args .m .now) (hasRoom k (s .args .sheet .now))
 
 room-of-requires : tie.Need-room-of-requires

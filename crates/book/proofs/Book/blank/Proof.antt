@@ -1,3 +1,4 @@
+-- `Book::blank` meets its contract. Assumes nothing.
 use mathlib.Core.Path.{ap}
 use borrow.Author.Needs.{needs}
 use lib.ListN.{replicate}
@@ -7,9 +8,6 @@ use Rattle.normals.specs.declared.Normals.{Normals}
 use Rattle.book.specs.Journal.{emptyJournal}
 use Rattle.book.proofs.Book.blank.Statement.{statement}
 use Rattle.book.proofs.Book.blank.Tie as tie
-use Rattle.book.proofs.Book.blank.Reads as reads
-use Rattle.book.proofs.Book.blank.Lts as lts
-use Rattle.normals.proofs.Normals.blank.Reads as blank-reads
 
 blank-requires : tie.Need-blank-requires
 blank-requires c κs = search needs

@@ -1,3 +1,4 @@
+-- `Book::open` meets its contract. Assumes nothing.
 use mathlib.Core.Path.{sym, ap, _∙_}
 use borrow.Author.Needs.{needs}
 use denote.Ref.{now}
@@ -6,11 +7,6 @@ use Rattle.book.specs.Book.{openedBook}
 use Rattle.book.proofs.Done.{opening-done, opening-refused}
 use Rattle.book.proofs.Book.open.Statement.{statement}
 use Rattle.book.proofs.Book.open.Tie as tie
-use Rattle.book.proofs.Book.open.Reads as reads
-use Rattle.book.proofs.Book.open.Lts as lts
-use Rattle.book.proofs.Book.blank.Reads as blank-reads
-use Rattle.network.proofs.network_of.Reads as network-of-reads
-use Rattle.network.proofs.opens.Reads as opens-reads
 
 opens-requires : tie.Need-opens-requires
 opens-requires c κs = search needs

@@ -1,3 +1,4 @@
+-- `Book::put` meets its contract. Assumes nothing.
 use mathlib.Core.Path.{ap, _∙_}
 use borrow.Author.Needs.{needs}
 use lib.ListN.{set}
@@ -5,9 +6,6 @@ use Rattle.normals.specs.declared.Normals.{Normals}
 use Rattle.book.specs.Exchanged.{may-exchange, exchanged-is}
 use Rattle.book.proofs.Book.put.Statement.{statement}
 use Rattle.book.proofs.Book.put.Tie as tie
-use Rattle.book.proofs.Book.put.Reads as reads
-use Rattle.book.proofs.Book.put.Lts as lts
-use Rattle.normals.proofs.Normals.exchange.Reads as exchange-reads
 
 mul-q : tie.Need-mul-q
 mul-q c = search needs

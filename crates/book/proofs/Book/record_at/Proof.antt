@@ -1,6 +1,8 @@
+-- `Book::record_at` meets its contract. Assumes nothing.
+use mathlib.Core.Path.{sym}
 use borrow.Author.Needs.{needs}
 use Rattle.network.specs.Filling.{length-mapped}
-use Rattle.book.proofs.Steps.{record-beyond}
+use Rattle.book.specs.PlaceLaws.{record-beyond}
 use Rattle.book.proofs.Book.record_at.Statement.{statement}
 use Rattle.book.proofs.Book.record_at.Tie as tie
 
@@ -14,7 +16,7 @@ returns : tie.Need-returns
 returns c = search needs
 
 returns-2 : tie.Need-returns-2
-returns-2 c = record-beyond (c .before .args .t1 .places) _ (search (needs, length-mapped)) (c .if1 .left)
+returns-2 c = sym (record-beyond (c .before .args .t1 .places) _ (search (needs, length-mapped)) (c .if1 .left))
 
 pub record-at-spec : {M : Type 1} → statement M
 record-at-spec = tie.close (tie.spec mul-q element-copy-out-q returns returns-2)

@@ -1,3 +1,4 @@
+-- `Book::settle` meets its contract. Assumes nothing.
 use mathlib.Core.Path.{refl, ap}
 use borrow.Author.Needs.{needs}
 use Rattle.book.specs.declared.Book.{Book}

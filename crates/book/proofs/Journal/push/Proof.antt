@@ -1,9 +1,7 @@
+-- `Journal::push` meets its contract. Assumes nothing.
 use borrow.Author.Needs.{needs}
 use Rattle.book.proofs.Journal.push.Statement.{statement}
 use Rattle.book.proofs.Journal.push.Tie as tie
-use Rattle.book.proofs.Journal.push.Reads as reads
-use Rattle.book.proofs.Journal.push.Lts as lts
-use Rattle.book.proofs.history.capped.Reads as capped-reads
 
 mul-a : tie.Need-mul-a
 mul-a c = search needs

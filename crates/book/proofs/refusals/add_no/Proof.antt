@@ -1,13 +1,9 @@
+-- `refusals::add_no` meets its contract. Assumes nothing.
 use borrow.Author.Needs.{needs}
 use mir.Syntax.{w64}
 use mir.Facts.{toZ-ofZ}
 use Rattle.book.proofs.refusals.add_no.Statement.{statement}
 use Rattle.book.proofs.refusals.add_no.Tie as tie
-use Rattle.book.proofs.refusals.add_no.Reads as reads
-use Rattle.book.proofs.refusals.add_no.Lts as lts
-use Rattle.book.proofs.refusals.filled_no.Reads as filled-no-reads
-use Rattle.book.proofs.refusals.first_no.Reads as first-no-reads
-use Rattle.book.proofs.refusals.place_no.Reads as place-no-reads
 
 filled-no-requires : tie.Need-filled-no-requires
 filled-no-requires c κs = search needs

@@ -1,3 +1,4 @@
+-- `refusals::filled_no` meets its contract. Assumes nothing.
 use mathlib.Core.Path.{sym, _∙_}
 use borrow.Author.Needs.{needs}
 use Rattle.book.specs.Calls.{filledNo}

@@ -1,13 +1,9 @@
+-- `refusals::replace_no` meets its contract. Assumes nothing.
 use borrow.Author.Needs.{needs}
 use mir.Syntax.{w64}
 use mir.Facts.{toZ-ofZ}
 use Rattle.book.proofs.refusals.replace_no.Statement.{statement}
 use Rattle.book.proofs.refusals.replace_no.Tie as tie
-use Rattle.book.proofs.refusals.replace_no.Reads as reads
-use Rattle.book.proofs.refusals.replace_no.Lts as lts
-use Rattle.book.proofs.refusals.empty_no.Reads as empty-no-reads
-use Rattle.book.proofs.refusals.first_no.Reads as first-no-reads
-use Rattle.book.proofs.refusals.place_no.Reads as place-no-reads
 
 empty-no-requires : tie.Need-empty-no-requires
 empty-no-requires c κs = search needs

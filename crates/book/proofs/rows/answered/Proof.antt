@@ -1,3 +1,4 @@
+-- `rows::answered` meets its contract. Assumes nothing.
 use Prim.Native.Nat.{_<_, _^_}
 use mathlib.Core.Path.{refl}
 use native.Mathlib.Omega.{arith}
@@ -6,8 +7,6 @@ use mir.Syntax.{w64}
 use mir.Facts.{toZ-ofZ}
 use Rattle.book.proofs.rows.answered.Statement.{statement}
 use Rattle.book.proofs.rows.answered.Tie as tie
-use Rattle.book.proofs.rows.answered.Reads as reads
-use Rattle.book.proofs.rows.answered.Lts as lts
 
 cast-answer : tie.Need-cast-answer
 cast-answer c = search needs

@@ -1,3 +1,4 @@
+-- `rows::height_in` meets its contract. Assumes nothing.
 use borrow.Author.Needs.{needs, sfits-of}
 use mir.Syntax.{w64}
 use mir.Facts.{toZ-ofZ}
@@ -9,8 +10,6 @@ use Rattle.network.specs.declared.Record.the-variants.{Height as height}
 use Rattle.book.specs.Rows.{recordOf}
 use Rattle.book.proofs.rows.height_in.Statement.{statement}
 use Rattle.book.proofs.rows.height_in.Tie as tie
-use Rattle.book.proofs.rows.height_in.Reads as reads
-use Rattle.book.proofs.rows.height_in.Lts as lts
 
 add-from : tie.Need-add-from
 add-from c = search needs

@@ -1,3 +1,4 @@
+-- `rows::record_in` meets its contract. Assumes nothing.
 use borrow.Author.Needs.{needs, sfits-of}
 use mathlib.Core.Path.{_≡_, sym, ap, _∙_}
 use mir.Syntax.{w64}
@@ -11,11 +12,6 @@ use Rattle.book.specs.Rows.{recordOf}
 use Rattle.book.proofs.RowCases.{other-record}
 use Rattle.book.proofs.rows.record_in.Statement.{statement}
 use Rattle.book.proofs.rows.record_in.Tie as tie
-use Rattle.book.proofs.rows.record_in.Reads as reads
-use Rattle.book.proofs.rows.record_in.Lts as lts
-use Rattle.book.proofs.rows.baseline_in.Reads as baseline-in-reads
-use Rattle.book.proofs.rows.height_in.Reads as height-in-reads
-use Rattle.words.proofs.index_in.Reads as index-in-reads
 
 add-index-in : tie.Need-add-index-in
 add-index-in c = search needs

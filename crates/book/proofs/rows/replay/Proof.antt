@@ -1,3 +1,4 @@
+-- `rows::replay` meets its contract. Assumes nothing.
 use Prim.Native.Nat.{_/_, min}
 use mathlib.Core.Path.{_≡_}
 use native.Mathlib.Omega.{arith}
@@ -7,11 +8,6 @@ use lib.ListN.{length}
 use Rattle.book.proofs.Replays.{opened-sound, replay-refused, replay-done}
 use Rattle.book.proofs.rows.replay.Statement.{statement}
 use Rattle.book.proofs.rows.replay.Tie as tie
-use Rattle.book.proofs.rows.replay.Reads as reads
-use Rattle.book.proofs.rows.replay.Lts as lts
-use Rattle.book.proofs.Book.open.Reads as open-reads
-use Rattle.book.proofs.rows.least.Reads as least-reads
-use Rattle.book.proofs.rows.run.Reads as run-reads
 
 open-requires : tie.Need-open-requires
 open-requires c κs = search needs

@@ -1,3 +1,4 @@
+-- `rows::row` meets its contract. Assumes nothing.
 use mathlib.Core.Path.{_≡_, ap, _∙_}
 use Prim.Native.Nat.{_+_}
 use borrow.Author.Needs.{needs, sfits-of}
@@ -11,15 +12,6 @@ use Rattle.words.specs.Signed.{indexIn}
 use Rattle.book.proofs.RowCases.{is-add, is-replace, is-strike, is-undo, is-nameless, refusal-small, call-answered, nameless-answered}
 use Rattle.book.proofs.rows.row.Statement.{statement}
 use Rattle.book.proofs.rows.row.Tie as tie
-use Rattle.book.proofs.rows.row.Reads as reads
-use Rattle.book.proofs.rows.row.Lts as lts
-use Rattle.book.proofs.Book.add.Reads as add-reads
-use Rattle.book.proofs.Book.replace.Reads as replace-reads
-use Rattle.book.proofs.Book.strike.Reads as strike-reads
-use Rattle.book.proofs.Book.undo.Reads as undo-reads
-use Rattle.book.proofs.rows.answered.Reads as answered-reads
-use Rattle.book.proofs.rows.record_in.Reads as record-in-reads
-use Rattle.words.proofs.index_in.Reads as index-in-reads
 
 mul-word : tie.Need-mul-word
 mul-word c = search needs

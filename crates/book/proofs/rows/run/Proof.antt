@@ -1,5 +1,5 @@
 -- The loop's invariant: the book is that after the first k rows, and the first k answers are those to them.
-use Prim.Native.Nat.{ℕ, _+_, _-_, _*_, _<_, _≤_}
+use Prim.Native.Nat.{ℕ, _-_, _<_, _≤_}
 use mathlib.Core.Path.{_≡_, refl, ap, _∙_, subst}
 use mathlib.Core.Bool.{true}
 use mathlib.Core.List.{List}
@@ -14,13 +14,10 @@ use Rattle.network.specs.Filling.{Mapped, starts, goes-on}
 use Rattle.book.specs.declared.Book.{Book}
 use Rattle.book.specs.Run.{final, answers, final-zero, length-answers}
 use Rattle.book.specs.Book.{bookSays, bookNext, sound}
-use Rattle.book.specs.Rows.{rowIn, rowsIn, rowNext, rowSays}
+use Rattle.book.specs.Rows.{rowsIn, rowNext, rowSays}
 use Rattle.book.specs.ReplayLaws.{turn-says, turn-next, length-rows, all-rows, filled, unfilled}
 use Rattle.book.proofs.rows.run.Statement.{statement}
 use Rattle.book.proofs.rows.run.Tie as tie
-use Rattle.book.proofs.rows.run.Reads as reads
-use Rattle.book.proofs.rows.run.Lts as lts
-use Rattle.book.proofs.rows.row.Reads as row-reads
 
 -- what row k is answered
 abbrev said : Book → List ℤ → ℕ → ℕ → ℤ

@@ -1,3 +1,4 @@
+-- `soundness::can_undo` meets its contract. Assumes nothing.
 use Prim.Native.Nat.{_<_}
 use mathlib.Core.Path.{_≡_, refl, sym, _∙_}
 use native.Mathlib.Omega.{arith}
@@ -11,9 +12,6 @@ use Rattle.book.specs.Book.{undoable}
 use Rattle.book.proofs.Undoing.{undo-beyond, undo-fails, undo-goes-on, undo-ends}
 use Rattle.book.proofs.soundness.can_undo.Statement.{statement}
 use Rattle.book.proofs.soundness.can_undo.Tie as tie
-use Rattle.book.proofs.soundness.can_undo.Reads as reads
-use Rattle.book.proofs.soundness.can_undo.Lts as lts
-use Rattle.book.proofs.soundness.restores.Reads as restores-reads
 
 abbrev Inv-loop : tie.InvT-loop
 Inv-loop net coordinate entries state₀ slot₀ left₀ state slot left =

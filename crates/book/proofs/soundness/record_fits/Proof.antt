@@ -1,3 +1,4 @@
+-- `soundness::record_fits` meets its contract. Assumes nothing.
 use mathlib.Core.Path.{sym, ap, _∙_, subst}
 use mathlib.Core.List.{List}
 use lib.IntN.{ℤ}
@@ -6,9 +7,6 @@ use Rattle.network.specs.Rules.{recordFits, recordFitsOver}
 use Rattle.network.specs.RuleLaws.{network-few, sound-stations}
 use Rattle.book.proofs.soundness.record_fits.Statement.{statement}
 use Rattle.book.proofs.soundness.record_fits.Tie as tie
-use Rattle.book.proofs.soundness.record_fits.Reads as reads
-use Rattle.book.proofs.soundness.record_fits.Lts as lts
-use Rattle.network.proofs.record_fits_over.Reads as record-fits-over-reads
 
 record-fits-over-requires : tie.Need-record-fits-over-requires
 record-fits-over-requires c κs =

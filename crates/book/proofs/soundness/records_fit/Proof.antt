@@ -1,3 +1,4 @@
+-- `soundness::records_fit` meets its contract. Assumes nothing.
 use Prim.Native.Nat.{_-_, _≤_}
 use mathlib.Core.Path.{_≡_, sym, _∙_}
 use mathlib.Core.Bool.{true}
@@ -9,9 +10,6 @@ use Rattle.network.specs.Records.{recordAt}
 use Rattle.network.specs.Rules.{recordFits}
 use Rattle.book.proofs.soundness.records_fit.Statement.{statement}
 use Rattle.book.proofs.soundness.records_fit.Tie as tie
-use Rattle.book.proofs.soundness.records_fit.Reads as reads
-use Rattle.book.proofs.soundness.records_fit.Lts as lts
-use Rattle.book.proofs.soundness.record_fits.Reads as record-fits-reads
 
 abbrev Inv-loop : tie.InvT-loop
 Inv-loop net coordinate places p₀ p = (p ≤ 256) × (allBelow p (λ k. recordFits net (recordAt places k)) ≡ true)

@@ -1,10 +1,7 @@
+-- `soundness::restores` meets its contract. Assumes nothing.
 use borrow.Author.Needs.{needs}
 use Rattle.book.proofs.soundness.restores.Statement.{statement}
 use Rattle.book.proofs.soundness.restores.Tie as tie
-use Rattle.book.proofs.soundness.restores.Reads as reads
-use Rattle.book.proofs.soundness.restores.Lts as lts
-use Rattle.book.proofs.soundness.record_fits.Reads as record-fits-reads
-use Rattle.network.proofs.is_empty.Reads as is-empty-reads
 
 record-fits-requires : tie.Need-record-fits-requires
 record-fits-requires c κs = search needs

@@ -1,10 +1,8 @@
+-- `soundness::slot_fits` meets its contract. Assumes nothing.
 use borrow.Author.Needs.{needs}
 use borrow.Author.Tests.{lt-ltb, le-ltb}
 use Rattle.book.proofs.soundness.slot_fits.Statement.{statement}
 use Rattle.book.proofs.soundness.slot_fits.Tie as tie
-use Rattle.book.proofs.soundness.slot_fits.Reads as reads
-use Rattle.book.proofs.soundness.slot_fits.Lts as lts
-use Rattle.book.proofs.soundness.is_free.Reads as is-free-reads
 
 add-age : tie.Need-add-age
 add-age c = search needs

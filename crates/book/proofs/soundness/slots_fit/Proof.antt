@@ -1,3 +1,4 @@
+-- `soundness::slots_fit` meets its contract. Assumes nothing.
 use Prim.Native.Nat.{ℕ, _+_, _-_, _%_, _≤_}
 use mathlib.Core.Path.{_≡_, sym, _∙_}
 use mathlib.Core.Bool.{Bool, true, _||_}
@@ -12,9 +13,6 @@ use Rattle.book.specs.declared.Reversal.{Reversal}
 use Rattle.book.specs.Journal.{free, isFree}
 use Rattle.book.proofs.soundness.slots_fit.Statement.{statement}
 use Rattle.book.proofs.soundness.slots_fit.Tie as tie
-use Rattle.book.proofs.soundness.slots_fit.Reads as reads
-use Rattle.book.proofs.soundness.slots_fit.Lts as lts
-use Rattle.book.proofs.soundness.slot_fits.Reads as slot-fits-reads
 
 -- the test of a slot
 abbrev test : List Reversal → ℕ → ℕ → ℕ → Bool

@@ -1,10 +1,8 @@
+-- `ledger::filled` meets its contract. Assumes nothing.
 use Prim.Native.Nat.{_-_, _≤_}
 use borrow.Author.Needs.{needs}
 use Rattle.book_runs.proofs.ledger.filled.Statement.{statement}
 use Rattle.book_runs.proofs.ledger.filled.Tie as tie
-use Rattle.book_runs.proofs.ledger.filled.Reads as reads
-use Rattle.book_runs.proofs.ledger.filled.Lts as lts
-use Rattle.book_runs.proofs.ledger.filled_at.Reads as filled-at-reads
 
 abbrev Inv-loop : tie.InvT-loop
 Inv-loop places n₀ p₀ n p = (p ≤ 256) × (n ≤ p)

@@ -1,10 +1,8 @@
+-- `ledger::same_places` meets its contract. Assumes nothing.
 use Prim.Native.Nat.{_-_, _≤_}
 use borrow.Author.Needs.{needs}
 use Rattle.book_runs.proofs.ledger.same_places.Statement.{statement}
 use Rattle.book_runs.proofs.ledger.same_places.Tie as tie
-use Rattle.book_runs.proofs.ledger.same_places.Reads as reads
-use Rattle.book_runs.proofs.ledger.same_places.Lts as lts
-use Rattle.book_runs.proofs.ledger.same_record.Reads as same-record-reads
 
 abbrev Inv-loop : tie.InvT-loop
 Inv-loop a b p₀ p = p ≤ 256

@@ -1,11 +1,8 @@
+-- `ledger::same_record` meets its contract. Assumes nothing.
 use Prim.Native.Nat.{_-_, _≤_}
 use borrow.Author.Needs.{needs}
 use Rattle.book_runs.proofs.ledger.same_record.Statement.{statement}
 use Rattle.book_runs.proofs.ledger.same_record.Tie as tie
-use Rattle.book_runs.proofs.ledger.same_record.Reads as reads
-use Rattle.book_runs.proofs.ledger.same_record.Lts as lts
-use Rattle.book_runs.proofs.ledger.words_of.Reads as words-of-reads
-use Rattle.words.proofs.same.Reads as same-reads
 
 abbrev Inv-loop : tie.InvT-loop
 Inv-loop a b i₀ i = i ≤ 12

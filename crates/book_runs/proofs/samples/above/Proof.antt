@@ -1,11 +1,9 @@
+-- `samples::above` meets its contract. Assumes nothing.
 use native.Mathlib.Omega.{arith}
 use native.Mathlib.Nat.{mod-lt}
 use borrow.Author.Needs.{needs}
 use Rattle.book_runs.proofs.samples.above.Statement.{statement}
 use Rattle.book_runs.proofs.samples.above.Tie as tie
-use Rattle.book_runs.proofs.samples.above.Reads as reads
-use Rattle.book_runs.proofs.samples.above.Lts as lts
-use Rattle.words.proofs.to_signed.Reads as to-signed-reads
 
 rem-to-signed : tie.Need-rem-to-signed
 rem-to-signed c = search needs

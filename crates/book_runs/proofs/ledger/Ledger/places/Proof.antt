@@ -1,13 +1,10 @@
+-- `ledger::Ledger::places` meets its contract. Assumes nothing.
 use Prim.Native.Nat.{_-_, _≤_}
 use mathlib.Core.Path.{_≡_}
 use lib.ListN.{length}
 use borrow.Author.Needs.{needs}
 use Rattle.book_runs.proofs.ledger.Ledger.places.Statement.{statement}
 use Rattle.book_runs.proofs.ledger.Ledger.places.Tie as tie
-use Rattle.book_runs.proofs.ledger.Ledger.places.Reads as reads
-use Rattle.book_runs.proofs.ledger.Ledger.places.Lts as lts
-use Rattle.book_runs.proofs.ledger.at_most.Reads as at-most-reads
-use Rattle.book_runs.proofs.ledger.vacant.Reads as vacant-reads
 
 abbrev Inv-loop : tie.InvT-loop
 Inv-loop at puts n places₀ k₀ places k = (k ≤ n) × (n ≤ 400) × (length places ≡ 256)

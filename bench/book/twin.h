@@ -1,0 +1,32 @@
+/* The book as a plain C struct. */
+#include <stddef.h>
+#include <stdint.h>
+
+enum { STATIONS = 32, COMPONENTS = 96, PLACES = 256, ROW = 48 };
+
+typedef struct {
+    int64_t kind, east, north, up; /* 1 known, 2 free, 3 height; 0 beyond the list */
+} station;
+
+typedef struct {
+    int64_t kind; /* 0 empty, 1 baseline, 2 height difference: weight in uu */
+    int64_t from, to, east, north, up, ee, en, eu, nn, nu, uu;
+} record;
+
+typedef struct {
+    size_t place;
+    record prior;
+} reversal;
+
+typedef struct {
+    size_t count;
+    station stations[STATIONS];
+    record places[PLACES];
+    reversal entries[64];
+    size_t next, held;
+    int64_t matrix[ROW * ROW], right[ROW];
+} book;
+
+int64_t twin_call(book *b, int64_t call, int64_t place, record r);
+void twin_replay(const int64_t *list, size_t words, const int64_t *calls, size_t rows, int64_t *answers);
+void twin_replay_by_value(const int64_t *list, size_t words, const int64_t *calls, size_t rows, int64_t *answers);

@@ -1,0 +1,73 @@
+-- `all_fit` stops at the first record that is refused; all before it are by the rules. Assumes nothing.
+use Prim.Native.Nat.{ℕ, _≤_, _-_}
+use mathlib.Core.Path.{_≡_, sym, _∙_}
+use mathlib.Core.Bool.{Bool, true, false}
+use native.Mathlib.Omega.{arith}
+use borrow.Author.Needs.{needs}
+use borrow.Author.Tests.{not-true, not-false}
+use Rattle.network.specs.All.{allBelow}
+use Rattle.network.specs.Records.{recordAt}
+use Rattle.network.specs.Rules.{recordFits}
+use Rattle.chains.specs.Scans.{all-none, all-more, all-fails, all-ended}
+use Rattle.acceptance_limits.proofs.all_fit.Statement.{statement}
+use Rattle.acceptance_limits.proofs.all_fit.Tie as tie
+
+abbrev Inv-loop : tie.InvT-loop
+Inv-loop net places p₀ p = (p ≤ 256) × (allBelow p (λ p. recordFits net (recordAt places p)) ≡ true)
+
+abbrev μ-loop : tie.MeasureT-loop
+μ-loop net places p₀ p = 256 - p
+
+abbrev passes : tie.Start Inv-loop μ-loop → ℕ → Bool
+passes s p = recordFits (s .args .net) (recordAt (s .args .t2) p)
+
+-- what the test told is of place p
+told : (c : tie.After-record-fits Inv-loop μ-loop) (b : Bool) → c .record-fits .result ≡ b → passes (c .before .before .before .before) (c .before .before .before .loop .p) ≡ b
+told c b e = sym (c .record-fits .ensures) ∙ e
+
+loop-holds : tie.Need-loop-holds Inv-loop μ-loop
+loop-holds c = (omega arith, all-none _)
+
+mul-place : tie.Need-mul-place Inv-loop μ-loop
+mul-place c = search needs
+
+array-copy-out-place : tie.Need-array-copy-out-place Inv-loop μ-loop
+array-copy-out-place c = search needs
+
+record-fits-requires : tie.Need-record-fits-requires Inv-loop μ-loop
+record-fits-requires c κs = c .before .before .before .pre
+
+returns : tie.Need-returns Inv-loop μ-loop
+returns c =
+    let t = c .before .before .before .before in
+    sym (all-fails (passes (t .before)) (c .before .before .before .loop-test .taken) (told (c .before) false (not-true _ (c .if1 .taken))))
+
+add-p : tie.Need-add-p Inv-loop μ-loop
+add-p c = search needs
+
+loop-less : tie.Need-loop-less Inv-loop μ-loop
+loop-less c = search needs
+
+loop-again : tie.Need-loop-again Inv-loop μ-loop
+loop-again c =
+    let t = c .before .before .before .before in
+    (search needs, all-more (passes (t .before)) (t .loop .inv .1) (told (c .before) true (not-false _ (c .if1 .left))))
+
+returns-2 : tie.Need-returns-2 Inv-loop μ-loop
+returns-2 c = all-ended (passes (c .before .before)) (c .before .loop .inv .0) (c .loop-test .left) (c .before .loop .inv .1)
+
+pub all-fit-spec : {M : Type 1} → statement M
+all-fit-spec =
+    tie.close
+    (tie.spec
+    Inv-loop
+    μ-loop
+    loop-holds
+    mul-place
+    array-copy-out-place
+    record-fits-requires
+    returns
+    add-p
+    loop-less
+    loop-again
+    returns-2)

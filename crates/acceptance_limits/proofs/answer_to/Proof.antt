@@ -1,0 +1,53 @@
+-- `answer_to` asks for an answer only of a network and records by the rules. Assumes nothing.
+use mathlib.Core.Path.{_≡_, sym, _∙_}
+use mathlib.Core.Bool.{true}
+use borrow.Author.Needs.{needs}
+use borrow.Author.Tests.{not-false}
+use Rattle.network.specs.All.{all-at}
+use Rattle.network.specs.Stations.{networkFits}
+use Rattle.network.specs.RuleLaws.{network-few, network-coordinates}
+use Rattle.normals.specs.Sound.{Sound}
+use Rattle.acceptance.specs.Exactly.{fit-of}
+use Rattle.acceptance_limits.proofs.answer_to.Statement.{statement}
+use Rattle.acceptance_limits.proofs.answer_to.Tie as tie
+
+fits : (c : tie.Else1) → networkFits (c .before .before .args .net) ≡ true
+fits c = sym (c .before .network-fits .ensures) ∙ not-false _ (c .if1 .left)
+
+sound : (c : tie.Else2) → Sound (c .before .before .before .before .args .net) (c .before .before .before .before .args .places)
+sound c =
+    record { network = fits (c .before .before); each = λ p h. all-at 256 _ p (sym (c .before .all-fit .ensures) ∙ not-false _ (c .if2 .left)) h }
+
+network-fits-requires : tie.Need-network-fits-requires
+network-fits-requires c κs = search needs
+
+returns : tie.Need-returns
+returns c = search needs
+
+all-fit-requires : tie.Need-all-fit-requires
+all-fit-requires c κs = (network-few _ (fits c), network-coordinates _ (fits c))
+
+returns-2 : tie.Need-returns-2
+returns-2 c = search needs
+
+of-requires : tie.Need-of-requires
+of-requires c κs = sound c
+
+accept-requires : tie.Need-accept-requires
+accept-requires c κs =
+    rw (c .before .before .before .before .of .ensures) (fit-of _ _ (sound (c .before .before .before .before .before)))
+
+returns-3 : tie.Need-returns-3
+returns-3 c = search needs
+
+pub answer-to-spec : {M : Type 1} → statement M
+answer-to-spec =
+    tie.close
+    (tie.spec
+    network-fits-requires
+    returns
+    all-fit-requires
+    returns-2
+    of-requires
+    accept-requires
+    returns-3)

@@ -1,0 +1,16 @@
+-- `history::capped` meets its contract. Assumes nothing.
+use native.Mathlib.Omega.{arith}
+use Rattle.book.proofs.history.capped.Statement.{statement}
+use Rattle.book.proofs.history.capped.Tie as tie
+
+add-result : tie.Need-add-result
+add-result c = omega arith
+
+returns : tie.Need-returns
+returns c = omega arith
+
+returns-2 : tie.Need-returns-2
+returns-2 c = omega arith
+
+pub capped-spec : {M : Type 1} → statement M
+capped-spec = tie.close (tie.spec add-result returns returns-2)

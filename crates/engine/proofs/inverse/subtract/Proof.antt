@@ -1,0 +1,83 @@
+use mathlib.Core.Path.{_≡_}
+use Prim.Native.Nat.{_+_, _-_, _≤_}
+use lib.ListN.{length}
+use borrow.Author.Needs.{needs}
+use Rattle.engine.proofs.inverse.subtract.Statement.{statement}
+use Rattle.engine.proofs.inverse.subtract.Tie as tie
+
+abbrev Inv-loop : tie.InvT-loop
+Inv-loop a₀ i factor column j₀ a j = (j ≤ i + 1) × (length a ≡ length a₀)
+
+abbrev μ-loop : tie.MeasureT-loop
+μ-loop a₀ i factor column j₀ a j = i + 1 - j
+
+loop-holds : tie.Need-loop-holds Inv-loop μ-loop
+loop-holds c = search needs
+
+mul-a : tie.Need-mul-a Inv-loop μ-loop
+mul-a c = search needs
+
+add-a : tie.Need-add-a Inv-loop μ-loop
+add-a c = search needs
+
+mul-a-2 : tie.Need-mul-a-2 Inv-loop μ-loop
+mul-a-2 c = search needs
+
+slice-read-a : tie.Need-slice-read-a Inv-loop μ-loop
+slice-read-a c = search needs
+
+mul-a-3 : tie.Need-mul-a-3 Inv-loop μ-loop
+mul-a-3 c = search needs
+
+shared-slice-read-a : tie.Need-shared-slice-read-a Inv-loop μ-loop
+shared-slice-read-a c = search needs
+
+mul-a-4 : tie.Need-mul-a-4 Inv-loop μ-loop
+mul-a-4 c = search needs
+
+add-a-2 : tie.Need-add-a-2 Inv-loop μ-loop
+add-a-2 c = search needs
+
+mul-a-5 : tie.Need-mul-a-5 Inv-loop μ-loop
+mul-a-5 c = search needs
+
+slice-write-a : tie.Need-slice-write-a Inv-loop μ-loop
+slice-write-a c = search needs
+
+add-j : tie.Need-add-j Inv-loop μ-loop
+add-j c = search needs
+
+loop-less : tie.Need-loop-less Inv-loop μ-loop
+loop-less c = search needs
+
+loop-again : tie.Need-loop-again Inv-loop μ-loop
+loop-again c = search needs
+
+same-length : tie.Need-same-length Inv-loop μ-loop
+same-length c = search needs
+
+returns : tie.Need-returns Inv-loop μ-loop
+returns c = search needs
+
+pub subtract-spec : {M : Type 1} → statement M
+subtract-spec =
+    tie.close
+    (tie.spec
+    Inv-loop
+    μ-loop
+    loop-holds
+    mul-a
+    add-a
+    mul-a-2
+    slice-read-a
+    mul-a-3
+    shared-slice-read-a
+    mul-a-4
+    add-a-2
+    mul-a-5
+    slice-write-a
+    add-j
+    loop-less
+    loop-again
+    same-length
+    returns)

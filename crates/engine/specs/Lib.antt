@@ -1,0 +1,2 @@
+-- What the engine promises.
+pub mod Proposals

@@ -1,0 +1,78 @@
+// The engine: a solution proposed in f64, over a lent work slice, and passed through the check before it is given.
+//
+// `candidate` works a pair out from N and u: the inverse (`inverse`), rounded to whole numbers (`rounding`), and the corrections (`solution`).
+// `offer` has the check judge it, and writes only an accepted pair.
+mod candidate;
+mod copying;
+mod inverse;
+mod offer;
+mod rounding;
+mod solution;
+
+use book::Book;
+ghost use mathlib.Core.Path.{_≡_};
+ghost use mathlib.Core.Bool.{true};
+ghost use Prim.Native.Nat.{_*_, _≤_, _<_};
+ghost use lib.ListN.{length};
+ghost use Rattle.book.specs.Book.{sound};
+ghost use Rattle.checks.specs.Checks.{checked};
+ghost use Rattle.engine.specs.Proposals.{Proposed};
+
+// The answer to a call for a proposal; specs/Proposals says what each case promises.
+pub enum Proposal {
+    // x and M, as they are left in the lent slices, are accepted.
+    Made,
+    // x and M are as they came.
+    Nothing,
+}
+
+// The length of work slice that a proposal needs: the inverse and N, each 48 by 48.
+pub const WORK: usize = 4608;
+
+// The entries of an n×n matrix.
+fn square(n: usize) -> usize
+    requires { ⌜ n ≤ 48 ⌝ }
+    ensures { λ r. ⌜ (r ≡ n * n) × (r ≤ 2304) ⌝ }
+{
+    n * n
+}
+
+// A proposal where the lent lengths fit: a candidate worked out beside x and m, then offered.
+fn work_out(book: Book, n: usize, x: &mut [i64], m: &mut [i64], work: &mut [f64]) -> Proposal
+    requires { ⌜ sound book ≡ true ⌝ }
+    requires { ⌜ (n ≤ 48) × ((length (now x) ≡ n) × ((length (now m) ≤ 2304) × (4608 ≤ length (now work)))) ⌝ }
+    ensures { λ r. ⌜ Proposed r (checked book (now (x .exit)) (now (m .exit)) true) (now (x .entry)) (now (m .entry)) (now (x .exit)) (now (m .exit)) ⌝ }
+{
+    let normals = book.normals;
+    let matrix = normals.matrix;
+    let right = normals.right;
+    let entries = m.len();
+    let mut corrections = [0i64; 48];
+    let mut inverse = [0i64; 2304];
+    if candidate::candidate(&matrix, &right, n, &mut corrections, &mut inverse, work) {
+        return offer::offer(book, &corrections[0..n], &inverse[0..entries], x, m);
+    }
+    Proposal::Nothing
+}
+
+// A pair that the check accepts on this book, in x and m; or no proposal, and x and m as they came. Lent lengths other than n and n·n give no
+// proposal, and so does a work slice shorter than WORK. What the work slice holds afterwards is free.
+pub fn propose(book: Book, x: &mut [i64], m: &mut [i64], work: &mut [f64]) -> Proposal
+    requires { ⌜ sound book ≡ true ⌝ }
+    ensures { λ r. ⌜ Proposed r (checked book (now (x .exit)) (now (m .exit)) true) (now (x .entry)) (now (m .entry)) (now (x .exit)) (now (m .exit)) ⌝ }
+    ensures short { λ r. ⌜ (length (now (work .entry)) < 4608 → r ≡ Proposal.Nothing) ⌝ }
+{
+    let network = book.network;
+    let stations = network.stations;
+    let n = network::number_of(stations, 96);
+    if x.len() != n {
+        return Proposal::Nothing;
+    }
+    if m.len() != square(n) {
+        return Proposal::Nothing;
+    }
+    if work.len() < WORK {
+        return Proposal::Nothing;
+    }
+    work_out(book, n, x, m, work)
+}

@@ -1,0 +1,5 @@
+-- Laws that the proofs of several functions cite.
+mod Behind
+mod Lent
+mod Openings
+mod RecordKinds

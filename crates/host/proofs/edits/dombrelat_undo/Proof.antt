@@ -1,0 +1,32 @@
+use mathlib.Core.Path.{_≡_, refl, ap, _∙_}
+use mir.Syntax.{w64}
+use mir.Val.{toZ, ofZ}
+use mir.Facts.{toZ-ofZ}
+use Rattle.book.specs.Calls.{add, replace, strike, undo}
+use Rattle.host.specs.declared.Request.the-variants.{Add, Replace, Strike, Undo}
+use Rattle.host.specs.Calls.{baselineOf, heightOf, callOf}
+use Rattle.host.proofs.Lent.{answers-as}
+use borrow.Author.Needs.{needs, sfits-of}
+use Rattle.host.proofs.edits.dombrelat_undo.Statement.{statement}
+use Rattle.host.proofs.edits.dombrelat_undo.Tie as tie
+use Rattle.host.proofs.edits.dombrelat_undo.Reads as reads
+use Rattle.host.proofs.edits.dombrelat_undo.Lts as lts
+use Rattle.host.proofs.edits.edit_bytes.Reads as edit-bytes-reads
+
+edit-bytes-requires : tie.Need-edit-bytes-requires
+edit-bytes-requires c κs = search needs
+
+same-length : tie.Need-same-length
+same-length c = search needs
+
+returns : tie.Need-returns
+unfolding callOf
+returns c =
+    let s = c .before .before .before .before .before in
+    let p = c .before .before .edit-bytes in
+    let same : callOf Undo ≡ undo = refl in
+    let w = answers-as (s .args .book .now) (callOf Undo) (undo) same _ _ (p .ensures) in
+    (toZ-ofZ {w = w64} {z = p .result} (sfits-of (p .ok)) ∙ w .0, w .1)
+
+pub dombrelat-undo-spec : {M : Type 1} → statement M
+dombrelat-undo-spec = tie.close (tie.spec edit-bytes-requires same-length returns)

@@ -1,0 +1,109 @@
+// A record in 14 words: kind (0 empty, 1 baseline, 2 height difference), from, to, observed E, N, U, weights EE, EN, EU, NN, NU, UU, and two that are 0.
+use network::Baseline;
+use network::Level;
+use network::Record;
+ghost use mathlib.Core.Path.{_≡_};
+ghost use Prim.Native.Nat.{_+_, _≤_};
+ghost use lib.ListN.{length};
+ghost use Rattle.host.specs.Layout.{recordOf, recordIn, recordWords};
+ghost use Rattle.network.specs.declared.Record.the-variants.{Baseline as baseline, Height as height};
+
+fn baseline_in(w: &[i64], at: usize) -> Record
+    requires { ⌜ at + 14 ≤ length (now w) ⌝ }
+    ensures { λ r. ⌜ r ≡ recordOf 0 (now (w .entry)) at ⌝ }
+{
+    let from = w[at + 1];
+    let to = w[at + 2];
+    let east = w[at + 3];
+    let north = w[at + 4];
+    let up = w[at + 5];
+    let ee = w[at + 6];
+    let en = w[at + 7];
+    let eu = w[at + 8];
+    let nn = w[at + 9];
+    let nu = w[at + 10];
+    let uu = w[at + 11];
+    Record::Baseline(Baseline {
+        from,
+        to,
+        east,
+        north,
+        up,
+        ee,
+        en,
+        eu,
+        nn,
+        nu,
+        uu,
+    })
+}
+
+fn height_in(w: &[i64], at: usize) -> Record
+    requires { ⌜ at + 14 ≤ length (now w) ⌝ }
+    ensures { λ r. ⌜ r ≡ recordOf 1 (now (w .entry)) at ⌝ }
+{
+    let from = w[at + 1];
+    let to = w[at + 2];
+    let up = w[at + 5];
+    let weight = w[at + 11];
+    Record::Height(Level {
+        from,
+        to,
+        up,
+        weight,
+    })
+}
+
+// The record whose first word is at index at.
+pub fn record_in(w: &[i64], at: usize) -> Record
+    requires { ⌜ at + 14 ≤ length (now w) ⌝ }
+    ensures { λ r. ⌜ r ≡ recordIn (now (w .entry)) at ⌝ }
+{
+    let kind = words::index_in(w[at], 2);
+    if kind == 0 {
+        let r = baseline_in(w, at);
+        return r;
+    }
+    if kind == 1 {
+        let r = height_in(w, at);
+        return r;
+    }
+    Record::Empty
+}
+
+fn baseline_words(b: Baseline) -> [i64; 14]
+    ensures { λ w. ⌜ w ≡ recordWords (baseline b) ⌝ }
+{
+    [
+        1,
+        b.from,
+        b.to,
+        b.east,
+        b.north,
+        b.up,
+        b.ee,
+        b.en,
+        b.eu,
+        b.nn,
+        b.nu,
+        b.uu,
+        0,
+        0,
+    ]
+}
+
+fn height_words(h: Level) -> [i64; 14]
+    ensures { λ w. ⌜ w ≡ recordWords (height h) ⌝ }
+{
+    [2, h.from, h.to, 0, 0, h.up, 0, 0, 0, 0, 0, h.weight, 0, 0]
+}
+
+pub fn record_words(r: Record) -> [i64; 14]
+    ensures { λ w. ⌜ w ≡ recordWords r ⌝ }
+{
+    match r {
+        Record::Empty => [0; 14],
+        Record::Baseline(b) => baseline_words(b),
+        Record::Height(h) => height_words(h),
+    }
+}
