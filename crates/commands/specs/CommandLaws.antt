@@ -1,7 +1,7 @@
 -- Laws of commands: numbers that were read into an array of just their count, and the cases of each line. Assumes nothing.
 use mathlib.Core.Path.{_≡_, refl, sym, ap, _∙_}
 use mathlib.Core.Bool.{Bool, true, false, cond}
-use mathlib.Core.List.{List, [], _∷_, _++_, append-nil}
+use mathlib.Core.List.{List, _∷_, _++_, append-nil}
 use Prim.Native.Nat.{ℕ, zero, suc, _+_, _-_, _≤_, _<_}
 use native.Mathlib.Omega.{arith}
 use native.Mathlib.Decide.{decLe}
@@ -21,7 +21,7 @@ use Rattle.network.specs.declared.Record.{Record}
 use Rattle.text.specs.Numbers.{numberOf}
 use Rattle.text.specs.Fields.{firstField, restFields, letterOf, Numbers, numbers, unreadable, numbersOf, atMost, countOf, storedIn, Stored}
 use Rattle.text.specs.FieldLaws.{first-and-rest, no-rest, some-rest, fields-more, letter-cut}
-use Rattle.text.specs.Lines.{Kept, kept}
+use Rattle.text.specs.Lines.{kept}
 use Rattle.text.specs.declared.Number.{Number}
 use Rattle.text.specs.declared.Number.the-variants as number
 use Rattle.text.specs.declared.Count.{Count}

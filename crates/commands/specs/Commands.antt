@@ -10,7 +10,6 @@ use lib.IntN.{ℤ, pos}
 use Rattle.words.specs.Signed.{eqZ}
 use Rattle.network.specs.declared.Kind.{Kind}
 use Rattle.network.specs.declared.Kind.the-variants as kind
-use Rattle.network.specs.declared.Record.{Record}
 use Rattle.network.specs.declared.Record.the-variants as record-of
 use Rattle.text.specs.Numbers.{numberOf}
 use Rattle.text.specs.Fields.{firstField, restFields, letterOf, Numbers, numbers, unreadable, numbersOf, atMost, storedIn}

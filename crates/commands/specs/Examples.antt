@@ -11,7 +11,7 @@ use Rattle.text.specs.Numbers.{allDigits, isDecimal, valueAfter, signedOf, numb
 use Rattle.text.specs.Fields.{fieldsOf, restFields, letterOf, numbersOf, atMost}
 use Rattle.commands.specs.Commands.{exactly, entryOf, added, replaced, replaceOf, undoOf, counted, kindOf, inTurn, stationOf, otherOf, fieldsCommand, commandOf}
 use Rattle.commands.specs.Sheet.{spaced, highVerdict, verdict, headLine, stationLine, baselineLine, heightLine, globalLine, stationLines, recordLine, recordWords, recordStart, recordLines, globalStart, sheetText}
-use Rattle.commands.specs.declared.Command.the-variants.{Station, Add, Replace, Strike, Undo, Corrections, Matrix, Unreadable}
+use Rattle.commands.specs.declared.Command.the-variants.{Station, Add, Replace, Strike, Undo, Corrections, Unreadable}
 
 -- `S 2 V 0 0 7`, after one S line
 station : commandOf 1 true (83 ∷ 32 ∷ 50 ∷ 32 ∷ 86 ∷ 32 ∷ 48 ∷ 32 ∷ 48 ∷ 32 ∷ 55 ∷ []) ≡ Station (record { kind = kind.Height; east = pos 0; north = pos 0; up = pos 7 })

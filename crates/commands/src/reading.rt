@@ -14,7 +14,6 @@ ghost use lib.IntN.{pos};
 ghost use lib.ListN.{length, drop};
 ghost use Rattle.words.specs.Signed.{eqZ};
 ghost use Rattle.text.specs.Fields.{firstField, restFields, letterOf, numbersOf, storedIn};
-ghost use Rattle.text.specs.Lines.{Kept};
 ghost use Rattle.commands.specs.Commands.{exactly, levelEntry, baselineEntry, entryOf, added, replaced, replaceOf, strikeOf, undoOf};
 ghost use Rattle.commands.specs.Commands.{counted, correctionsIn, matrixIn, stationWith, kindOf, stationOf, otherOf, letterIn, isStationLine, Obeys};
 ghost use Rattle.commands.specs.declared.Entry.the-variants as entry;

@@ -1,14 +1,11 @@
 -- The definitions at a few texts. `32` is a blank, `45` a `-`, `43` a `+`, `48` to `57` are digits, `10` is an LF. Assumes nothing.
 use mathlib.Core.Path.{_≡_, refl}
-use mathlib.Core.Bool.{true, false}
 use mathlib.Core.List.{List, [], _∷_}
 use Prim.Native.Nat.{ℕ}
 use lib.IntN.{pos, negsuc}
-use Rattle.text.specs.Before.{before}
 use Rattle.text.specs.Numbers.{allDigits, isDecimal, valueAfter, signedOf, numberOf, decimalIn, decimal}
-use Rattle.text.specs.Fields.{fieldsOf, restFields, letterOf, numbersOf, numbers, unreadable}
+use Rattle.text.specs.Fields.{fieldsOf}
 use Rattle.text.specs.Lines.{linesOf, linesAfter, kept, keep, came, cameAll, blank}
-use Rattle.text.specs.declared.Number.{Number}
 use Rattle.text.specs.declared.Number.the-variants.{Value, Unreadable}
 
 -- `007`, `-0`, `-12`

@@ -6,7 +6,7 @@ use Prim.Native.Nat.{ℕ, zero, suc, _+_, _-_, _≤_, _<_}
 use native.Mathlib.Omega.{arith}
 use native.Mathlib.Decide.{decLt, decLe}
 use native.Mathlib.Numerals.{add-one}
-use native.Mathlib.Nat.{add-zero, add-suc}
+use native.Mathlib.Nat.{add-suc}
 use lib.Dec.{ltb, eqb}
 use lib.ListN.{length, take, drop, length-take, length-drop, length-append, drop-of-length-le}
 use lib.Seq.{sets, sets-eq, take-all, take-nil, take-take, take-at, length-take-le, drop-drop}
@@ -14,7 +14,7 @@ use borrow.Author.Tests.{lt-ltb, le-ltb, ltb-true, ltb-false}
 use Rattle.text.specs.declared.Fed.{Fed}
 use Rattle.text.specs.Before.{before, before-length, before-take}
 use Rattle.text.specs.Writing.{Written}
-use Rattle.text.specs.Lines.{lastLine, linesAfter, linesOf, Kept, kept, blank, keep, Came, inFront, came, joined, cameAll, concat, isLine, lastKept, holds, part, fedAt, Feeds}
+use Rattle.text.specs.Lines.{lastLine, linesAfter, linesOf, Kept, kept, blank, keep, inFront, came, joined, cameAll, concat, isLine, lastKept, holds, part, fedAt, Feeds}
 
 -- ════ the cases of the code
 module _ (buffer : List ℕ) (len : ℕ) (over : Bool) (chunk : List ℕ) (at end : ℕ) (is : end ≡ at + length (part chunk at)) where

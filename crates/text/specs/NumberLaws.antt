@@ -1,21 +1,20 @@
 -- Reading what was written gives the number back: `number-back`. Assumes nothing.
-use mathlib.Core.Path.{_≡_, refl, sym, ap, _∙_}
-use mathlib.Core.Bool.{Bool, true, false, cond, _&&_}
+use mathlib.Core.Path.{_≡_, refl, _∙_}
+use mathlib.Core.Bool.{true, cond, _&&_}
 use mathlib.Core.List.{List, [], _∷_, _++_}
 use Prim.Native.Nat.{ℕ, zero, suc, _+_, _-_, _*_, _/_, _%_, _^_, _≤_, _<_}
 use native.Mathlib.Omega.{arith}
 use native.Mathlib.Decide.{decLt}
 use native.Mathlib.Nat.{pow-suc}
-use lib.IntN.{ℤ, pos, negsuc, natAbs}
-use lib.Signed.{ltZ}
-use lib.Dec.{leb, ltb, eqb, leb·zero}
+use lib.IntN.{ℤ, pos, negsuc}
+use lib.Dec.{leb, ltb}
 use lib.ListN.{length, length-append}
 use borrow.Author.Tests.{lt-ltb, le-ltb, le-leb, ne-eqb, leb-true}
 use mir.Syntax.{w64}
 use mir.Val.{SFits}
 use Rattle.words.specs.Bools.{and-both, and-left}
 use Rattle.text.specs.Numbers.{isDigit, allDigits, isDecimal, valueAfter, valueOf, minus, signedOf, numberOf, decimalIn, decimal}
-use Rattle.text.specs.declared.Number.the-variants.{Value, Unreadable}
+use Rattle.text.specs.declared.Number.the-variants.{Value}
 
 -- ════ a digit more at the end
 value-snoc : (n : ℕ) (ds : List ℕ) (c : ℕ) → valueAfter n (ds ++ (c ∷ [])) ≡ valueAfter n ds * 10 + (c - 48)

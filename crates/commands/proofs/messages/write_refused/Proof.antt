@@ -1,14 +1,10 @@
+-- `commands::messages::write_refused` meets its contract. Assumes nothing.
 use Rattle.commands.specs.Messages.{refused}
 use Rattle.text.specs.Writing.{_then_}
 use native.Mathlib.Omega.{arith}
 use borrow.Author.Needs.{needs}
 use Rattle.commands.proofs.messages.write_refused.Statement.{statement}
 use Rattle.commands.proofs.messages.write_refused.Tie as tie
-use Rattle.commands.proofs.messages.write_refused.Reads as reads
-use Rattle.commands.proofs.messages.write_refused.Lts as lts
-use Rattle.text.proofs.write_byte.Reads as write-byte-reads
-use Rattle.text.proofs.write_natural.Reads as write-natural-reads
-use Rattle.text.proofs.write_text.Reads as write-text-reads
 
 slice-aggregate-write-text : tie.Need-slice-aggregate-write-text
 slice-aggregate-write-text c = search needs

@@ -1,13 +1,10 @@
+-- `commands::messages::write_unreadable_line` meets its contract. Assumes nothing.
 use Rattle.commands.specs.Messages.{unreadableLine}
 use Rattle.text.specs.Writing.{_then_}
 use native.Mathlib.Omega.{arith}
 use borrow.Author.Needs.{needs}
 use Rattle.commands.proofs.messages.write_unreadable_line.Statement.{statement}
 use Rattle.commands.proofs.messages.write_unreadable_line.Tie as tie
-use Rattle.commands.proofs.messages.write_unreadable_line.Reads as reads
-use Rattle.commands.proofs.messages.write_unreadable_line.Lts as lts
-use Rattle.text.proofs.write_natural.Reads as write-natural-reads
-use Rattle.text.proofs.write_text.Reads as write-text-reads
 
 slice-aggregate-write-text : tie.Need-slice-aggregate-write-text
 slice-aggregate-write-text c = search needs

@@ -1,11 +1,10 @@
+-- `commands::reading::add` meets its contract. Assumes nothing.
 use Rattle.commands.specs.CommandLaws.{added-of, added-none}
 use mir.Facts.{toZ-ofZ}
 use mir.Syntax.{w64}
 use borrow.Author.Needs.{needs}
 use Rattle.commands.proofs.reading.add.Statement.{statement}
 use Rattle.commands.proofs.reading.add.Tie as tie
-use Rattle.commands.proofs.reading.add.Reads as reads
-use Rattle.commands.proofs.reading.add.Lts as lts
 
 enum-known-e : tie.Need-enum-known-e
 enum-known-e c = search needs

@@ -1,3 +1,4 @@
+-- `commands::reading::baseline_entry` meets its contract. Assumes nothing.
 use mir.Syntax.{w64}
 use Rattle.commands.specs.CommandLaws.{exactly-none, exactly-other, exactly-all, baseline-bits}
 use Rattle.commands.specs.Commands.{baselineEntry}
@@ -8,9 +9,6 @@ use mathlib.Core.Path.{refl, _∙_}
 use borrow.Author.Needs.{needs, sfits-of}
 use Rattle.commands.proofs.reading.baseline_entry.Statement.{statement}
 use Rattle.commands.proofs.reading.baseline_entry.Tie as tie
-use Rattle.commands.proofs.reading.baseline_entry.Reads as reads
-use Rattle.commands.proofs.reading.baseline_entry.Lts as lts
-use Rattle.text.proofs.read_rest.Reads as read-rest-reads
 
 slice-aggregate-read-rest : tie.Need-slice-aggregate-read-rest
 slice-aggregate-read-rest c = search needs

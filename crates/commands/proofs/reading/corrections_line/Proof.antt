@@ -1,11 +1,9 @@
+-- `commands::reading::corrections_line` meets its contract. Assumes nothing.
 use Rattle.commands.specs.CommandLaws.{counted-none, counted-some}
 use Rattle.commands.specs.declared.Command.the-variants.{Corrections}
 use borrow.Author.Needs.{needs}
 use Rattle.commands.proofs.reading.corrections_line.Statement.{statement}
 use Rattle.commands.proofs.reading.corrections_line.Tie as tie
-use Rattle.commands.proofs.reading.corrections_line.Reads as reads
-use Rattle.commands.proofs.reading.corrections_line.Lts as lts
-use Rattle.text.proofs.read_rest.Reads as read-rest-reads
 
 read-rest-requires : tie.Need-read-rest-requires
 read-rest-requires c κs = search needs

@@ -1,14 +1,9 @@
+-- `commands::reading::entry_at` meets its contract. Assumes nothing.
 use Rattle.commands.specs.CommandLaws.{it-is, it-is-not}
 use Rattle.commands.specs.Commands.{entryOf}
-use mathlib.Core.Path.{sym, _∙_}
 use borrow.Author.Needs.{needs}
 use Rattle.commands.proofs.reading.entry_at.Statement.{statement}
 use Rattle.commands.proofs.reading.entry_at.Tie as tie
-use Rattle.commands.proofs.reading.entry_at.Reads as reads
-use Rattle.commands.proofs.reading.entry_at.Lts as lts
-use Rattle.commands.proofs.reading.baseline_entry.Reads as baseline-entry-reads
-use Rattle.commands.proofs.reading.level_entry.Reads as level-entry-reads
-use Rattle.text.proofs.letter_at.Reads as letter-at-reads
 
 letter-at-requires : tie.Need-letter-at-requires
 letter-at-requires c κs = search needs

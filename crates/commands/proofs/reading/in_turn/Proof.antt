@@ -1,3 +1,4 @@
+-- `commands::reading::in_turn` meets its contract. Assumes nothing.
 use Rattle.commands.specs.CommandLaws.{turn-negative, turn-zero, turn-size}
 use mir.Facts.{toZ-ofZ}
 use mir.Syntax.{w64}
@@ -7,10 +8,6 @@ use mathlib.Core.Path.{_≡_, sym, ap, _∙_}
 use borrow.Author.Needs.{needs}
 use Rattle.commands.proofs.reading.in_turn.Statement.{statement}
 use Rattle.commands.proofs.reading.in_turn.Tie as tie
-use Rattle.commands.proofs.reading.in_turn.Reads as reads
-use Rattle.commands.proofs.reading.in_turn.Lts as lts
-use Rattle.words.proofs.is_negative.Reads as is-negative-reads
-use Rattle.words.proofs.size.Reads as size-reads
 
 is-negative-requires : tie.Need-is-negative-requires
 is-negative-requires c κs = search needs

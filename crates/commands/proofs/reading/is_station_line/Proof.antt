@@ -1,12 +1,10 @@
+-- `commands::reading::is_station_line` meets its contract. Assumes nothing.
 use lib.Dec.{eqb}
 use Prim.Native.Nat.{ℕ}
 use mathlib.Core.Path.{ap}
 use borrow.Author.Needs.{needs}
 use Rattle.commands.proofs.reading.is_station_line.Statement.{statement}
 use Rattle.commands.proofs.reading.is_station_line.Tie as tie
-use Rattle.commands.proofs.reading.is_station_line.Reads as reads
-use Rattle.commands.proofs.reading.is_station_line.Lts as lts
-use Rattle.text.proofs.letter_at.Reads as letter-at-reads
 
 letter-at-requires : tie.Need-letter-at-requires
 letter-at-requires c κs = search needs

@@ -1,13 +1,9 @@
+-- `commands::reading::kind_at` meets its contract. Assumes nothing.
 use Rattle.commands.specs.CommandLaws.{it-is, it-is-not}
 use Rattle.commands.specs.Commands.{kindOf}
-use mathlib.Core.Path.{sym, _∙_}
 use borrow.Author.Needs.{needs}
 use Rattle.commands.proofs.reading.kind_at.Statement.{statement}
 use Rattle.commands.proofs.reading.kind_at.Tie as tie
-use Rattle.commands.proofs.reading.kind_at.Reads as reads
-use Rattle.commands.proofs.reading.kind_at.Lts as lts
-use Rattle.commands.proofs.reading.station_with.Reads as station-with-reads
-use Rattle.text.proofs.letter_at.Reads as letter-at-reads
 
 letter-at-requires : tie.Need-letter-at-requires
 letter-at-requires c κs = search needs

@@ -1,3 +1,4 @@
+-- `commands::reading::level_entry` meets its contract. Assumes nothing.
 use Rattle.commands.specs.CommandLaws.{exactly-none, exactly-other, exactly-all, level-bits}
 use Rattle.commands.specs.Commands.{levelEntry}
 use lib.ListN.{getD}
@@ -7,9 +8,6 @@ use mathlib.Core.Path.{refl, _∙_}
 use borrow.Author.Needs.{needs}
 use Rattle.commands.proofs.reading.level_entry.Statement.{statement}
 use Rattle.commands.proofs.reading.level_entry.Tie as tie
-use Rattle.commands.proofs.reading.level_entry.Reads as reads
-use Rattle.commands.proofs.reading.level_entry.Lts as lts
-use Rattle.text.proofs.read_rest.Reads as read-rest-reads
 
 slice-aggregate-read-rest : tie.Need-slice-aggregate-read-rest
 slice-aggregate-read-rest c = search needs

@@ -1,11 +1,9 @@
+-- `commands::reading::matrix_line` meets its contract. Assumes nothing.
 use Rattle.commands.specs.CommandLaws.{counted-none, counted-some}
 use Rattle.commands.specs.declared.Command.the-variants.{Matrix}
 use borrow.Author.Needs.{needs}
 use Rattle.commands.proofs.reading.matrix_line.Statement.{statement}
 use Rattle.commands.proofs.reading.matrix_line.Tie as tie
-use Rattle.commands.proofs.reading.matrix_line.Reads as reads
-use Rattle.commands.proofs.reading.matrix_line.Lts as lts
-use Rattle.text.proofs.read_rest.Reads as read-rest-reads
 
 read-rest-requires : tie.Need-read-rest-requires
 read-rest-requires c κs = search needs

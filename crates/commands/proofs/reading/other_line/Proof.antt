@@ -1,3 +1,4 @@
+-- `commands::reading::other_line` meets its contract. Assumes nothing.
 use Rattle.commands.specs.CommandLaws.{it-is, it-is-not}
 use Rattle.commands.specs.Commands.{otherOf, added, entryOf}
 use Rattle.text.specs.Fields.{restFields}
@@ -6,13 +7,6 @@ use mathlib.Core.Path.{refl, sym, ap, _∙_}
 use borrow.Author.Needs.{needs}
 use Rattle.commands.proofs.reading.other_line.Statement.{statement}
 use Rattle.commands.proofs.reading.other_line.Tie as tie
-use Rattle.commands.proofs.reading.other_line.Reads as reads
-use Rattle.commands.proofs.reading.other_line.Lts as lts
-use Rattle.commands.proofs.reading.add.Reads as add-reads
-use Rattle.commands.proofs.reading.entry_at.Reads as entry-at-reads
-use Rattle.commands.proofs.reading.replace_line.Reads as replace-line-reads
-use Rattle.commands.proofs.reading.strike_line.Reads as strike-line-reads
-use Rattle.commands.proofs.reading.undo_line.Reads as undo-line-reads
 
 replace-line-requires : tie.Need-replace-line-requires
 replace-line-requires c κs = search needs

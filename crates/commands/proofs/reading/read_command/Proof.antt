@@ -1,17 +1,9 @@
-use Rattle.commands.specs.CommandLaws.{obeys-late}
-use Rattle.commands.specs.CommandLaws.{obeys-cut, obeys-station, obeys-corrections, obeys-matrix, obeys-other}
-use mathlib.Core.Bool.{Bool, cond}
-use mathlib.Core.Path.{refl, sym, ap, _∙_}
+-- `commands::reading::read_command` meets its contract. Assumes nothing.
+use Rattle.commands.specs.CommandLaws.{obeys-late, obeys-cut, obeys-station, obeys-corrections, obeys-matrix, obeys-other}
+use mathlib.Core.Path.{refl}
 use borrow.Author.Needs.{needs}
 use Rattle.commands.proofs.reading.read_command.Statement.{statement}
 use Rattle.commands.proofs.reading.read_command.Tie as tie
-use Rattle.commands.proofs.reading.read_command.Reads as reads
-use Rattle.commands.proofs.reading.read_command.Lts as lts
-use Rattle.commands.proofs.reading.corrections_line.Reads as corrections-line-reads
-use Rattle.commands.proofs.reading.matrix_line.Reads as matrix-line-reads
-use Rattle.commands.proofs.reading.other_line.Reads as other-line-reads
-use Rattle.commands.proofs.reading.station_line.Reads as station-line-reads
-use Rattle.text.proofs.letter_at.Reads as letter-at-reads
 
 returns : tie.Need-returns
 returns c = obeys-cut _ _ _ _ _ _ _ (c .if1 .taken) refl

@@ -1,11 +1,10 @@
+-- `commands::reading::replace` meets its contract. Assumes nothing.
 use Rattle.commands.specs.CommandLaws.{replaced-of, replaced-none}
 use mir.Facts.{toZ-ofZ}
 use mir.Syntax.{w64}
 use borrow.Author.Needs.{needs}
 use Rattle.commands.proofs.reading.replace.Statement.{statement}
 use Rattle.commands.proofs.reading.replace.Tie as tie
-use Rattle.commands.proofs.reading.replace.Reads as reads
-use Rattle.commands.proofs.reading.replace.Lts as lts
 
 enum-known-e : tie.Need-enum-known-e
 enum-known-e c = search needs

@@ -1,14 +1,10 @@
+-- `commands::reading::replace_line` meets its contract. Assumes nothing.
 use Rattle.commands.specs.CommandLaws.{replace-none, replace-some}
 use Rattle.commands.specs.Commands.{replaced}
 use mathlib.Core.Path.{ap, _∙_}
 use borrow.Author.Needs.{needs}
 use Rattle.commands.proofs.reading.replace_line.Statement.{statement}
 use Rattle.commands.proofs.reading.replace_line.Tie as tie
-use Rattle.commands.proofs.reading.replace_line.Reads as reads
-use Rattle.commands.proofs.reading.replace_line.Lts as lts
-use Rattle.commands.proofs.reading.entry_at.Reads as entry-at-reads
-use Rattle.commands.proofs.reading.replace.Reads as replace-reads
-use Rattle.text.proofs.field_end.Reads as field-end-reads
 
 field-end-requires : tie.Need-field-end-requires
 field-end-requires c κs = search needs

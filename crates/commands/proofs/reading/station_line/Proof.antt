@@ -1,22 +1,15 @@
-use mathlib.Core.Path.{_≡_}
+-- `commands::reading::station_line` meets its contract. Assumes nothing.
+use mathlib.Core.Path.{_≡_, ap, _∙_}
 use Rattle.commands.specs.CommandLaws.{station-none, station-one, station-wrong, station-turn, turn-none, turn-is}
 use Rattle.words.specs.Signed.{eqZ}
 use lib.IntN.{ℤ, pos}
-use Prim.Native.Nat.{ℕ, suc}
+use Prim.Native.Nat.{suc}
 use borrow.Author.Tests.{not-true, not-false}
 use mir.Facts.{toZ-ofZ}
 use mir.Syntax.{w64}
-use mathlib.Core.Bool.{true, false}
-use mathlib.Core.Path.{ap, sym, _∙_}
 use borrow.Author.Needs.{needs}
 use Rattle.commands.proofs.reading.station_line.Statement.{statement}
 use Rattle.commands.proofs.reading.station_line.Tie as tie
-use Rattle.commands.proofs.reading.station_line.Reads as reads
-use Rattle.commands.proofs.reading.station_line.Lts as lts
-use Rattle.commands.proofs.reading.in_turn.Reads as in-turn-reads
-use Rattle.commands.proofs.reading.kind_at.Reads as kind-at-reads
-use Rattle.text.proofs.field_end.Reads as field-end-reads
-use Rattle.text.proofs.number_of.Reads as number-of-reads
 
 field-end-requires : tie.Need-field-end-requires
 field-end-requires c κs = search needs

@@ -1,3 +1,4 @@
+-- `commands::reading::station_with` meets its contract. Assumes nothing.
 use Rattle.commands.specs.CommandLaws.{exactly-none, exactly-other, exactly-all, station-bits}
 use Rattle.commands.specs.Commands.{stationWith}
 use lib.ListN.{getD}
@@ -7,9 +8,6 @@ use mathlib.Core.Path.{refl, _∙_}
 use borrow.Author.Needs.{needs}
 use Rattle.commands.proofs.reading.station_with.Statement.{statement}
 use Rattle.commands.proofs.reading.station_with.Tie as tie
-use Rattle.commands.proofs.reading.station_with.Reads as reads
-use Rattle.commands.proofs.reading.station_with.Lts as lts
-use Rattle.text.proofs.read_rest.Reads as read-rest-reads
 
 slice-aggregate-read-rest : tie.Need-slice-aggregate-read-rest
 slice-aggregate-read-rest c = search needs

@@ -1,3 +1,4 @@
+-- `commands::reading::strike_line` meets its contract. Assumes nothing.
 use Rattle.commands.specs.CommandLaws.{exactly-none, exactly-other, exactly-all}
 use Rattle.commands.specs.Commands.{strikeOf}
 use Rattle.commands.specs.declared.Command.the-variants.{Strike}
@@ -8,9 +9,6 @@ use mathlib.Core.Path.{refl, ap, _∙_}
 use borrow.Author.Needs.{needs}
 use Rattle.commands.proofs.reading.strike_line.Statement.{statement}
 use Rattle.commands.proofs.reading.strike_line.Tie as tie
-use Rattle.commands.proofs.reading.strike_line.Reads as reads
-use Rattle.commands.proofs.reading.strike_line.Lts as lts
-use Rattle.text.proofs.read_rest.Reads as read-rest-reads
 
 slice-aggregate-read-rest : tie.Need-slice-aggregate-read-rest
 slice-aggregate-read-rest c = search needs

@@ -1,10 +1,8 @@
+-- `commands::reading::undo_line` meets its contract. Assumes nothing.
 use Rattle.commands.specs.CommandLaws.{undo-none, undo-some}
 use borrow.Author.Needs.{needs}
 use Rattle.commands.proofs.reading.undo_line.Statement.{statement}
 use Rattle.commands.proofs.reading.undo_line.Tie as tie
-use Rattle.commands.proofs.reading.undo_line.Reads as reads
-use Rattle.commands.proofs.reading.undo_line.Lts as lts
-use Rattle.text.proofs.field_end.Reads as field-end-reads
 
 field-end-requires : tie.Need-field-end-requires
 field-end-requires c κs = search needs

@@ -1,16 +1,11 @@
+-- `commands::sheet::write_baseline` meets its contract. Assumes nothing.
 use Rattle.commands.specs.SheetLaws.{written-as, by-bits}
 use Rattle.commands.specs.Sheet.{baselineLine, verdict}
 use Rattle.text.specs.Writing.{_then_}
-use borrow.Author.Needs.{sfits-of}
+use borrow.Author.Needs.{sfits-of, needs}
 use native.Mathlib.Omega.{arith}
-use borrow.Author.Needs.{needs}
 use Rattle.commands.proofs.sheet.write_baseline.Statement.{statement}
 use Rattle.commands.proofs.sheet.write_baseline.Tie as tie
-use Rattle.commands.proofs.sheet.write_baseline.Reads as reads
-use Rattle.commands.proofs.sheet.write_baseline.Lts as lts
-use Rattle.commands.proofs.sheet.write_fields.Reads as write-fields-reads
-use Rattle.commands.proofs.sheet.write_verdict.Reads as write-verdict-reads
-use Rattle.text.proofs.write_byte.Reads as write-byte-reads
 
 write-fields-requires : tie.Need-write-fields-requires
 write-fields-requires c κs = search needs

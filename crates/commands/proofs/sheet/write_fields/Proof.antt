@@ -1,22 +1,15 @@
-use mathlib.Core.Path.{ap}
+-- `commands::sheet::write_fields` meets its contract. Assumes nothing.
+use mathlib.Core.Path.{ap, _≡_, refl}
 use Rattle.commands.specs.SheetLaws.{written-as, by-bits, fields-start, fields-more}
-use Rattle.text.specs.Writing.{_then_}
+use Rattle.text.specs.Writing.{_then_, Written}
 use Rattle.text.specs.Numbers.{decimal}
-use borrow.Author.Needs.{sfits-of}
-use mathlib.Core.Path.{_∙_}
+use borrow.Author.Needs.{sfits-of, needs}
 use native.Mathlib.Omega.{arith}
 use Rattle.commands.specs.Sheet.{fields}
-use Rattle.text.specs.Writing.{Written}
 use lib.ListN.{length}
 use Prim.Native.Nat.{_≤_, _-_, _+_, _*_}
-use mathlib.Core.Path.{_≡_, refl}
-use borrow.Author.Needs.{needs}
 use Rattle.commands.proofs.sheet.write_fields.Statement.{statement}
 use Rattle.commands.proofs.sheet.write_fields.Tie as tie
-use Rattle.commands.proofs.sheet.write_fields.Reads as reads
-use Rattle.commands.proofs.sheet.write_fields.Lts as lts
-use Rattle.text.proofs.write_byte.Reads as write-byte-reads
-use Rattle.text.proofs.write_number.Reads as write-number-reads
 
 abbrev Inv-loop : tie.InvT-loop
 Inv-loop out₀ at w o n p₀ i₀ out p i = (i ≤ n) × (length out ≡ length out₀) × (p ≤ at + i * 22) × Written out₀ at (fields w o i) p out

@@ -1,17 +1,11 @@
+-- `commands::sheet::write_global` meets its contract. Assumes nothing.
 use Rattle.commands.specs.SheetLaws.{written-as, by-bits}
 use Rattle.commands.specs.Sheet.{globalLine, verdict}
 use Rattle.text.specs.Writing.{_then_}
-use borrow.Author.Needs.{sfits-of}
+use borrow.Author.Needs.{sfits-of, needs}
 use native.Mathlib.Omega.{arith}
-use borrow.Author.Needs.{needs}
 use Rattle.commands.proofs.sheet.write_global.Statement.{statement}
 use Rattle.commands.proofs.sheet.write_global.Tie as tie
-use Rattle.commands.proofs.sheet.write_global.Reads as reads
-use Rattle.commands.proofs.sheet.write_global.Lts as lts
-use Rattle.commands.proofs.sheet.write_fields.Reads as write-fields-reads
-use Rattle.commands.proofs.sheet.write_verdict.Reads as write-verdict-reads
-use Rattle.text.proofs.write_byte.Reads as write-byte-reads
-use Rattle.text.proofs.write_text.Reads as write-text-reads
 
 slice-aggregate-write-text : tie.Need-slice-aggregate-write-text
 slice-aggregate-write-text c = search needs

@@ -1,3 +1,4 @@
+-- `commands::sheet::write_high_verdict` meets its contract. Assumes nothing.
 use Rattle.commands.specs.SheetLaws.{written-as, is-low, is-above, is-none}
 use Rattle.words.specs.Signed.{eqZ}
 use mir.Facts.{toZ-ofZ}
@@ -8,10 +9,6 @@ use mathlib.Core.Path.{_≡_, sym, ap, _∙_}
 use borrow.Author.Needs.{needs}
 use Rattle.commands.proofs.sheet.write_high_verdict.Statement.{statement}
 use Rattle.commands.proofs.sheet.write_high_verdict.Tie as tie
-use Rattle.commands.proofs.sheet.write_high_verdict.Reads as reads
-use Rattle.commands.proofs.sheet.write_high_verdict.Lts as lts
-use Rattle.text.proofs.write_text.Reads as write-text-reads
-use Rattle.words.proofs.same.Reads as same-reads
 
 same-requires : tie.Need-same-requires
 same-requires c κs = search needs

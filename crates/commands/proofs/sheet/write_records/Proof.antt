@@ -1,22 +1,15 @@
+-- `commands::sheet::write_records` meets its contract. Assumes nothing.
 use mathlib.Core.List.{_++_}
-use Prim.Native.Nat.{ℕ}
-use Rattle.commands.specs.Sheet.{recordWords, recordLine}
-use lib.ListN.{getD}
-use mathlib.Core.Path.{sym, _∙_}
+use Prim.Native.Nat.{ℕ, _≤_, _-_, _+_, _*_}
+use Rattle.commands.specs.Sheet.{recordWords, recordLine, recordLines, recordStart}
+use lib.ListN.{getD, length}
+use mathlib.Core.Path.{sym, _∙_, _≡_, refl, ap}
 use Rattle.commands.specs.SheetLaws.{written-as, records-start, start-zero, start-more, records-more, start-rises}
-use Rattle.commands.specs.Sheet.{recordLines, recordStart}
 use Rattle.text.specs.Writing.{Written, _then_}
-use lib.ListN.{length}
 use native.Mathlib.Omega.{arith}
-use Prim.Native.Nat.{_≤_, _-_, _+_, _*_}
-use mathlib.Core.Path.{_≡_, refl, ap}
 use borrow.Author.Needs.{needs}
 use Rattle.commands.proofs.sheet.write_records.Statement.{statement}
 use Rattle.commands.proofs.sheet.write_records.Tie as tie
-use Rattle.commands.proofs.sheet.write_records.Reads as reads
-use Rattle.commands.proofs.sheet.write_records.Lts as lts
-use Rattle.commands.proofs.sheet.record_words.Reads as record-words-reads
-use Rattle.commands.proofs.sheet.write_record.Reads as write-record-reads
 
 abbrev Inv-loop : tie.InvT-loop
 Inv-loop out₀ at w o kinds p₀ q₀ i₀ out p q i = (i ≤ length kinds) × (length out ≡ length out₀) × (p ≤ at + i * 106) × (q ≡ recordStart o kinds i) × Written out₀ at (recordLines w o kinds i) p out

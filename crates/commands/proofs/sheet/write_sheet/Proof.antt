@@ -1,3 +1,4 @@
+-- `commands::sheet::write_sheet` meets its contract. Assumes nothing.
 use Rattle.commands.specs.SheetLaws.{written-as, global-after, global-is}
 use Rattle.commands.specs.Sheet.{sheetText, globalLine}
 use Rattle.text.specs.Writing.{_then_}
@@ -6,12 +7,6 @@ use mathlib.Core.Path.{sym, ap, _∙_}
 use borrow.Author.Needs.{needs}
 use Rattle.commands.proofs.sheet.write_sheet.Statement.{statement}
 use Rattle.commands.proofs.sheet.write_sheet.Tie as tie
-use Rattle.commands.proofs.sheet.write_sheet.Reads as reads
-use Rattle.commands.proofs.sheet.write_sheet.Lts as lts
-use Rattle.commands.proofs.sheet.write_global.Reads as write-global-reads
-use Rattle.commands.proofs.sheet.write_head.Reads as write-head-reads
-use Rattle.commands.proofs.sheet.write_records.Reads as write-records-reads
-use Rattle.commands.proofs.sheet.write_stations.Reads as write-stations-reads
 
 write-head-requires : tie.Need-write-head-requires
 write-head-requires c κs = search needs

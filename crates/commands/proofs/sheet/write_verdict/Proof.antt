@@ -1,3 +1,4 @@
+-- `commands::sheet::write_verdict` meets its contract. Assumes nothing.
 use Rattle.commands.specs.SheetLaws.{written-as, is-pass, is-fail, is-loose, is-high}
 use Rattle.commands.specs.Sheet.{highVerdict}
 use Rattle.words.specs.Signed.{eqZ}
@@ -9,11 +10,6 @@ use mathlib.Core.Path.{_≡_, sym, ap, _∙_}
 use borrow.Author.Needs.{needs}
 use Rattle.commands.proofs.sheet.write_verdict.Statement.{statement}
 use Rattle.commands.proofs.sheet.write_verdict.Tie as tie
-use Rattle.commands.proofs.sheet.write_verdict.Reads as reads
-use Rattle.commands.proofs.sheet.write_verdict.Lts as lts
-use Rattle.commands.proofs.sheet.write_high_verdict.Reads as write-high-verdict-reads
-use Rattle.text.proofs.write_text.Reads as write-text-reads
-use Rattle.words.proofs.same.Reads as same-reads
 
 same-requires : tie.Need-same-requires
 same-requires c κs = search needs

@@ -1,8 +1,7 @@
-use Rattle.text.specs.FieldLaws.{first-and-rest}
+-- `text::fields::count_numbers` meets its contract. Assumes nothing.
+use Rattle.text.specs.FieldLaws.{first-and-rest, end-within, fields-here, fields-last, fields-more}
 use Rattle.text.specs.Reading.{countAfter, count-start, count-wrong, count-last, count-more, count-full}
-use Rattle.text.specs.FieldLaws.{end-within, fields-here, fields-last, fields-more}
 use Rattle.text.specs.Fields.{fieldsOf, numbersOf, atMost, countOf}
-use Rattle.text.specs.declared.Count.{Count}
 use lib.ListN.{length, drop}
 use native.Mathlib.Omega.{arith}
 use Prim.Native.Nat.{ℕ, _≤_, _-_}
@@ -11,10 +10,6 @@ use mathlib.Core.Path.{_≡_, sym, ap, _∙_}
 use borrow.Author.Needs.{needs}
 use Rattle.text.proofs.fields.count_numbers.Statement.{statement}
 use Rattle.text.proofs.fields.count_numbers.Tie as tie
-use Rattle.text.proofs.fields.count_numbers.Reads as reads
-use Rattle.text.proofs.fields.count_numbers.Lts as lts
-use Rattle.text.proofs.fields.field_end.Reads as field-end-reads
-use Rattle.text.proofs.numbers.number_of.Reads as number-of-reads
 
 abbrev Inv-loop : tie.InvT-loop
 Inv-loop s most n₀ i₀ n i = (i ≤ length s) × (n ≤ most) × (countAfter n most (numbersOf (fieldsOf (drop i s))) ≡ countOf (atMost most (numbersOf (fieldsOf s))))

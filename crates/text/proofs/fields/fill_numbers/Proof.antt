@@ -1,6 +1,4 @@
-use lib.ListN.{set}
-use lib.IntN.{ℤ}
-use mir.Val.{toZ, ofZ}
+-- `text::fields::fill_numbers` meets its contract. Assumes nothing.
 use mir.Facts.{toZ-ofZ}
 use mir.Syntax.{w64}
 use Rattle.text.specs.Reading.{leading, fill-start, fill-wrong, fill-last, fill-more, fill-full}
@@ -15,10 +13,6 @@ use mathlib.Core.Path.{_≡_, sym, ap, _∙_, refl}
 use borrow.Author.Needs.{needs}
 use Rattle.text.proofs.fields.fill_numbers.Statement.{statement}
 use Rattle.text.proofs.fields.fill_numbers.Tie as tie
-use Rattle.text.proofs.fields.fill_numbers.Reads as reads
-use Rattle.text.proofs.fields.fill_numbers.Lts as lts
-use Rattle.text.proofs.fields.field_end.Reads as field-end-reads
-use Rattle.text.proofs.numbers.number_of.Reads as number-of-reads
 
 abbrev Inv-loop : tie.InvT-loop
 Inv-loop s out₀ n₀ i₀ out n i = (i ≤ length s) × (n ≤ length out₀) × (length out ≡ length out₀) × (sets out n (leading (length out₀ - n) (fieldsOf (drop i s))) ≡ sets out₀ 0 (leading (length out₀) (fieldsOf s)))

@@ -1,3 +1,4 @@
+-- `text::fields::find` meets its contract. Assumes nothing.
 use Rattle.text.specs.Before.{before, end-here, end-found, end-more}
 use lib.ListN.{length, drop}
 use Prim.Native.Nat.{_+_, _-_}
@@ -5,8 +6,6 @@ use mathlib.Core.Path.{_≡_, refl, _∙_}
 use borrow.Author.Needs.{needs}
 use Rattle.text.proofs.fields.find.Statement.{statement}
 use Rattle.text.proofs.fields.find.Tie as tie
-use Rattle.text.proofs.fields.find.Reads as reads
-use Rattle.text.proofs.fields.find.Lts as lts
 
 abbrev Inv-loop : tie.InvT-loop
 Inv-loop s from b i₀ i = i + length (before b (drop i s)) ≡ from + length (before b (drop from s))

@@ -1,12 +1,10 @@
+-- `text::fields::letter_at` meets its contract. Assumes nothing.
 use Rattle.text.specs.FieldLaws.{a-letter, no-letter, letter-inside}
 use native.Mathlib.Omega.{arith}
 use mathlib.Core.Path.{sym}
 use borrow.Author.Needs.{needs}
 use Rattle.text.proofs.fields.letter_at.Statement.{statement}
 use Rattle.text.proofs.fields.letter_at.Tie as tie
-use Rattle.text.proofs.fields.letter_at.Reads as reads
-use Rattle.text.proofs.fields.letter_at.Lts as lts
-use Rattle.text.proofs.fields.field_end.Reads as field-end-reads
 
 field-end-requires : tie.Need-field-end-requires
 field-end-requires c κs = search needs

@@ -1,11 +1,8 @@
+-- `text::fields::read_numbers` meets its contract. Assumes nothing.
 use Rattle.text.specs.Reading.{stored-none, stored-all}
 use borrow.Author.Needs.{needs}
 use Rattle.text.proofs.fields.read_numbers.Statement.{statement}
 use Rattle.text.proofs.fields.read_numbers.Tie as tie
-use Rattle.text.proofs.fields.read_numbers.Reads as reads
-use Rattle.text.proofs.fields.read_numbers.Lts as lts
-use Rattle.text.proofs.fields.count_numbers.Reads as count-numbers-reads
-use Rattle.text.proofs.fields.fill_numbers.Reads as fill-numbers-reads
 
 count-numbers-requires : tie.Need-count-numbers-requires
 count-numbers-requires c κs = search needs

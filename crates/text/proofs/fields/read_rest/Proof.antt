@@ -1,11 +1,8 @@
+-- `text::fields::read_rest` meets its contract. Assumes nothing.
 use Rattle.text.specs.Reading.{rest-none, rest-some}
 use borrow.Author.Needs.{needs}
 use Rattle.text.proofs.fields.read_rest.Statement.{statement}
 use Rattle.text.proofs.fields.read_rest.Tie as tie
-use Rattle.text.proofs.fields.read_rest.Reads as reads
-use Rattle.text.proofs.fields.read_rest.Lts as lts
-use Rattle.text.proofs.fields.field_end.Reads as field-end-reads
-use Rattle.text.proofs.fields.read_numbers.Reads as read-numbers-reads
 
 field-end-requires : tie.Need-field-end-requires
 field-end-requires c κs = search needs

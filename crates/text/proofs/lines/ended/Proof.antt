@@ -1,10 +1,9 @@
+-- `text::lines::ended` meets its contract. Assumes nothing.
 use Rattle.text.specs.Lines.{fedAt}
 use borrow.Author.Tests.{lt-ltb, le-ltb}
 use borrow.Author.Needs.{needs}
 use Rattle.text.proofs.lines.ended.Statement.{statement}
 use Rattle.text.proofs.lines.ended.Tie as tie
-use Rattle.text.proofs.lines.ended.Reads as reads
-use Rattle.text.proofs.lines.ended.Lts as lts
 
 add-t7 : tie.Need-add-t7
 add-t7 c = search needs

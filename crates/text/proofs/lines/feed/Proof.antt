@@ -1,14 +1,9 @@
+-- `text::lines::feed` meets its contract. Assumes nothing.
 use mathlib.Core.Path.{refl}
-use Rattle.text.specs.LineLaws.{feeds-all, feeds-cut}
-use Rattle.text.specs.LineLaws.{feeds-none, feeds-all}
+use Rattle.text.specs.LineLaws.{feeds-all, feeds-cut, feeds-none}
 use borrow.Author.Needs.{needs}
 use Rattle.text.proofs.lines.feed.Statement.{statement}
 use Rattle.text.proofs.lines.feed.Tie as tie
-use Rattle.text.proofs.lines.feed.Reads as reads
-use Rattle.text.proofs.lines.feed.Lts as lts
-use Rattle.text.proofs.fields.find.Reads as find-reads
-use Rattle.text.proofs.lines.ended.Reads as ended-reads
-use Rattle.text.proofs.writing.write_text.Reads as write-text-reads
 
 find-requires : tie.Need-find-requires
 find-requires c κs = search needs

@@ -1,3 +1,4 @@
+-- `text::numbers::digits_from` meets its contract. Assumes nothing.
 use Rattle.text.specs.Digits.{digitsAfter, digitsOf, digit-bounds, digits-more, digits-wrong, digits-end, digits-none, digits-start}
 use Rattle.text.specs.Numbers.{isDigit}
 use borrow.Author.Tests.{not-true, not-false}
@@ -9,10 +10,6 @@ use mathlib.Core.Path.{_≡_, sym, _∙_}
 use borrow.Author.Needs.{needs}
 use Rattle.text.proofs.numbers.digits_from.Statement.{statement}
 use Rattle.text.proofs.numbers.digits_from.Tie as tie
-use Rattle.text.proofs.numbers.digits_from.Reads as reads
-use Rattle.text.proofs.numbers.digits_from.Lts as lts
-use Rattle.text.proofs.numbers.grow.Reads as grow-reads
-use Rattle.text.proofs.numbers.is_digit.Reads as is-digit-reads
 
 abbrev Inv-loop : tie.InvT-loop
 Inv-loop s from n₀ i₀ n i = (digitsAfter n (drop i s) ≡ digitsOf (drop from s)) × (n ≤ 9223372036854775809)

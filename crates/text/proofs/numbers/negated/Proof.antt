@@ -1,9 +1,8 @@
+-- `text::numbers::negated` meets its contract. Assumes nothing.
 use Rattle.text.specs.Digits.{minus-zero, minus-bits}
 use borrow.Author.Needs.{needs}
 use Rattle.text.proofs.numbers.negated.Statement.{statement}
 use Rattle.text.proofs.numbers.negated.Tie as tie
-use Rattle.text.proofs.numbers.negated.Reads as reads
-use Rattle.text.proofs.numbers.negated.Lts as lts
 
 sub-result : tie.Need-sub-result
 sub-result c = search needs

@@ -1,3 +1,4 @@
+-- `text::numbers::negative` meets its contract. Assumes nothing.
 use Rattle.text.specs.Digits.{within-none, within-in, within-beyond}
 use Rattle.text.specs.Numbers.{minus}
 use Rattle.text.specs.declared.Number.the-variants.{Value}
@@ -8,9 +9,6 @@ use mathlib.Core.Path.{ap, _∙_}
 use borrow.Author.Needs.{needs}
 use Rattle.text.proofs.numbers.negative.Statement.{statement}
 use Rattle.text.proofs.numbers.negative.Tie as tie
-use Rattle.text.proofs.numbers.negative.Reads as reads
-use Rattle.text.proofs.numbers.negative.Lts as lts
-use Rattle.text.proofs.numbers.negated.Reads as negated-reads
 
 enum-told : tie.Need-enum-told
 enum-told c = search needs

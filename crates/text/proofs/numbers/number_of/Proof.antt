@@ -1,3 +1,4 @@
+-- `text::numbers::number_of` meets its contract. Assumes nothing.
 use Rattle.text.specs.Digits.{number-none, number-minus, number-plus}
 use lib.ListN.{length}
 use native.Mathlib.Omega.{arith}
@@ -6,11 +7,6 @@ use mathlib.Core.Path.{_∙_}
 use borrow.Author.Needs.{needs}
 use Rattle.text.proofs.numbers.number_of.Statement.{statement}
 use Rattle.text.proofs.numbers.number_of.Tie as tie
-use Rattle.text.proofs.numbers.number_of.Reads as reads
-use Rattle.text.proofs.numbers.number_of.Lts as lts
-use Rattle.text.proofs.numbers.digits_from.Reads as digits-from-reads
-use Rattle.text.proofs.numbers.negative.Reads as negative-reads
-use Rattle.text.proofs.numbers.positive.Reads as positive-reads
 
 returns : tie.Need-returns
 returns c = number-none _ (c .if1 .taken)

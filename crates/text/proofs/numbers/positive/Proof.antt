@@ -1,3 +1,4 @@
+-- `text::numbers::positive` meets its contract. Assumes nothing.
 use Rattle.text.specs.Digits.{within-none, within-in, within-beyond}
 use Rattle.text.specs.declared.Number.the-variants.{Value}
 use mir.ValLaws.{toZ-pos}
@@ -8,8 +9,6 @@ use mathlib.Core.Path.{ap, _∙_}
 use borrow.Author.Needs.{needs}
 use Rattle.text.proofs.numbers.positive.Statement.{statement}
 use Rattle.text.proofs.numbers.positive.Tie as tie
-use Rattle.text.proofs.numbers.positive.Reads as reads
-use Rattle.text.proofs.numbers.positive.Lts as lts
 
 enum-told : tie.Need-enum-told
 enum-told c = search needs

@@ -1,3 +1,4 @@
+-- `text::writing::write_digits` meets its contract. Assumes nothing.
 use Rattle.text.proofs.Steps.{no-digit, one-digit, more-digits}
 use native.Mathlib.Omega.{arith}
 use borrow.Author.Needs.{needs}

@@ -1,9 +1,7 @@
+-- `text::writing::write_natural` meets its contract. Assumes nothing.
 use borrow.Author.Needs.{needs}
 use Rattle.text.proofs.writing.write_natural.Statement.{statement}
 use Rattle.text.proofs.writing.write_natural.Tie as tie
-use Rattle.text.proofs.writing.write_natural.Reads as reads
-use Rattle.text.proofs.writing.write_natural.Lts as lts
-use Rattle.text.proofs.writing.write_digits.Reads as write-digits-reads
 
 write-digits-requires : tie.Need-write-digits-requires
 write-digits-requires c κs = search needs

@@ -1,3 +1,4 @@
+-- `text::writing::write_number` meets its contract. Assumes nothing.
 use Rattle.text.proofs.Steps.{unsigned-decimal, signed-decimal}
 use mir.Facts.{toZ-ofZ}
 use mir.Syntax.{w64}
@@ -8,12 +9,6 @@ use mathlib.Core.Path.{_≡_, sym, ap, _∙_}
 use borrow.Author.Needs.{needs}
 use Rattle.text.proofs.writing.write_number.Statement.{statement}
 use Rattle.text.proofs.writing.write_number.Tie as tie
-use Rattle.text.proofs.writing.write_number.Reads as reads
-use Rattle.text.proofs.writing.write_number.Lts as lts
-use Rattle.text.proofs.writing.write_byte.Reads as write-byte-reads
-use Rattle.text.proofs.writing.write_digits.Reads as write-digits-reads
-use Rattle.words.proofs.is_negative.Reads as is-negative-reads
-use Rattle.words.proofs.size.Reads as size-reads
 
 size-requires : tie.Need-size-requires
 size-requires c κs = search needs

@@ -1,16 +1,13 @@
+-- `text::writing::write_text` meets its contract. Assumes nothing.
 use Rattle.text.proofs.Steps.{text-start, text-more, text-whole}
-use lib.ListN.{length-set}
+use lib.ListN.{length-set, length, take}
 use native.Mathlib.Omega.{arith}
-use mathlib.Core.Path.{refl}
+use mathlib.Core.Path.{refl, _≡_}
 use Rattle.text.specs.Writing.{Written}
-use lib.ListN.{length, take}
 use Prim.Native.Nat.{_≤_, _-_, _+_}
-use mathlib.Core.Path.{_≡_}
 use borrow.Author.Needs.{needs}
 use Rattle.text.proofs.writing.write_text.Statement.{statement}
 use Rattle.text.proofs.writing.write_text.Tie as tie
-use Rattle.text.proofs.writing.write_text.Reads as reads
-use Rattle.text.proofs.writing.write_text.Lts as lts
 
 abbrev Inv-loop : tie.InvT-loop
 Inv-loop out₀ at text i₀ out i = (i ≤ length text) × (length out ≡ length out₀) × Written out₀ at (take i text) (at + i) out
