@@ -16,7 +16,7 @@ fn vacant() -> Place {
 }
 
 impl Ledger {
-    pub fn new() -> Ledger {
+    pub(crate) fn new() -> Ledger {
         let v = vacant();
         Ledger {
             at: [0usize; 400],
@@ -58,7 +58,7 @@ impl Ledger {
     }
 
     // After a call (0 add, 1 replace, 2 strike, any other undo), which was answered with a number: a refused one changes nothing.
-    pub fn next(self, refusal: u64, kind: usize, place: i64, entry: Record) -> Ledger {
+    pub(crate) fn next(self, refusal: u64, kind: usize, place: i64, entry: Record) -> Ledger {
         if refusal != 0 {
             return self;
         }
@@ -76,7 +76,7 @@ impl Ledger {
     }
 
     // The records, from scratch.
-    pub fn places(self) -> [Place; 256] {
+    pub(crate) fn places(self) -> [Place; 256] {
         let at = self.at;
         let puts = self.puts;
         let n = at_most(self.count, 400);
@@ -133,7 +133,7 @@ fn same_record(r: Record, s: Record) -> bool {
     true
 }
 
-pub fn same_places(a: [Place; 256], b: [Place; 256]) -> bool {
+pub(crate) fn same_places(a: [Place; 256], b: [Place; 256]) -> bool {
     let mut p = 0;
     while p < 256 {
         let x = a[p];
@@ -155,7 +155,7 @@ fn filled_at(r: Record) -> u64
 }
 
 // How many places are filled.
-pub fn filled(places: [Place; 256]) -> u64 {
+pub(crate) fn filled(places: [Place; 256]) -> u64 {
     let mut n: u64 = 0;
     let mut p: usize = 0;
     while p < 256 {

@@ -5,7 +5,7 @@ use network::Record;
 ghost use Prim.Native.Nat.{_<_};
 
 // A known station, three free ones and two height ones.
-pub fn list() -> [i64; 24] {
+pub(crate) fn list() -> [i64; 24] {
     [
         1,
         0,
@@ -35,14 +35,14 @@ pub fn list() -> [i64; 24] {
 }
 
 // A linear congruential generator.
-pub fn next(s: u64) -> u64
+pub(crate) fn next(s: u64) -> u64
     ensures { λ r. ⌜ r < 2147483647 ⌝ }
 {
     (s % 2147483647) * 16807 % 2147483647
 }
 
 // Of ten calls four add, three replace, one strikes and two undo.
-pub fn kind(s: u64) -> usize {
+pub(crate) fn kind(s: u64) -> usize {
     let d = s / 7 % 10;
     if d < 4 {
         return 0;
@@ -73,14 +73,14 @@ fn around(s: u64, n: u64, less: u64) -> i64
 }
 
 // Mostly 0 to 60, now and then 250 to 259.
-pub fn place(s: u64) -> i64 {
+pub(crate) fn place(s: u64) -> i64 {
     if s % 11 == 0 {
         return above(s / 11, 10, 250);
     }
     above(s / 11, 61, 0)
 }
 
-pub fn level() -> Record {
+pub(crate) fn level() -> Record {
     Record::Height(Level {
         from: 1,
         to: 2,
@@ -129,7 +129,7 @@ fn baseline(s: u64) -> Record {
     })
 }
 
-pub fn entry(s: u64) -> Record {
+pub(crate) fn entry(s: u64) -> Record {
     let d = s % 50;
     if d == 0 {
         return Record::Empty;

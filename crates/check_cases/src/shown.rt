@@ -3,7 +3,7 @@ use acceptance::Answer;
 use book::Book;
 
 // A case begins.
-pub fn title(name: &[u8]) {
+pub(crate) fn title(name: &[u8]) {
     io::write_all(1, name);
     io::write_all(1, b"\n");
 }
@@ -22,7 +22,7 @@ fn signed(v: i64) {
 }
 
 // An edit that was refused, by its number.
-pub fn refused(number: u64) {
+pub(crate) fn refused(number: u64) {
     if number != 0 {
         io::write_all(1, b" edit refused");
         field(number);
@@ -79,7 +79,7 @@ fn show_on(book: Book, x: &[i64], m: &[i64], sheet: &mut [i64]) {
 }
 
 // The answer to x and M with `long` lent words, each of them -1 before.
-pub fn show(book: Book, x: &[i64], m: &[i64], long: usize) {
+pub(crate) fn show(book: Book, x: &[i64], m: &[i64], long: usize) {
     let mut sheet = [-1i64; 128];
     if long <= 128 {
         show_on(book, x, m, &mut sheet[0..long]);

@@ -20,7 +20,7 @@ fn corrections(work: &[f64], right: &[i64], n: usize, x: &mut [i64])
 }
 
 // The corrections to the first n places of x and the inverse to the first n·n of m; false where N (rows of 48) is not positive definite in f64.
-pub fn candidate(
+pub(crate) fn candidate(
     matrix: &[i64],
     right: &[i64],
     n: usize,

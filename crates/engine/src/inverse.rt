@@ -124,7 +124,7 @@ fn complete(a: &mut [f64], n: usize)
 }
 
 // The inverse in place; false where a pivot is not positive, as of a singular matrix.
-pub fn invert(a: &mut [f64], n: usize) -> bool
+pub(crate) fn invert(a: &mut [f64], n: usize) -> bool
     requires { ⌜ (2304 ≤ length (now a)) × (n ≤ 48) ⌝ }
 {
     if sweep(a, n) {

@@ -10,7 +10,7 @@ ghost use Rattle.book.specs.Book.{sound};
 ghost use Rattle.checks.specs.Checks.{checked};
 ghost use Rattle.engine.specs.Proposals.{Proposed};
 
-pub fn offer(
+pub(crate) fn offer(
     book: Book,
     corrections: &[i64],
     inverse: &[i64],

@@ -18,7 +18,7 @@ fn nearest(v: f64) -> i64 {
 }
 
 // The first n numbers of a list as f64, to `to` and on.
-pub fn load(list: &[i64], out: &mut [f64], to: usize, n: usize)
+pub(crate) fn load(list: &[i64], out: &mut [f64], to: usize, n: usize)
     requires { ⌜ (n ≤ length (now list)) × (to + n ≤ length (now out)) ⌝ }
 {
     let mut i: usize = 0;
@@ -29,7 +29,7 @@ pub fn load(list: &[i64], out: &mut [f64], to: usize, n: usize)
 }
 
 // n numbers from `from` on, times `scale` and rounded to nearest, to `to` and on.
-pub fn store(list: &[f64], from: usize, scale: f64, out: &mut [i64], to: usize, n: usize)
+pub(crate) fn store(list: &[f64], from: usize, scale: f64, out: &mut [i64], to: usize, n: usize)
     requires { ⌜ (from + n ≤ length (now list)) × (to + n ≤ length (now out)) ⌝ }
 {
     let mut i: usize = 0;
@@ -40,7 +40,7 @@ pub fn store(list: &[f64], from: usize, scale: f64, out: &mut [i64], to: usize, 
 }
 
 // n rows of n out of rows of 48, times 2^30 (document 01's S) and rounded to nearest.
-pub fn store_rows(a: &[f64], m: &mut [i64], n: usize)
+pub(crate) fn store_rows(a: &[f64], m: &mut [i64], n: usize)
     requires { ⌜ (2304 ≤ length (now a)) × ((2304 ≤ length (now m)) × (n ≤ 48)) ⌝ }
 {
     let mut to: usize = 0;

@@ -55,7 +55,7 @@ fn refine(work: &[f64], r: &[f64], x: &mut [f64], n: usize)
 
 // The corrections, from 0 on in three rounds. One was enough in every network tried, with condition numbers up to 3·10^9; the others mend what f64 loses
 // in a weaker one, and cost little.
-pub fn solve(work: &[f64], right: &[f64], x: &mut [f64], n: usize)
+pub(crate) fn solve(work: &[f64], right: &[f64], x: &mut [f64], n: usize)
     requires { ⌜ (4608 ≤ length (now work)) × (n ≤ 48) ⌝ }
     requires { ⌜ (48 ≤ length (now right)) × (48 ≤ length (now x)) ⌝ }
 {

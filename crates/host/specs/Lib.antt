@@ -8,3 +8,6 @@ pub mod CodecLaws
 pub mod Calls
 pub mod Demand
 pub mod DemandHolds
+pub mod CheckCalls
+pub mod CheckLaws
+pub mod Proposal

@@ -44,7 +44,19 @@ fn edit_bytes(book: &mut [u8], request: Request) -> i64
     bytes::settle(book, e)
 }
 
-fn baseline_of(from: i64, to: i64, east: i64, north: i64, up: i64, ee: i64, en: i64, eu: i64, nn: i64, nu: i64, uu: i64) -> Record
+fn baseline_of(
+    from: i64,
+    to: i64,
+    east: i64,
+    north: i64,
+    up: i64,
+    ee: i64,
+    en: i64,
+    eu: i64,
+    nn: i64,
+    nu: i64,
+    uu: i64,
+) -> Record
     ensures { λ r. ⌜ r ≡ baselineOf from to east north up ee en eu nn nu uu ⌝ }
 {
     Record::Baseline(Baseline {
@@ -75,7 +87,21 @@ fn height_of(from: i64, to: i64, up: i64, weight: i64) -> Record
 
 // Fills an empty place with a baseline.
 #[no_mangle]
-pub extern "C" fn dombrelat_add_baseline(book: &mut [u8], place: i64, from: i64, to: i64, east: i64, north: i64, up: i64, ee: i64, en: i64, eu: i64, nn: i64, nu: i64, uu: i64) -> i64
+pub extern "C" fn dombrelat_add_baseline(
+    book: &mut [u8],
+    place: i64,
+    from: i64,
+    to: i64,
+    east: i64,
+    north: i64,
+    up: i64,
+    ee: i64,
+    en: i64,
+    eu: i64,
+    nn: i64,
+    nu: i64,
+    uu: i64,
+) -> i64
     ensures { λ r. ⌜ r ≡ edit (now (book .entry)) (Call.add place (baselineOf from to east north up ee en eu nn nu uu)) .answer ⌝ }
     ensures { λ _. ⌜ now (book .exit) ≡ edit (now (book .entry)) (Call.add place (baselineOf from to east north up ee en eu nn nu uu)) .bytes ⌝ }
 {
@@ -85,7 +111,14 @@ pub extern "C" fn dombrelat_add_baseline(book: &mut [u8], place: i64, from: i64,
 
 // Fills an empty place with a height difference.
 #[no_mangle]
-pub extern "C" fn dombrelat_add_height(book: &mut [u8], place: i64, from: i64, to: i64, up: i64, weight: i64) -> i64
+pub extern "C" fn dombrelat_add_height(
+    book: &mut [u8],
+    place: i64,
+    from: i64,
+    to: i64,
+    up: i64,
+    weight: i64,
+) -> i64
     ensures { λ r. ⌜ r ≡ edit (now (book .entry)) (Call.add place (heightOf from to up weight)) .answer ⌝ }
     ensures { λ _. ⌜ now (book .exit) ≡ edit (now (book .entry)) (Call.add place (heightOf from to up weight)) .bytes ⌝ }
 {
@@ -95,7 +128,21 @@ pub extern "C" fn dombrelat_add_height(book: &mut [u8], place: i64, from: i64, t
 
 // Changes a filled place to a baseline.
 #[no_mangle]
-pub extern "C" fn dombrelat_replace_baseline(book: &mut [u8], place: i64, from: i64, to: i64, east: i64, north: i64, up: i64, ee: i64, en: i64, eu: i64, nn: i64, nu: i64, uu: i64) -> i64
+pub extern "C" fn dombrelat_replace_baseline(
+    book: &mut [u8],
+    place: i64,
+    from: i64,
+    to: i64,
+    east: i64,
+    north: i64,
+    up: i64,
+    ee: i64,
+    en: i64,
+    eu: i64,
+    nn: i64,
+    nu: i64,
+    uu: i64,
+) -> i64
     ensures { λ r. ⌜ r ≡ edit (now (book .entry)) (Call.replace place (baselineOf from to east north up ee en eu nn nu uu)) .answer ⌝ }
     ensures { λ _. ⌜ now (book .exit) ≡ edit (now (book .entry)) (Call.replace place (baselineOf from to east north up ee en eu nn nu uu)) .bytes ⌝ }
 {
@@ -105,7 +152,14 @@ pub extern "C" fn dombrelat_replace_baseline(book: &mut [u8], place: i64, from: 
 
 // Changes a filled place to a height difference.
 #[no_mangle]
-pub extern "C" fn dombrelat_replace_height(book: &mut [u8], place: i64, from: i64, to: i64, up: i64, weight: i64) -> i64
+pub extern "C" fn dombrelat_replace_height(
+    book: &mut [u8],
+    place: i64,
+    from: i64,
+    to: i64,
+    up: i64,
+    weight: i64,
+) -> i64
     ensures { λ r. ⌜ r ≡ edit (now (book .entry)) (Call.replace place (heightOf from to up weight)) .answer ⌝ }
     ensures { λ _. ⌜ now (book .exit) ≡ edit (now (book .entry)) (Call.replace place (heightOf from to up weight)) .bytes ⌝ }
 {

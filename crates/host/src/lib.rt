@@ -1,8 +1,10 @@
 // The C calls on lent bytes, and the book's layout in them: the only crate that knows it (docs/BOOK.md).
 //
-// `records` has a record's words, `reading` the book that words give, `writing` a book's words, `bytes` a book in bytes, `edits` the calls that open and edit.
+// `records` has a record's words, `reading` the book that words give, `writing` a book's words, `bytes` a book in bytes, `edits` the calls that open and edit, `checking` those that check, `proposing` the one that proposes.
 mod bytes;
+mod checking;
 mod edits;
+mod proposing;
 mod reading;
 mod records;
 mod writing;

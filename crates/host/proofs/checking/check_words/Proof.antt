@@ -1,0 +1,36 @@
+use borrow.Author.Needs.{needs}
+use Rattle.host.proofs.checking.check_words.Statement.{statement}
+use Rattle.host.proofs.checking.check_words.Tie as tie
+use Rattle.host.proofs.checking.check_words.Reads as reads
+use Rattle.host.proofs.checking.check_words.Lts as lts
+use Rattle.checks.proofs.check.Reads as check-reads
+use Rattle.words.proofs.read_words.Reads as read-words-reads
+
+read-words-requires : tie.Need-read-words-requires
+read-words-requires c κs = search needs
+
+read-words-requires-2 : tie.Need-read-words-requires-2
+read-words-requires-2 c κs = search needs
+
+check-requires : tie.Need-check-requires
+check-requires c κs = search needs
+
+same-length : tie.Need-same-length
+same-length c = search needs
+
+same-length-2 : tie.Need-same-length-2
+same-length-2 c = search needs
+
+returns : tie.Need-returns
+returns c = cc
+
+pub check-words-spec : {M : Type 1} → statement M
+check-words-spec =
+    tie.close
+    (tie.spec
+    read-words-requires
+    read-words-requires-2
+    check-requires
+    same-length
+    same-length-2
+    returns)

@@ -1,0 +1,46 @@
+use Rattle.host.proofs.Answers.{deliver-accepted, deliver-refused, deliver-untied}
+use borrow.Author.Needs.{needs}
+use Rattle.host.proofs.checking.deliver.Statement.{statement}
+use Rattle.host.proofs.checking.deliver.Tie as tie
+use Rattle.host.proofs.checking.deliver.Reads as reads
+use Rattle.host.proofs.checking.deliver.Lts as lts
+use Rattle.words.proofs.write_words.Reads as write-words-reads
+
+enum-told : tie.Need-enum-told
+enum-told c = search needs
+
+write-words-requires : tie.Need-write-words-requires
+write-words-requires c κs = search needs
+
+enum-known-a : tie.Need-enum-known-a
+enum-known-a c = search needs
+
+enum-known-a-2 : tie.Need-enum-known-a-2
+enum-known-a-2 c = search needs
+
+same-length : tie.Need-same-length
+same-length c = search needs
+
+returns : tie.Need-returns
+returns c =
+    let p = c .before .before in
+    deliver-accepted _ _ _ _ (p .before .before .enum-told .given .1) (p .write-words .ensures)
+
+returns-2 : tie.Need-returns-2
+returns-2 c = deliver-refused _ _ _ _ (c .before .a .given .1)
+
+returns-3 : tie.Need-returns-3
+returns-3 c = deliver-untied _ _ _ _ (c .before .a2 .given .1)
+
+pub deliver-spec : {M : Type 1} → statement M
+deliver-spec =
+    tie.close
+    (tie.spec
+    enum-told
+    write-words-requires
+    enum-known-a
+    enum-known-a-2
+    same-length
+    returns
+    returns-2
+    returns-3)

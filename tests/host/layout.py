@@ -1,0 +1,134 @@
+"""A book's bytes by docs/BOOK.md, written and judged independently of the library: for the tests. Rules of stations and records are the reference's."""
+import os
+import struct
+import sys
+
+sys.path.insert(0, os.path.join(os.path.dirname(os.path.abspath(__file__)), '..', 'reference'))
+import survey  # noqa: E402
+
+WORDS = 7028
+BYTES = 8 * WORDS
+PLACES, SLOTS = 256, 64
+STATIONS_AT, PLACES_AT, NEXT_AT, HELD_AT, SLOTS_AT, MATRIX_AT, RIGHT_AT = 2, 130, 3714, 3715, 3716, 4676, 6980
+
+
+def record_words(r):
+    if r is None:
+        return [0] * 14
+    if isinstance(r, survey.Baseline):
+        return [1, r.start, r.end, *r.observed, *r.weights, 0, 0]
+    return [2, r.start, r.end, 0, 0, r.up, 0, 0, 0, 0, 0, r.single, 0, 0]
+
+
+def record_of(w):
+    """The record of 14 words, or 'bad'."""
+    r = None
+    if w[0] == 1:
+        r = survey.Baseline(w[1], w[2], tuple(w[3:6]), tuple(w[6:12]))
+    elif w[0] == 2:
+        r = survey.Level(w[1], w[2], w[5], w[11])
+    return r if record_words(r) == list(w) else 'bad'
+
+
+class Book:
+    """A book as the calls keep it: stations, records by place from 1, and the ring of reversals (place from 0, record before)."""
+
+    def __init__(self, rows):
+        self.rows = [tuple(r) for r in rows]
+        self.net = survey.Network(survey.Station(*r) for r in self.rows)
+        self.records = {}
+        self.slots = [None] * SLOTS
+        self.next = 0
+        self.held = 0
+
+    def bytes(self):
+        w = [1, len(self.rows)]
+        for k in range(32):
+            w += self.rows[k] if k < len(self.rows) else (0, 0, 0, 0)
+        for p in range(1, PLACES + 1):
+            w += record_words(self.records.get(p))
+        w += [self.next, self.held]
+        for slot in self.slots:
+            w += [0] * 15 if slot is None else [slot[0]] + record_words(slot[1])
+        matrix, right = survey.normals(self.net, self.records)
+        n = self.net.n
+        for i in range(48):
+            w += (matrix[i] if i < n else []) + [0] * (48 - n if i < n else 48)
+        w += right + [0] * (48 - n)
+        return struct.pack('<%dq' % WORDS, *w)
+
+    def enter(self, place, record):
+        self.slots[self.next] = (place - 1, self.records.get(place))
+        self.next = (self.next + 1) % SLOTS
+        self.held = min(self.held + 1, SLOTS)
+        self.put(place, record)
+
+    def put(self, place, record):
+        if record is None:
+            self.records.pop(place, None)
+        else:
+            self.records[place] = record
+
+    def edit(self, call, place, record):
+        """The number of an edit, which is done where it is 0."""
+        if call == 'undo':
+            if self.held == 0:
+                return 8
+            self.next = (self.next - 1) % SLOTS
+            self.held -= 1
+            p, before = self.slots[self.next]
+            self.slots[self.next] = None
+            self.put(p + 1, before)
+            return 0
+        if not 1 <= place <= PLACES:
+            return 2
+        if call != 'strike':
+            number = survey.record_number(self.net, record)
+            if number:
+                return number
+        if (place in self.records) != (call != 'add'):
+            return 7
+        self.enter(place, None if call == 'strike' else record)
+        return 0
+
+
+def fits(net, r):
+    return r is None or survey.record_number(net, r) == 0
+
+
+def judge(data):
+    """The book in lent bytes, or None where 25 is right."""
+    if len(data) < BYTES:
+        return None
+    w = struct.unpack('<%dq' % WORDS, data[:BYTES])
+    if w[0] != 1 or not 1 <= w[1] <= 32:
+        return None
+    rows = [w[STATIONS_AT + 4 * k:STATIONS_AT + 4 * k + 4] for k in range(32)]
+    if any(v for r in rows[w[1]:] for v in r) or survey.open_number(rows[:w[1]]):
+        return None
+    book = Book(rows[:w[1]])
+    for p in range(PLACES):
+        r = record_of(w[PLACES_AT + 14 * p:PLACES_AT + 14 * p + 14])
+        if r == 'bad' or not fits(book.net, r):
+            return None
+        if r is not None:
+            book.records[p + 1] = r
+    book.next, book.held = w[NEXT_AT], w[HELD_AT]
+    if not (0 <= book.next < SLOTS and 0 <= book.held <= SLOTS):
+        return None
+    state = dict(book.records)
+    for age in range(SLOTS):
+        k = (book.next - 1 - age) % SLOTS
+        slot = w[SLOTS_AT + 15 * k:SLOTS_AT + 15 * k + 15]
+        if age >= book.held:
+            if any(slot):
+                return None
+            continue
+        r = record_of(slot[1:])
+        if r == 'bad' or not 0 <= slot[0] < PLACES or not fits(book.net, r) or (r is None and slot[0] + 1 not in state):
+            return None
+        book.slots[k] = (slot[0], r)
+        state.pop(slot[0] + 1, None)
+        if r is not None:
+            state[slot[0] + 1] = r
+    return book if book.bytes() == data[:BYTES] else None

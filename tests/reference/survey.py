@@ -1,0 +1,285 @@
+"""An independent implementation of document 01, for the tests: stations, records, the ledger, the check, the sheet. Written from the document
+alone, in whole numbers, with no thought for speed. Numbers of stations, places and unknowns count from 1 as in the document; lists from 0."""
+from dataclasses import dataclass, field
+
+KNOWN, FREE, HEIGHT = 1, 2, 3          # kinds of station, as words
+S = 2 ** 30
+LIMIT = 2 ** 62
+CHI_SQUARE = [  # 95% limits in thousandths, D = 1 to 30
+    (1, 5024), (51, 7378), (216, 9348), (484, 11143), (831, 12833), (1237, 14449), (1690, 16013), (2180, 17535), (2700, 19023), (3247, 20483),
+    (3816, 21920), (4404, 23337), (5009, 24736), (5629, 26119), (6262, 27488), (6908, 28845), (7564, 30191), (8231, 31526), (8907, 32852),
+    (9591, 34170), (10283, 35479), (10982, 36781), (11689, 38076), (12401, 39364), (13120, 40646), (13844, 41923), (14573, 43195),
+    (15308, 44461), (16047, 45722), (16791, 46979)]
+PASS, FAIL, LOOSE, LOW, HIGH, NONE = range(6)
+
+
+@dataclass(frozen=True)
+class Station:
+    kind: int
+    east: int
+    north: int
+    up: int
+
+    def coordinate(self, c):
+        return (self.east, self.north, self.up)[c]
+
+    def unknown(self, c):
+        return self.kind == FREE or (self.kind == HEIGHT and c == 2)
+
+
+@dataclass(frozen=True)
+class Baseline:
+    start: int
+    end: int
+    observed: tuple           # E, N, U
+    weights: tuple            # EE, EN, EU, NN, NU, UU
+
+    components = (0, 1, 2)
+
+    def weight(self, a, b):
+        ee, en, eu, nn, nu, uu = self.weights
+        return ((ee, en, eu), (en, nn, nu), (eu, nu, uu))[a][b]
+
+    def determinant(self):
+        ee, en, eu, nn, nu, uu = self.weights
+        return ee * nn * uu + 2 * en * nu * eu - ee * nu * nu - nn * eu * eu - uu * en * en
+
+    def adjugate(self, a):
+        ee, en, eu, nn, nu, uu = self.weights
+        return (nn * uu - nu * nu, ee * uu - eu * eu, ee * nn - en * en)[a]
+
+    def variance(self, a):
+        """floor(S·adj/det)"""
+        return S * self.adjugate(a) // self.determinant()
+
+
+@dataclass(frozen=True)
+class Level:
+    start: int
+    end: int
+    up: int
+    single: int
+
+    components = (2,)
+
+    @property
+    def observed(self):
+        return (0, 0, self.up)
+
+    def weight(self, a, b):
+        return self.single if a == b == 2 else 0
+
+    def variance(self, a):
+        return S // self.single
+
+
+class Network:
+    def __init__(self, stations):
+        self.stations = list(stations)
+        self.index = {}                                   # (station number, component) -> index of the unknown, from 0
+        for number, station in enumerate(self.stations, 1):
+            for c in range(3):
+                if station.unknown(c):
+                    self.index[number, c] = len(self.index)
+        self.n = len(self.index)
+
+    def at(self, number):
+        return self.stations[number - 1]
+
+    def misclosure(self, record, c):
+        provisional = self.at(record.end).coordinate(c) - self.at(record.start).coordinate(c)
+        return record.observed[c] - provisional
+
+
+def open_number(rows):
+    """Refusal 1 of a list of (kind, E, N, U); 0 where it opens."""
+    if not 1 <= len(rows) <= 32:
+        return 1
+    for kind, *coordinates in rows:
+        if kind not in (KNOWN, FREE, HEIGHT) or any(abs(v) > 500_000_000 for v in coordinates):
+            return 1
+    return 0 if 1 <= Network(Station(*row) for row in rows).n <= 48 else 1
+
+
+def record_number(net, r):
+    """Refusals 3 to 6 of a record; 0 for none."""
+    count = len(net.stations)
+    if not (1 <= r.start <= count and 1 <= r.end <= count) or r.start == r.end:
+        return 3
+    if any(abs(v) > 1_000_000_000 for v in r.observed):
+        return 4
+    if isinstance(r, Baseline):
+        ee, en, eu, nn, nu, uu = r.weights
+        if not all(1 <= w <= 10_000 for w in (ee, nn, uu)) or any(abs(w) > 10_000 for w in (en, eu, nu)):
+            return 4
+        det = r.determinant()
+        if not (ee > 0 and ee * nn - en * en > 0 and det > 0) or any(r.adjugate(a) > 16 * det for a in range(3)):
+            return 5
+    elif not 1 <= r.single <= 10_000:
+        return 4
+    if any(abs(net.misclosure(r, c)) > 100_000 for c in r.components):
+        return 6
+    return 0
+
+
+def normals(net, records):
+    """N and u of the records, by N = AᵀPA and u = AᵀPl."""
+    n = net.n
+    matrix = [[0] * n for _ in range(n)]
+    right = [0] * n
+    for r in records.values():
+        ends = [(net.index[s, c], sign, c) for s, sign in ((r.start, -1), (r.end, 1)) for c in r.components if (s, c) in net.index]
+        for i, a, c in ends:
+            for j, b, d in ends:
+                matrix[i][j] += a * r.weight(c, d) * b
+            right[i] += sum(a * r.weight(c, d) * net.misclosure(r, d) for d in r.components)
+    return matrix, right
+
+
+class Ledger:
+    """Document 01's plain ledger: standing edits in order, and how many can be taken back."""
+
+    def __init__(self, net):
+        self.net = net
+        self.edits = []           # (place, record or None)
+        self.count = 0
+
+    def records(self):
+        held = {}
+        for place, record in self.edits:
+            held[place] = record
+        return {p: held[p] for p in sorted(held) if held[p] is not None}
+
+    def _enter(self, place, record):
+        self.edits.append((place, record))
+        self.count = min(self.count + 1, 64)
+        return 0
+
+    def _put(self, place, record, filled):
+        if not 1 <= place <= 256:
+            return 2
+        number = record_number(self.net, record)
+        if number:
+            return number
+        if (place in self.records()) != filled:
+            return 7
+        after = dict(self.records())
+        after[place] = record
+        matrix, right = normals(self.net, after)
+        if any(abs(v) > LIMIT for row in matrix for v in row) or any(abs(v) > LIMIT for v in right):
+            return 9
+        return self._enter(place, record)
+
+    def add(self, place, record):
+        return self._put(place, record, False)
+
+    def replace(self, place, record):
+        return self._put(place, record, True)
+
+    def strike(self, place):
+        if not 1 <= place <= 256:
+            return 2
+        if place not in self.records():
+            return 7
+        return self._enter(place, None)
+
+    def undo(self):
+        if self.count == 0:
+            return 8
+        self.edits.pop()
+        self.count -= 1
+        return 0
+
+
+def untied(net, records):
+    """The lowest unknown, from 1, without a chain to a held station; None where all are tied."""
+    reached = set()
+    for c in range(3):
+        tied = {s for s in range(1, len(net.stations) + 1) if not net.at(s).unknown(c)}
+        while True:
+            more = {t for r in records.values() if c in r.components for s, t in ((r.start, r.end), (r.end, r.start)) if s in tied} - tied
+            if not more:
+                break
+            tied |= more
+        reached |= {(s, c) for s in tied}
+    missing = [i for key, i in net.index.items() if key not in reached]
+    return min(missing) + 1 if missing else None
+
+
+def check(net, records, x, m, room=None):
+    """The answer of a check: (0,), (number,) or (11, unknown). `room` is the words of the lent sheet, None where none is lent."""
+    n = net.n
+    if len(x) != n or len(m) != n * n or (room is not None and room < sheet_room(net, records)):
+        return (10,)
+    first = untied(net, records)
+    if first:
+        return (11, first)
+    if any(abs(v) > 100_000 for v in x):
+        return (12,)
+    if any(abs(v) > 2 ** 34 for v in m):
+        return (13,)
+    matrix, right = normals(net, records)
+    for i in range(n):
+        row = m[i * n:(i + 1) * n]
+        if sum(abs((S if i == j else 0) - sum(row[k] * matrix[k][j] for k in range(n))) for j in range(n)) > 2 ** 26:
+            return (14,)
+    r = [right[i] - sum(matrix[i][j] * x[j] for j in range(n)) for i in range(n)]
+    if any(abs(v) > 2 ** 23 for v in r):
+        return (15,)
+    if any(abs(sum(m[i * n + k] * r[k] for k in range(n))) > 15 * 2 ** 26 for i in range(n)):
+        return (16,)
+    if abs(weighted_squares(net, records, x)) > LIMIT:
+        return (9,)
+    return (0,)
+
+
+def residual(net, r, x, c):
+    move = {s: x[net.index[s, c]] if (s, c) in net.index else 0 for s in (r.start, r.end)}
+    return net.misclosure(r, c) - (move[r.end] - move[r.start])
+
+
+def weighted_squares(net, records, x):
+    return sum(residual(net, r, x, a) * r.weight(a, b) * residual(net, r, x, b) for r in records.values() for a in r.components for b in r.components)
+
+
+def local_verdict(net, r, x, m, c):
+    def entry(s, t):
+        return m[net.index[s, c] * net.n + net.index[t, c]] if (s, c) in net.index and (t, c) in net.index else 0
+    f, t = r.start, r.end
+    q = r.variance(c) - (entry(t, t) + entry(f, f) - entry(t, f) - entry(f, t))
+    v = residual(net, r, x, c)
+    if q < 2 ** 14:
+        return LOOSE
+    return FAIL if v * v * 2 ** 24 > 60025 * q else PASS
+
+
+def freedom(net, records):
+    return sum(len(r.components) for r in records.values()) - net.n
+
+
+def global_verdict(t, d):
+    if not 1 <= d <= 30:
+        return NONE
+    lower, upper = CHI_SQUARE[d - 1]
+    return LOW if t < 1000 * lower else HIGH if t > 1000 * upper else PASS
+
+
+def sheet_room(net, records):
+    return 5 + 7 * len(net.stations) + sum(7 if isinstance(r, Baseline) else 3 for r in records.values())
+
+
+def sheet(net, records, x, m):
+    """The words of the sheet of an accepted pair."""
+    n = net.n
+    words = [len(records), n]
+    for number, station in enumerate(net.stations, 1):
+        indices = [net.index.get((number, c)) for c in range(3)]
+        words.append(number)
+        words += [station.coordinate(c) + (x[i] if i is not None else 0) for c, i in enumerate(indices)]
+        words += [m[i * n + i] if i is not None else 0 for i in indices]
+    for place, r in sorted(records.items()):
+        words.append(place)
+        words += [residual(net, r, x, c) for c in r.components]
+        words += [local_verdict(net, r, x, m, c) for c in r.components]
+    t, d = weighted_squares(net, records, x), freedom(net, records)
+    return words + [t, d, global_verdict(t, d)]
