@@ -141,15 +141,7 @@ record twin_record(const int64_t *row)
     return r;
 }
 
-void twin_replay(const int64_t *list, size_t words, const int64_t *calls, size_t rows, int64_t *answers)
-{
-    static book b;
-    twin_open(&b, list, words);
-    for (size_t k = 0; k < rows; k++)
-        answers[k] = twin_call(&b, calls[k * 14], calls[k * 14 + 1], twin_record(calls + k * 14));
-}
-
-/* the same with the book passed and given back by value */
+/* the book is passed and given back by value, as the measured calls have it */
 typedef struct {
     int64_t refusal;
     book after;
@@ -163,7 +155,7 @@ __attribute__((noinline)) static edited call_by_value(book b, int64_t call, int6
     return e;
 }
 
-void twin_replay_by_value(const int64_t *list, size_t words, const int64_t *calls, size_t rows, int64_t *answers)
+void twin_replay(const int64_t *list, size_t words, const int64_t *calls, size_t rows, int64_t *answers)
 {
     static book b;
     static edited e;

@@ -29,4 +29,3 @@ typedef struct {
 
 int64_t twin_call(book *b, int64_t call, int64_t place, record r);
 void twin_replay(const int64_t *list, size_t words, const int64_t *calls, size_t rows, int64_t *answers);
-void twin_replay_by_value(const int64_t *list, size_t words, const int64_t *calls, size_t rows, int64_t *answers);

@@ -1,25 +1,15 @@
-/* A proposal at 48 unknowns: the library against a plain C LDLT with inverse and solution in f64, in one run. The library's call also decodes the bytes and tests 25, which a
- * call with a length that does not fit does alone; that is taken off. It also passes the pair through the whole check, which the plain C does not. */
-#include "../../include/dombrelat.h"
-
+/* A proposal at 48 unknowns: the library against a plain C LDLT with inverse and solution in f64. The library's call also decodes the bytes and tests 25, which a call with a
+ * length that does not fit does alone; that is taken off. It also passes the pair through the whole check, which the plain C does not. */
+#include "../full.h"
 #include <math.h>
-#include <stdio.h>
-#include <time.h>
 
-enum { N = 48, MATRIX = 4676, RIGHT = 6980, TIMES = 400 };
-
-static int64_t book[DOMBRELAT_BOOK_BYTES / 8], x[N], m[N * N], y[N], w[N * N];
-
-static double now(void) {
-    struct timespec t;
-    clock_gettime(CLOCK_PROCESS_CPUTIME_ID, &t);
-    return (double)t.tv_sec * 1e6 + (double)t.tv_nsec / 1e3;
-}
+static int64_t x[N], m[N * N], y[N], w[N * N];
 
 /* N = L D LT, the inverse by columns, x = inverse times u; both rounded. */
-static void plain(void) {
+static void plain(int round) {
     static double l[N][N], d[N], inverse[N][N];
     int i, j, k;
+    (void)round;
     for (j = 0; j < N; j++) {
         double s = (double)book[MATRIX + j * 48 + j];
         for (k = 0; k < j; k++) {
@@ -64,52 +54,26 @@ static void plain(void) {
     }
 }
 
+static void library(int k) {
+    (void)k;
+    dombrelat_propose((uint8_t *)book, sizeof book, (uint8_t *)x, sizeof x, (uint8_t *)m, sizeof m);
+}
+
+static void decoding(int k) {
+    (void)k;
+    dombrelat_propose((uint8_t *)book, sizeof book, (uint8_t *)x, 0, (uint8_t *)m, sizeof m);
+}
+
 int main(void) {
-    int64_t stations[32][4];
-    double best[3] = {1e9, 1e9, 1e9}, from;
     uint8_t *bytes = (uint8_t *)book;
-    int k, round;
-    for (k = 0; k < 32; k++) {
-        stations[k][0] = k < 12 ? DOMBRELAT_FREE : k < 24 ? DOMBRELAT_HEIGHT : DOMBRELAT_KNOWN;
-        stations[k][1] = 1000 * k, stations[k][2] = -1000 * k, stations[k][3] = 10 * k;
+    if (fill(0)) {
+        return fail("propose: a record is refused");
     }
-    if (dombrelat_open((uint8_t *)stations, sizeof stations, bytes, sizeof book)) {
-        return 1;
-    }
-    for (k = 0; k < 256; k++) {
-        int f = k % 32, t = (k * 7 + 3 + k / 32) % 32;
-        t = t == f ? (t + 1) % 32 : t;
-        if (dombrelat_add_baseline(bytes, sizeof book, k + 1, f + 1, t + 1, stations[t][1] - stations[f][1] + k % 17, stations[t][2] - stations[f][2] - k % 13,
-                                   stations[t][3] - stations[f][3] + k % 11, 100 + k, 3, -2, 120, 1, 90)) {
-            return 1;
-        }
-    }
-    plain();
+    plain(0);
     if (dombrelat_propose(bytes, sizeof book, (uint8_t *)x, sizeof x, (uint8_t *)m, sizeof m) ||
         dombrelat_check(bytes, sizeof book, (uint8_t *)y, sizeof y, (uint8_t *)w, sizeof w)) {
-        printf("no proposal, or the plain C's pair is refused\n");
-        return 1;
+        return fail("propose: no proposal, or the plain C's pair is refused");
     }
-    for (round = 0; round < 7; round++) {
-        double taken[3];
-        from = now();
-        for (k = 0; k < TIMES; k++) {
-            dombrelat_propose(bytes, sizeof book, (uint8_t *)x, sizeof x, (uint8_t *)m, sizeof m);
-        }
-        taken[0] = now() - from, from = now();
-        for (k = 0; k < TIMES; k++) {
-            dombrelat_propose(bytes, sizeof book, (uint8_t *)x, 0, (uint8_t *)m, sizeof m);
-        }
-        taken[1] = now() - from, from = now();
-        for (k = 0; k < TIMES; k++) {
-            plain();
-        }
-        taken[2] = now() - from;
-        for (k = 0; k < 3; k++) {
-            best[k] = taken[k] < best[k] ? taken[k] : best[k];
-        }
-    }
-    printf("propose at 48 unknowns: library %.1f us, of which %.1f us decode the book and test 25; plain C LDLT and inverse %.1f us; ratio without the 25 test %.2f\n",
-           best[0] / TIMES, best[1] / TIMES, best[2] / TIMES, (best[0] - best[1]) / best[2]);
+    report("propose at 48 unknowns, beside the 25 test", least(library, 7, 400) - least(decoding, 7, 400), least(plain, 7, 400), 2);
     return 0;
 }

@@ -10,6 +10,7 @@ use normals::Normals;
 ghost use mathlib.Core.Path.{_≡_};
 ghost use Prim.Native.Nat.{_<_};
 ghost use Rattle.normals.specs.Formulas.{normalsOf};
+ghost use Rattle.bench_kernels.specs.Replays.{Replays};
 ghost use Rattle.bench_kernels.specs.Sample.{sampleNetwork, sampleBaseline, samplePlaces, entryAt};
 
 fn sample_network() -> Network
@@ -123,4 +124,13 @@ pub extern "C" fn bench_normals(k: usize) -> i64
         return x.right[i];
     }
     0
+}
+
+// A replay, from numbers: opens a book on the list, applies the rows of calls and writes their answers; gives the refusal of the opening, 0 for none.
+#[no_mangle]
+pub extern "C" fn bench_replay(list: &[i64], calls: &[i64], answers: &mut [i64]) -> u64
+    ensures { λ n. ⌜ Replays (now (list .entry)) (now (calls .entry)) (now (answers .entry)) (now (answers .exit)) n ⌝ }
+{
+    let e = book::replay(list, calls, answers);
+    e.refusal
 }

@@ -1,7 +1,7 @@
 -- `bench_replay` meets its contract: it is `book::replay`'s. Assumes nothing.
 use borrow.Author.Needs.{needs}
-use Rattle.book_kernels.proofs.bench_replay.Statement.{statement}
-use Rattle.book_kernels.proofs.bench_replay.Tie as tie
+use Rattle.bench_kernels.proofs.bench_replay.Statement.{statement}
+use Rattle.bench_kernels.proofs.bench_replay.Tie as tie
 
 replay-requires : tie.Need-replay-requires
 replay-requires c κs = search needs
