@@ -1,0 +1,51 @@
+-- The flat numbers of a list of stations, read back, are the list: an opened book holds the stations that were lent, in list order. Assumes nothing.
+use Prim.Native.Nat.{ℕ, zero, suc, _+_, _*_, _<_}
+use mathlib.Core.Path.{_≡_, refl, _∙_}
+use mathlib.Core.Bool.{true}
+use mathlib.Core.List.{List, [], _∷_}
+use native.Mathlib.Omega.{arith}
+use lib.ListN.{length, getD}
+use lib.Seq.{getD-append-add}
+use lib.IntN.{pos}
+use Rattle.integers.specs.Tables.{getD-tabulate}
+use Rattle.words.specs.Signed.{indexIn}
+use Rattle.network.specs.Stations.{blank, stationAt, kindAt, kindOf, stationIn, networkOf, opens}
+use Rattle.network.specs.declared.Kind.{Kind}
+use Rattle.network.specs.declared.Kind.the-variants.{Known, Free, Height}
+use Rattle.network.specs.declared.Station.{Station}
+use Rattle.book.specs.Book.{opening}
+use Rattle.stations.specs.Flat.{kindWord, stationWords, flat}
+use Rattle.stations.specs.FlatLaws.{flat-length}
+
+kind-back : (k : Kind) → kindOf (kindWord k) ≡ k
+unfolding kindAt indexIn
+kind-back Known = refl
+kind-back Free = refl
+kind-back Height = refl
+
+-- the numbers of the stations after the first
+after : (x : Station) (xs : List Station) (i j : ℕ) → j ≡ 4 + i → getD (flat (x ∷ xs)) j (pos 0) ≡ getD (flat xs) i (pos 0)
+unfolding flat
+after x xs i j e = rw e (getD-append-add (stationWords x) (flat xs) i (pos 0))
+
+-- station s, counted from 0; blank beyond the last
+pub station-back : (ys : List Station) (s : ℕ) → stationIn (flat ys) s ≡ getD ys s blank
+unfolding stationIn flat kindAt indexIn
+station-back [] s = refl
+station-back (x ∷ xs) zero = rw (kind-back (x .kind))
+station-back (x ∷ xs) (suc s) =
+    rw (after x xs (s * 4) (suc s * 4) (omega arith), after x xs (s * 4 + 1) (suc s * 4 + 1) (omega arith), after x xs (s * 4 + 2) (suc s * 4 + 2) (omega arith), after x xs (s * 4 + 3) (suc s * 4 + 3) (omega arith))
+    (station-back xs s)
+
+-- the book that a lent list opens: as many stations, and those of the list
+pub record Holds (ys : List Station) : Type 0 where
+  pub count : opening (flat ys) .book .network .count ≡ length ys
+  pub stations : (s : ℕ) → s < 32 → stationAt (opening (flat ys) .book .network .stations) s ≡ getD ys s blank
+
+pub holds : (ys : List Station) → opens (flat ys) ≡ true → Holds ys
+unfolding networkOf
+holds ys e =
+    record {
+      count = rw e (omega (arith, flat-length ys));
+      stations = λ s h. rw e (getD-tabulate 32 (stationIn (flat ys)) s blank h ∙ station-back ys s);
+    }
