@@ -1,4 +1,5 @@
-"""Every single-bit flip of one full book, through tests/host/flips.c: 25, or a book by the rules as layout.judge reads them. Prints 'N passed, M failed' last.
+"""Every single-bit flip of one full book, through tests/host/flips.c: 25, or a book by the rules as layout.judge reads them. All flips count as
+one test; the line before the last says how many were tried. Prints 'N passed, M failed' last.
 
     python3 tests/host/flips.py FLIPS FOLDER
 """
@@ -60,8 +61,8 @@ def main():
         if (judge(bytes(damaged)) is not None) != (str(bit) in reads):
             print('bit %d is judged otherwise' % bit)
             failed += 1
-    print('%d flips read as another book' % len(read))
-    print('%d passed, %d failed' % (8 * BYTES - failed, failed))
+    print('%d flips tried, %d of them read as another book' % (8 * BYTES, len(read)))
+    print('0 passed, 1 failed' if failed else '1 passed, 0 failed')
 
 
 main()

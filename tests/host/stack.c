@@ -1,4 +1,5 @@
-/* The stack that a call takes at most: each call runs on a painted stack of its own, and what is no longer painted was used. Prints the largest, in bytes. */
+/* The stack that a call takes at most, on a full book: 32 stations, 48 unknowns, 256 records, a journal of 64. Each call runs on a painted stack of its own, and what is no
+ * longer painted was used. Prints the largest, in bytes; ends in 1 where it is more than the header says, more than the budget of 512 KiB, or where a call is refused. */
 #define _GNU_SOURCE
 #include "dombrelat.h"
 
@@ -9,37 +10,49 @@
 
 #define SIZE (4u << 20)
 #define PAINT 0xA5
+#define BUDGET (512u << 10)
 
 static uint8_t book[DOMBRELAT_BOOK_BYTES];
+static int64_t stations[DOMBRELAT_STATIONS][4], x[DOMBRELAT_UNKNOWNS], m[DOMBRELAT_UNKNOWNS * DOMBRELAT_UNKNOWNS];
+static int64_t sheet[5 + 7 * DOMBRELAT_STATIONS + 7 * DOMBRELAT_PLACES];
 static int which;
+static int64_t answer;
 
-static const int64_t stations[2][4] = {{DOMBRELAT_KNOWN, 0, 0, 100000}, {DOMBRELAT_HEIGHT, 0, 0, 101000}};
+static int64_t baseline(int add, int place, int up) {
+    int from = 1 + place % 32, to = 1 + (place * 7 + 3) % 32;
+    to = to == from ? 1 + from % 32 : to;
+    return (add ? dombrelat_add_baseline : dombrelat_replace_baseline)(book, sizeof book, place, from, to, 10 * (to - from), 10 * (from - to), to - from + up, 100, 3, -2, 120, 1, 90);
+}
 
 static void *run(void *unused) {
-    int64_t x = 50, m = 5368709, sheet[64];
     (void)unused;
     switch (which) {
-    case 0: dombrelat_open((const uint8_t *)stations, sizeof stations, book, sizeof book); break;
-    case 1: dombrelat_add_height(book, sizeof book, 1, 1, 2, 1000, 100); break;
-    case 2: dombrelat_add_height(book, sizeof book, 2, 1, 2, 1100, 100); break;
-    case 3: dombrelat_add_baseline(book, sizeof book, 3, 1, 2, 0, 0, 1000, 100, 0, 0, 100, 0, 100); break;
-    case 4: dombrelat_replace_baseline(book, sizeof book, 3, 1, 2, 0, 0, 1001, 100, 0, 0, 100, 0, 100); break;
-    case 5: dombrelat_strike(book, sizeof book, 3); break;
-    case 6: dombrelat_undo(book, sizeof book); break;
-    case 7: dombrelat_undo(book, sizeof book); break;
-    case 8: dombrelat_check(book, sizeof book, (uint8_t *)&x, 8, (uint8_t *)&m, 8); break;
-    case 9: dombrelat_check_sheet(book, sizeof book, (uint8_t *)&x, 8, (uint8_t *)&m, 8, (uint8_t *)sheet, sizeof sheet); break;
-    case 10: dombrelat_propose(book, sizeof book, (uint8_t *)&x, 8, (uint8_t *)&m, 8); break;
+    case 0: answer = dombrelat_open((const uint8_t *)stations, sizeof stations, book, sizeof book); break;
+    case 1: answer = baseline(1, 256, 1); break;
+    case 2: answer = baseline(0, 3, 2); break;
+    case 3: answer = dombrelat_replace_height(book, sizeof book, 5, 1, 2, 3, 100); break;
+    case 4: answer = dombrelat_strike(book, sizeof book, 9); break;
+    case 5: answer = dombrelat_add_height(book, sizeof book, 9, 3, 4, 1, 100); break;
+    case 6: answer = dombrelat_undo(book, sizeof book); break;
+    case 7: answer = dombrelat_undo(book, sizeof book); break;
+    case 8: answer = dombrelat_propose(book, sizeof book, (uint8_t *)x, sizeof x, (uint8_t *)m, sizeof m); break;
+    case 9: answer = dombrelat_check(book, sizeof book, (uint8_t *)x, sizeof x, (uint8_t *)m, sizeof m); break;
+    case 10: answer = dombrelat_check_sheet(book, sizeof book, (uint8_t *)x, sizeof x, (uint8_t *)m, sizeof m, (uint8_t *)sheet, sizeof sheet); break;
     }
-    (void)x, (void)m, (void)sheet;
     return NULL;
 }
 
 int main(void) {
+    static const char *const calls[11] = {"open", "add_baseline", "replace_baseline", "replace_height", "strike", "add_height", "undo", "undo", "propose", "check", "check_sheet"};
     size_t most = 0;
+    int k;
+    for (k = 0; k < DOMBRELAT_STATIONS; k++) {
+        stations[k][0] = k < 14 ? DOMBRELAT_FREE : k < 20 ? DOMBRELAT_HEIGHT : DOMBRELAT_KNOWN;
+        stations[k][1] = 10 * k, stations[k][2] = -10 * k, stations[k][3] = k;
+    }
     for (which = 0; which < 11; which++) {
         uint8_t *stack;
-        size_t k = 0;
+        size_t used = 0;
         pthread_attr_t attr;
         pthread_t thread;
         if (posix_memalign((void **)&stack, 4096, SIZE)) {
@@ -51,14 +64,24 @@ int main(void) {
         if (pthread_create(&thread, &attr, run, NULL) || pthread_join(thread, NULL)) {
             return 1;
         }
-        while (k < SIZE && stack[k] == PAINT) {
-            k++;
-        }
-        if (SIZE - k > most) {
-            most = SIZE - k;
+        while (used < SIZE && stack[used] == PAINT) {
+            used++;
         }
         free(stack);
+        used = SIZE - used;
+        fprintf(stderr, "%s: %zu bytes\n", calls[which], used);
+        if (answer) {
+            fprintf(stderr, "%s is refused with %lld\n", calls[which], (long long)answer);
+            return 1;
+        }
+        most = used > most ? used : most;
+        /* once it is open, the book is filled but for the last place */
+        for (k = 1; which == 0 && k < DOMBRELAT_PLACES; k++) {
+            if (baseline(1, k, k % 5)) {
+                return 1;
+            }
+        }
     }
     printf("%zu\n", most);
-    return most > DOMBRELAT_STACK_BYTES;
+    return most > DOMBRELAT_STACK_BYTES || most > BUDGET;
 }

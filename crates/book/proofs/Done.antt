@@ -6,22 +6,19 @@ use mathlib.Core.List.{List, []}
 use native.Mathlib.Omega.{arith}
 use lib.IntN.{ℤ}
 use Rattle.words.specs.Bools.{clash}
-use Rattle.words.specs.Signed.{indexIn}
 use Rattle.network.specs.Stations.{networkOf, opens}
 use Rattle.network.specs.OpeningLaws.{opened-fits}
 use Rattle.network.specs.Records.{recordAt}
-use Rattle.network.specs.Rules.{recordNo}
 use Rattle.network.specs.declared.Record.{Record}
 use Rattle.book.specs.declared.Book.{Book}
 use Rattle.book.specs.declared.Edited.{Edited}
 use Rattle.book.specs.declared.Journal.{Journal}
 use Rattle.book.specs.declared.Reversal.{Reversal}
 use Rattle.book.specs.Journal.{pushed, popped, latest}
-use Rattle.book.specs.Calls.{Call, add, replace, strike, first, placeNo, filledNo, emptyNo, undoNo, callNo, unless}
+use Rattle.book.specs.Calls.{Call, undoNo, unless}
 use Rattle.book.specs.Book.{openedBook, opening, withEntry, edited, undone, bookSays, bookAccepts, settled, outcome, sound}
 use Rattle.book.specs.Sound.{Sound, parts-sound}
 use Rattle.book.specs.SoundLaws.{sound-next}
-use Rattle.book.specs.SizeLaws.{add-says, replace-says}
 use Rattle.book.specs.Opened.{sound-opened}
 
 -- ════ opening
@@ -58,19 +55,6 @@ pub edit-done : (b : Book) (c : Call) (n i j : ℕ) (r : Record) (e : Edited) �
 edit-done b c n i j r e o p q a w =
     call-done b c e o
     (w ∙ ap (λ (k : ℕ). settled n b (edited b k r)) q ∙ ap (settled n b) a ∙ ap (λ (m : ℕ). settled m b (bookAccepts b c)) p)
-
--- ════ the numbers
-module _ (b : Book) (o : Sound b) (p p′ : ℤ) (same : p′ ≡ p) (i n : ℕ) (held : Record) (at : i ≡ indexIn p′ 256) (holds : held ≡ recordAt (b .places) i) where
-  module _ (r : Record) (rules : ℕ) (judged : rules ≡ recordNo (b .network) r) where
-    pub add-number : n ≡ first (placeNo p′) (first rules (filledNo held)) → n ≡ bookSays b (add p r)
-    add-number e = cc (add-says b o p r)
-
-    pub replace-number : n ≡ first (placeNo p′) (first rules (emptyNo held)) → n ≡ bookSays b (replace p r)
-    replace-number e = cc (replace-says b o p r)
-
-  pub strike-number : n ≡ first (placeNo p′) (emptyNo held) → n ≡ bookSays b (strike p)
-  unfolding callNo
-  strike-number e = cc
 
 -- ════ undo
 pub undo-refused : (n : ℕ) (b c : Book) → n ≡ 0 → record { refusal = 8; book = b } ≡ settled (undoNo n) b c

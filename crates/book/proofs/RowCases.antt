@@ -1,28 +1,54 @@
 -- A row by the number of its first word, and what the code has shown of its answer. Assumes nothing.
-use Prim.Native.Nat.{ℕ, zero, suc, _≤_}
+use Prim.Native.Nat.{ℕ, zero, suc, _+_, _≤_}
 use mathlib.Core.Path.{_≡_, refl, sym, ap, _∙_, subst}
 use mathlib.Core.Bool.{true}
 use mathlib.Core.List.{List}
+use native.Mathlib.Omega.{arith}
 use lib.IntN.{ℤ, pos, negsuc}
+use lib.ListN.{getD}
+use Rattle.words.specs.Signed.{indexIn}
+use Rattle.network.specs.RecordWords as words
 use Rattle.network.specs.Records.{recordAt}
 use Rattle.network.specs.declared.Record.{Record}
-use Rattle.network.specs.declared.Record.the-variants.{Empty}
+use Rattle.network.specs.declared.Record.the-variants.{Empty, Baseline as baseline, Height as height}
 use Rattle.book.specs.declared.Book.{Book}
 use Rattle.book.specs.declared.Edited.{Edited}
 use Rattle.book.specs.declared.Answered.{Answered}
 use Rattle.book.specs.Calls.{Call, add, replace, strike, undo}
 use Rattle.book.specs.CallLaws.{call-small}
 use Rattle.book.specs.Book.{outcome, sound}
-use Rattle.book.specs.Rows.{Row, names, nameless, rowNext, rowSays, recordOf, rowOf}
+use Rattle.book.specs.Rows.{Row, names, nameless, rowNext, rowSays, recordOf, recordIn, rowOf}
 use Rattle.book.specs.Replay.{Answers}
 
--- ════ kinds that the code has told apart
-pub other-record : (k : ℕ) (w : List ℤ) (at : ℕ) → (k ≡ 0 → ⊥) → (k ≡ 1 → ⊥) → Empty ≡ recordOf k w at
-unfolding recordOf
-other-record zero w at x y = absurd (x refl)
-other-record (suc zero) w at x y = absurd (y refl)
-other-record (suc (suc k)) w at x y = refl
+-- ════ a row's record, whose kind is its third word
+module _ (w : List ℤ) (at : ℕ) where
+  word : (j m : ℕ) → 2 + j ≡ m → getD w (at + 2 + j) (pos 0) ≡ getD w (at + m) (pos 0)
+  word j m e = let h : at + 2 + j ≡ at + m = omega arith in ap (λ (k : ℕ). getD w k (pos 0)) h
 
+  pub row-record : words.recordIn w (at + 2) ≡ recordIn w at
+  unfolding recordOf words.recordOf
+  row-record = go (indexIn (getD w (at + 2) (pos 0)) 2)
+    where
+      go : (k : ℕ) → words.recordOf k w (at + 2) ≡ recordOf k w at
+      go zero =
+          λ i. baseline
+          (record {
+            from = word 1 3 refl i;
+            to = word 2 4 refl i;
+            east = word 3 5 refl i;
+            north = word 4 6 refl i;
+            up = word 5 7 refl i;
+            ee = word 6 8 refl i;
+            en = word 7 9 refl i;
+            eu = word 8 10 refl i;
+            nn = word 9 11 refl i;
+            nu = word 10 12 refl i;
+            uu = word 11 13 refl i;
+          })
+      go (suc zero) = λ i. height (record { from = word 1 3 refl i; to = word 2 4 refl i; up = word 5 7 refl i; weight = word 11 13 refl i })
+      go (suc (suc k)) = refl
+
+-- ════ kinds that the code has told apart
 other-row : (k : ℕ) (p : ℤ) (r : Record) → (k ≡ 0 → ⊥) → (k ≡ 1 → ⊥) → (k ≡ 2 → ⊥) → (k ≡ 3 → ⊥) → nameless ≡ rowOf k p r
 unfolding rowOf
 other-row zero p r w x y z = absurd (w refl)

@@ -16,4 +16,5 @@ pub mod DemandHolds
 pub mod Replay
 pub mod ReplayLaws
 pub mod SizeLaws
+pub mod Numbers
 pub mod Exchanged

@@ -9,8 +9,12 @@ use network::Network;
 use network::Place;
 use network::Record;
 use normals::Normals;
+pub use refusals::add_no;
+pub use refusals::replace_no;
+pub use refusals::strike_no;
 pub use rows::replay;
 pub use soundness::is_sound;
+pub use soundness::parts_fit;
 
 // What an undo restores: a place, counted from 0, and what it held before.
 pub struct Reversal {

@@ -2,82 +2,17 @@
 use super::Answered;
 use super::Book;
 use super::Edited;
-use network::Baseline;
-use network::Level;
-use network::Record;
 ghost use mathlib.Core.Path.{_≡_};
 ghost use mathlib.Core.Bool.{true};
 ghost use Prim.Native.Nat.{_+_, _*_, _≤_, min};
 ghost use lib.IntN.{pos};
 ghost use lib.ListN.{length};
 ghost use Rattle.book.specs.Book.{sound};
-ghost use Rattle.book.specs.Rows.{recordOf, recordIn, rowIn};
+ghost use Rattle.book.specs.Rows.{rowIn};
 ghost use Rattle.book.specs.Replay.{Answers, Ran, Replayed};
 
 // The words in a row.
 const ROW: usize = 14;
-
-fn baseline_in(calls: &[i64], at: usize) -> Record
-    requires { ⌜ at + 14 ≤ length (now calls) ⌝ }
-    ensures { λ r. ⌜ r ≡ recordOf 0 (now (calls .entry)) at ⌝ }
-{
-    let from = calls[at + 3];
-    let to = calls[at + 4];
-    let east = calls[at + 5];
-    let north = calls[at + 6];
-    let up = calls[at + 7];
-    let ee = calls[at + 8];
-    let en = calls[at + 9];
-    let eu = calls[at + 10];
-    let nn = calls[at + 11];
-    let nu = calls[at + 12];
-    let uu = calls[at + 13];
-    Record::Baseline(Baseline {
-        from,
-        to,
-        east,
-        north,
-        up,
-        ee,
-        en,
-        eu,
-        nn,
-        nu,
-        uu,
-    })
-}
-
-fn height_in(calls: &[i64], at: usize) -> Record
-    requires { ⌜ at + 14 ≤ length (now calls) ⌝ }
-    ensures { λ r. ⌜ r ≡ recordOf 1 (now (calls .entry)) at ⌝ }
-{
-    let from = calls[at + 3];
-    let to = calls[at + 4];
-    let up = calls[at + 7];
-    let weight = calls[at + 13];
-    Record::Height(Level {
-        from,
-        to,
-        up,
-        weight,
-    })
-}
-
-fn record_in(calls: &[i64], at: usize) -> Record
-    requires { ⌜ at + 14 ≤ length (now calls) ⌝ }
-    ensures { λ r. ⌜ r ≡ recordIn (now (calls .entry)) at ⌝ }
-{
-    let kind = words::index_in(calls[at + 2], 2);
-    if kind == 0 {
-        let r = baseline_in(calls, at);
-        return r;
-    }
-    if kind == 1 {
-        let r = height_in(calls, at);
-        return r;
-    }
-    Record::Empty
-}
 
 fn answered(e: Edited) -> Answered
     requires { ⌜ e .refusal ≤ 9 ⌝ }
@@ -96,7 +31,7 @@ fn row(book: Book, calls: &[i64], at: usize) -> Answered
     let word = calls[at];
     let place = calls[at + 1];
     let kind = words::index_in(word, 4);
-    let entry = record_in(calls, at);
+    let entry = network::record_in(calls, at + 2);
     if kind == 0 {
         let e = book.add(place, entry);
         let a = answered(e);

@@ -134,28 +134,35 @@ fn can_undo(net: Network, coordinate: &[i64; 96], places: [Place; 256], journal:
     true
 }
 
+// The parts of a book pass what 25 tests. They come apart, so that a caller that has no book yet need not put one together.
+pub fn parts_fit(network: Network, places: [Place; 256], journal: Journal, normals: Normals) -> bool
+    ensures { λ t. ⌜ t ≡ sound (record { network = network; places = places; journal = journal; normals = normals }) ⌝ }
+{
+    if !network::network_fits(network) {
+        return false;
+    }
+    let stations = network.stations;
+    let coordinate = network::coordinates_of(stations);
+    if !records_fit(network, &coordinate, places) {
+        return false;
+    }
+    if !journal_fits(journal) {
+        return false;
+    }
+    if !can_undo(network, &coordinate, places, journal) {
+        return false;
+    }
+    let fresh = Normals::of(network, places);
+    normals.same(fresh)
+}
+
 // A book passes what 25 tests.
 pub fn is_sound(book: Book) -> bool
     ensures { λ t. ⌜ t ≡ sound book ⌝ }
 {
-    let net = book.network;
-    if !network::network_fits(net) {
-        return false;
-    }
-    let stations = net.stations;
-    let coordinate = network::coordinates_of(stations);
+    let network = book.network;
     let places = book.places;
-    if !records_fit(net, &coordinate, places) {
-        return false;
-    }
     let journal = book.journal;
-    if !journal_fits(journal) {
-        return false;
-    }
-    if !can_undo(net, &coordinate, places, journal) {
-        return false;
-    }
-    let kept = book.normals;
-    let fresh = Normals::of(net, places);
-    kept.same(fresh)
+    let normals = book.normals;
+    parts_fit(network, places, journal, normals)
 }

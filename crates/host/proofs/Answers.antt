@@ -14,7 +14,7 @@ use Rattle.acceptance.specs.Judge.{numberOf, unknownOf}
 use Rattle.acceptance.specs.declared.Answer.{Answer}
 use Rattle.acceptance.specs.declared.Answer.the-variants.{Accepted, Refused, Untied}
 use Rattle.book.specs.declared.Book.{Book}
-use Rattle.host.specs.Bytes.{bookOf, bytesFit}
+use Rattle.layout.specs.Bytes.{bookOf, bytesFit}
 use Rattle.host.specs.CheckCalls.{isWhole, answerWord, checkedLent, checkCall, onAccepted, allWords, Judged, judgedLent, sheetFits, sheetCall}
 use Rattle.words.specs.Runs.{putWords}
 use Rattle.sheet.specs.Sheet.{sheetWords, room}

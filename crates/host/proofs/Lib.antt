@@ -1,7 +1,6 @@
 -- Laws that the proofs of several functions cite.
 mod Answers
-mod Behind
+mod Changed
 mod Lent
 mod Offered
 mod Openings
-mod RecordKinds

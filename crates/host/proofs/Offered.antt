@@ -20,7 +20,7 @@ use Rattle.book.specs.Sound.{Sound}
 use Rattle.checks.specs.Checks.{checked}
 use Rattle.checks.specs.CheckLaws.{checked-is, solved, inverse}
 use Rattle.network.specs.Stored.{fits-by}
-use Rattle.host.specs.Bytes.{bookOf, bytesFit}
+use Rattle.layout.specs.Bytes.{bookOf, bytesFit}
 use Rattle.host.specs.Proposal.{Offers, Proposes}
 use Rattle.host.specs.CheckCalls.{allWords, isWhole, checkedLent}
 

@@ -14,7 +14,7 @@ use Rattle.book.specs.Calls.{Call, add, replace, strike, undo, unless}
 use Rattle.book.specs.Book.{opening, outcome}
 use Rattle.host.specs.declared.Request.{Request}
 use Rattle.host.specs.declared.Request.the-variants.{Add, Replace, Strike, Undo}
-use Rattle.host.specs.Bytes.{bookOf, putBook, bytesFit}
+use Rattle.layout.specs.Bytes.{bookOf, putBook, bytesFit}
 
 -- the answer of a call, and the lent book bytes as it leaves them
 pub record Returned : Type 0 where

@@ -12,7 +12,7 @@ use Rattle.acceptance.specs.declared.Answer.the-variants.{Accepted, Refused, Un
 use Rattle.book.specs.declared.Book.{Book}
 use Rattle.sheet.specs.Sheet.{sheetWords, room}
 use Rattle.checks.specs.Checks.{checked}
-use Rattle.host.specs.Bytes.{bookOf, bytesFit}
+use Rattle.layout.specs.Bytes.{bookOf, bytesFit}
 
 -- the words of a lent slice, and whether it holds whole words
 abbrev pub allWords : List ℕ → List ℤ

@@ -16,7 +16,7 @@ use Rattle.book.specs.Calls.{Call}
 use Rattle.book.specs.Rows.{names}
 use Rattle.book.specs.Run.{final, answers}
 use Rattle.book.specs.Demand as ledger
-use Rattle.host.specs.Bytes.{bookOf, bytesFit}
+use Rattle.layout.specs.Bytes.{bookOf, bytesFit}
 use Rattle.host.specs.Calls.{edit, opens}
 
 abbrev pub bytesNext : List ℕ → Call → List ℕ

@@ -25,8 +25,8 @@ use Rattle.book.specs.Opened.{sound-opened}
 use Rattle.book.specs.Rows.{names, rowNext, rowSays}
 use Rattle.book.specs.Run.{final, answers, Alike, run-answers, run-final}
 use Rattle.book.specs.DemandHolds.{demanded}
-use Rattle.host.specs.Bytes.{bookOf, putBook, bytesFit}
-use Rattle.host.specs.CodecLaws.{read-stations, fits-room, fits-sound, writes-reads, writes-fit, writes-beyond}
+use Rattle.layout.specs.Bytes.{bookOf, putBook, bytesFit}
+use Rattle.layout.specs.CodecLaws.{read-stations, fits-room, fits-sound, writes-reads, writes-fit, writes-beyond}
 use Rattle.host.specs.Calls.{Returned, refused, settled, through, opens}
 use Rattle.host.specs.Demand.{bytesNext, bytesSays, bytesAfter, bytesAnswers, Demand, Demand3}
 

@@ -1,10 +1,4 @@
--- The book's layout in words and bytes (Layout, Bytes), what the C calls answer and leave (Calls), demand 3 over bytes (Demand), and their laws.
-pub mod Chunks
-pub mod Layout
-pub mod ReadBack
-pub mod WordSizes
-pub mod Bytes
-pub mod CodecLaws
+-- What the C calls answer and leave (Calls, CheckCalls, Proposal), demand 3 over bytes (Demand), and their laws. The layout of a book's bytes is in crate layout.
 pub mod Calls
 pub mod Demand
 pub mod DemandHolds

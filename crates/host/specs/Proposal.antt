@@ -7,7 +7,7 @@ use mathlib.Core.List.{List}
 use lib.IntN.{ℤ, pos, negsuc}
 use Rattle.acceptance.specs.declared.Answer.the-variants.{Accepted}
 use Rattle.book.specs.declared.Book.{Book}
-use Rattle.host.specs.Bytes.{bookOf, bytesFit}
+use Rattle.layout.specs.Bytes.{bookOf, bytesFit}
 use Rattle.host.specs.CheckCalls.{checkedLent}
 
 -- the answer r, and the lent bytes of x and M, which came as x and m and are left as x′ and m′: 0 and a pair that the check accepts, or −1 and both as they came

@@ -1,5 +1,4 @@
 // The C calls that check a solution against the book in lent bytes.
-use super::bytes;
 use acceptance::Answer;
 use book::Book;
 ghost use mathlib.Core.Path.{_≡_};
@@ -75,15 +74,13 @@ fn check_lent(b: Book, x: &[u8], m: &[u8]) -> Answer
 pub extern "C" fn dombrelat_check(book: &[u8], x: &[u8], m: &[u8]) -> i64
     ensures { λ r. ⌜ r ≡ checkCall (now (book .entry)) (now (x .entry)) (now (m .entry)) ⌝ }
 {
-    if book.len() < bytes::BOOK_BYTES {
+    if book.len() < layout::BOOK_BYTES {
         return 25;
     }
-    let r = bytes::read(book);
-    let fits = r.fits;
-    if !fits {
+    if !layout::fits(book) {
         return 25;
     }
-    let b = r.book;
+    let b = layout::book_in(book);
     let a = check_lent(b, x, m);
     answer_word(a)
 }
@@ -173,15 +170,13 @@ pub extern "C" fn dombrelat_check_sheet(book: &[u8], x: &[u8], m: &[u8], out: &m
     ensures { λ r. ⌜ r ≡ sheetCall (now (book .entry)) (now (x .entry)) (now (m .entry)) (now (out .entry)) .answer ⌝ }
     ensures { λ _. ⌜ now (out .exit) ≡ sheetCall (now (book .entry)) (now (x .entry)) (now (m .entry)) (now (out .entry)) .sheet ⌝ }
 {
-    if book.len() < bytes::BOOK_BYTES {
+    if book.len() < layout::BOOK_BYTES {
         return 25;
     }
-    let r = bytes::read(book);
-    let fits = r.fits;
-    if !fits {
+    if !layout::fits(book) {
         return 25;
     }
-    let b = r.book;
+    let b = layout::book_in(book);
     let a = check_sheet_lent(b, x, m, out);
     answer_word(a)
 }

@@ -1,29 +1,25 @@
-// The C calls that open and edit a book. docs/REFUSALS.md has each number in words.
+// The C calls that edit a book. docs/REFUSALS.md has each number in words.
 use super::Request;
-use super::bytes;
-use book::Book;
-use book::Edited;
+use super::changes;
 use network::Baseline;
 use network::Level;
 use network::Record;
 ghost use mathlib.Core.Path.{_≡_};
 ghost use mathlib.Core.Bool.{true};
-ghost use Prim.Native.Nat.{_≤_, _*_};
-ghost use lib.ListN.{length};
-ghost use Rattle.words.specs.Runs.{wordsAt};
 ghost use Rattle.book.specs.Calls.{Call};
-ghost use Rattle.book.specs.Book.{opening, outcome, sound};
-ghost use Rattle.host.specs.Calls.{baselineOf, heightOf, callOf, edit, opens};
+ghost use Rattle.layout.specs.Bytes.{bytesFit};
+ghost use Rattle.host.specs.Calls.{baselineOf, heightOf, callOf, edit};
 
-fn apply(book: Book, request: Request) -> Edited
-    requires { ⌜ sound book ≡ true ⌝ }
-    ensures { λ e. ⌜ (e ≡ outcome book (callOf request)) × (e .refusal ≤ 9) ⌝ }
+// The request on bytes that hold a book.
+fn apply(book: &mut [u8], request: Request) -> i64
+    requires { ⌜ bytesFit (now book) ≡ true ⌝ }
+    ensures { λ r. ⌜ (r ≡ edit (now (book .entry)) (callOf request) .answer) × (now (book .exit) ≡ edit (now (book .entry)) (callOf request) .bytes) ⌝ }
 {
     match request {
-        Request::Add(place, entry) => book.add(place, entry),
-        Request::Replace(place, entry) => book.replace(place, entry),
-        Request::Strike(place) => book.strike(place),
-        Request::Undo => book.undo(),
+        Request::Add(place, entry) => changes::add(book, place, entry),
+        Request::Replace(place, entry) => changes::replace(book, place, entry),
+        Request::Strike(place) => changes::strike(book, place),
+        Request::Undo => changes::undo(book),
     }
 }
 
@@ -31,17 +27,13 @@ fn apply(book: Book, request: Request) -> Edited
 fn edit_bytes(book: &mut [u8], request: Request) -> i64
     ensures { λ r. ⌜ (r ≡ edit (now (book .entry)) (callOf request) .answer) × (now (book .exit) ≡ edit (now (book .entry)) (callOf request) .bytes) ⌝ }
 {
-    if book.len() < bytes::BOOK_BYTES {
+    if book.len() < layout::BOOK_BYTES {
         return 25;
     }
-    let r = bytes::read(book);
-    let fits = r.fits;
-    if !fits {
+    if !layout::fits(book) {
         return 25;
     }
-    let b = r.book;
-    let e = apply(b, request);
-    bytes::settle(book, e)
+    apply(book, request)
 }
 
 fn baseline_of(
@@ -183,41 +175,4 @@ pub extern "C" fn dombrelat_undo(book: &mut [u8]) -> i64
     ensures { λ _. ⌜ now (book .exit) ≡ edit (now (book .entry)) Call.undo .bytes ⌝ }
 {
     edit_bytes(book, Request::Undo)
-}
-
-// 128 words: those of the longest station list.
-fn station_words() -> [i64; 128]
-    ensures { λ r. ⌜ 128 ≡ length r ⌝ }
-{
-    [0; 128]
-}
-
-// The opening on the words of a list, which are read into w.
-fn open_list(list: &[u8], w: &mut [i64]) -> Edited
-    requires { ⌜ 8 * length (now w) ≤ length (now list) ⌝ }
-    ensures { λ e. ⌜ (e ≡ opening (wordsAt (now (list .entry)) 0 (length (now (w .entry))))) × (e .refusal ≤ 9) ⌝ }
-{
-    words::read_words(list, 0, w);
-    Book::open(w)
-}
-
-// Opens a book on a station list, 32 bytes a station.
-#[no_mangle]
-pub extern "C" fn dombrelat_open(list: &[u8], book: &mut [u8]) -> i64
-    ensures { λ r. ⌜ r ≡ opens (now (list .entry)) (now (book .entry)) .answer ⌝ }
-    ensures { λ _. ⌜ now (book .exit) ≡ opens (now (list .entry)) (now (book .entry)) .bytes ⌝ }
-{
-    if book.len() < bytes::BOOK_BYTES {
-        return 25;
-    }
-    if list.len() % 32 != 0 {
-        return 1;
-    }
-    if list.len() > 1024 {
-        return 1;
-    }
-    let n = list.len() / 8;
-    let mut w = station_words();
-    let e = open_list(list, &mut w[0..n]);
-    bytes::settle(book, e)
 }

@@ -1,5 +1,4 @@
 // The C call for a proposal.
-use super::bytes;
 use super::checking;
 use book::Book;
 use engine::Proposal;
@@ -61,14 +60,12 @@ fn propose_lent(b: Book, x: &mut [u8], m: &mut [u8]) -> i64
 pub extern "C" fn dombrelat_propose(book: &[u8], x: &mut [u8], m: &mut [u8]) -> i64
     ensures { λ r. ⌜ Proposes (now (book .entry)) r (now (x .entry)) (now (m .entry)) (now (x .exit)) (now (m .exit)) ⌝ }
 {
-    if book.len() < bytes::BOOK_BYTES {
+    if book.len() < layout::BOOK_BYTES {
         return 25;
     }
-    let r = bytes::read(book);
-    let fits = r.fits;
-    if !fits {
+    if !layout::fits(book) {
         return 25;
     }
-    let b = r.book;
+    let b = layout::book_in(book);
     propose_lent(b, x, m)
 }

@@ -8,6 +8,7 @@ pub mod ComponentLaws
 pub mod OpeningLaws
 pub mod Records
 pub mod RecordLaws
+pub mod RecordWords
 pub mod Rules
 pub mod Ranges
 pub mod Positive

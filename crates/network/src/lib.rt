@@ -1,6 +1,7 @@
 // Stations, records and their rules: document 01's "Units and stations" and "Records".
 
 mod opening;
+mod record_words;
 mod records;
 mod rules;
 mod stations;
@@ -11,6 +12,7 @@ pub use opening::network_fits;
 pub use opening::network_of;
 pub use opening::open_no;
 pub use opening::opens;
+pub use record_words::record_in;
 pub use records::from_of;
 pub use records::joins_of;
 pub use records::misclosures_of;

@@ -1,13 +1,17 @@
 -- One step of the loops over N and u, in machine integers: every value is stored in 64 bits and read again. Assumes nothing.
-use Prim.Native.Nat.{ℕ, _+_, _*_, _%_, _<_, _≤_, _^_}
-use mathlib.Core.Path.{_≡_}
+use Prim.Native.Nat.{ℕ, _+_, _*_, _%_, _<_, _≤_, _^_, zero-le}
+use mathlib.Core.Path.{_≡_, ap, _∙_}
 use mathlib.Core.List.{List, [], _∷_}
 use lib.ListN.{getD}
 use lib.IntN.{ℤ, pos, natAbs, _+ℤ_, _-ℤ_, _*ℤ_}
-use Rattle.integers.specs.Code.{ringm, code-shapes}
+use mir.Syntax.{w64}
+use mir.Val.{SFits}
+use Rattle.integers.specs.Code.{ringm, code-shapes, fit, code-bounds}
+use Rattle.integers.specs.Solvers.{ring, shapes}
+use Rattle.integers.specs.Sums.{sum-ext, sum-0, δ}
 use Rattle.network.specs.Stored.{stored}
 use Rattle.normals.specs.declared.Equation.{Equation}
-use Rattle.normals.specs.Equations.{atOf, coefOf, weightOf, pairN}
+use Rattle.normals.specs.Equations.{Fit, endsOf, atOf, coefOf, weightOf, pairN, rowN}
 
 -- a turn of the loop over the ends f that adds end e's pairs to N
 pub record Turn (q : Equation) (e f : ℕ) (s : ℤ) (n : List ℤ) : Type 0 where
@@ -31,6 +35,25 @@ pub entry-step : (q : Equation) (e f : ℕ) (s : ℤ) (n : List ℤ) → Turn q 
 entry-step q e f s n t =
     entry-by (getD n (atOf q e * 48 + atOf q f) (pos 0)) s (coefOf q e) (weightOf q (e % 3) (f % 3)) (coefOf q f)
     (t .entry) (t .sign) (t .coef) (t .weight) (t .other)
+
+pub entry-fits : (q : Equation) (e f : ℕ) (s : ℤ) (n : List ℤ) → Turn q e f s n
+    → SFits w64
+    (stored (getD n (atOf q e * 48 + atOf q f) (pos 0))
+    +ℤ stored (stored (stored (stored s *ℤ stored (coefOf q e)) *ℤ stored (weightOf q (e % 3) (f % 3))) *ℤ stored (coefOf q f)))
+entry-fits q e f s n t = fit (search code-bounds depth 12) tt
+
+-- the ends and weights of an equation in range are in range
+pub fit-ends : (q : Equation) → Fit q → Fit (endsOf (q .at) (q .coef) (q .weight))
+fit-ends q f = record { ends = f .ends; units = f .units; weights = f .weights; misclosures = λ a. zero-le }
+
+-- an end that is held adds nothing
+pub row-held : (q : Equation) (e : ℕ) → coefOf q e ≡ pos 0 → (k : ℕ) → rowN q e k ≡ pos 0
+unfolding rowN
+row-held q e h k =
+    sum-ext 6
+    (λ f l. ap (λ (c : ℤ). c *ℤ weightOf q (e % 3) (f % 3) *ℤ coefOf q f *ℤ δ (atOf q e * 48 + atOf q f) k) h
+    ∙ ring (weightOf q (e % 3) (f % 3) ∷ coefOf q f ∷ δ (atOf q e * 48 + atOf q f) k ∷ []) (search shapes) tt)
+    ∙ sum-0 6
 
 -- a row of P times the misclosures
 pub record Row (a b c x y z : ℤ) : Type 0 where

@@ -39,6 +39,10 @@ rowN q e k = sum 6 (λ f. pairN q e f *ℤ δ (atOf q e * 48 + atOf q f) k)
 unfoldable pub blockN : Equation → ℕ → ℤ
 blockN q k = sum 6 (λ e. rowN q e k)
 
+-- an equation's ends and weights, beside no misclosure: what its part of N is made of
+abbrev pub endsOf : List ℕ → List ℤ → List ℤ → Equation
+endsOf at coef weight = record { at = at; coef = coef; weight = weight; misclosure = [] }
+
 -- row a of P times the misclosures
 unfoldable pub weighted : Equation → ℕ → ℤ
 weighted q a = sum 3 (λ b. weightOf q a b *ℤ misclosureOf q b)

@@ -5,21 +5,32 @@ ghost use mathlib.Core.Path.{_≡_};
 ghost use Prim.Native.Nat.{_<_, _≤_, _^_};
 ghost use lib.IntN.{natAbs};
 ghost use Rattle.integers.specs.Tables.{plus, Within};
-ghost use Rattle.normals.specs.Equations.{Fit, rowN, blockN, weighted, blockU};
+ghost use Rattle.normals.specs.Equations.{Fit, endsOf, rowN, blockN, weighted, blockU};
 
-// To N, the part of end e with each of the six.
-fn add_row(n: &mut [i64; Normals::ENTRIES], equation: Equation, e: usize, sign: i64)
-    requires { ⌜ (e < 6) × (natAbs sign ≤ 1) × Fit equation × Within 2304 (2 ^ 41) (now n) ⌝ }
-    ensures { λ r. ⌜ now (n .exit) ≡ plus 2304 (now (n .entry)) sign (rowN equation e) ⌝ }
+// To N, the part of end e with each of the six: nothing where e is held. Unknowns, coefficients and weights are lent, so that no turn copies an equation.
+fn add_row(
+    n: &mut [i64; Normals::ENTRIES],
+    at: &[usize; 6],
+    coef: &[i64; 6],
+    weight: &[i64; 9],
+    e: usize,
+    sign: i64,
+)
+    requires { ⌜ (e < 6) × (natAbs sign ≤ 1) × Fit (endsOf (now at) (now coef) (now weight)) × Within 2304 (2 ^ 41) (now n) ⌝ }
+    ensures { λ r. ⌜ now (n .exit) ≡ plus 2304 (now (n .entry)) sign (rowN (endsOf (now (at .entry)) (now (coef .entry)) (now (weight .entry))) e) ⌝ }
 {
-    let i = equation.at[e] * Normals::ROW;
-    let c = sign * equation.coef[e];
+    let own = coef[e];
+    if words::same(own, 0) {
+        return;
+    }
+    let i = at[e] * Normals::ROW;
+    let c = sign * own;
     let a = e % 3 * 3;
     let mut f = 0;
     while f < 6 {
-        let k = i + equation.at[f];
-        let w = c * equation.weight[a + f % 3];
-        let v = w * equation.coef[f];
+        let k = i + at[f];
+        let w = c * weight[a + f % 3];
+        let v = w * coef[f];
         let x = n[k];
         n[k] = x + v;
         f = f + 1;
@@ -30,9 +41,12 @@ fn add_matrix(n: &mut [i64; Normals::ENTRIES], equation: Equation, sign: i64)
     requires { ⌜ (natAbs sign ≤ 1) × Fit equation × Within 2304 (2 ^ 40) (now n) ⌝ }
     ensures { λ r. ⌜ now (n .exit) ≡ plus 2304 (now (n .entry)) sign (blockN equation) ⌝ }
 {
+    let at = equation.at;
+    let coef = equation.coef;
+    let weight = equation.weight;
     let mut e = 0;
     while e < 6 {
-        add_row(n, equation, e, sign);
+        add_row(n, &at, &coef, &weight, e, sign);
         e = e + 1;
     }
 }

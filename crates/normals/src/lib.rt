@@ -14,6 +14,8 @@ mod compare;
 mod equations;
 mod records;
 
+pub use compare::same_entries;
+
 // The observation equations of one record, which know no station. Its six ends are E, N, U at from, then E, N, U at to: end e has the
 // unknown at[e] with the coefficient coef[e], which is 0 where the component is held. Weights by rows.
 pub struct Equation {
@@ -88,11 +90,8 @@ impl Normals {
     pub fn same(self, other: Normals) -> bool
         ensures { λ r. ⌜ r ≡ sameNormals self other ⌝ }
     {
-        let a = self.matrix;
-        let b = other.matrix;
-        let v = self.right;
-        let w = other.right;
-        compare::same_entries(&a, &b) & compare::same_entries(&v, &w)
+        compare::same_entries(&self.matrix, &other.matrix)
+            & compare::same_entries(&self.right, &other.right)
     }
 }
 

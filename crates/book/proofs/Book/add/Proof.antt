@@ -12,7 +12,8 @@ use Rattle.book.specs.Book.{bookAccepts, bookSays}
 use Rattle.book.specs.Calls.{add, placeOf}
 use Rattle.book.specs.Sound.{Sound, sound-parts}
 use Rattle.book.specs.SoundLaws.{Enters, enters-add}
-use Rattle.book.proofs.Done.{edit-done, add-number}
+use Rattle.book.specs.Numbers.{add-number}
+use Rattle.book.proofs.Done.{edit-done}
 use Rattle.book.proofs.Book.add.Statement.{statement}
 use Rattle.book.proofs.Book.add.Tie as tie
 

@@ -12,7 +12,8 @@ use Rattle.book.specs.Book.{bookAccepts, bookSays}
 use Rattle.book.specs.Calls.{replace, placeOf}
 use Rattle.book.specs.Sound.{Sound, sound-parts}
 use Rattle.book.specs.SoundLaws.{Enters, enters-replace}
-use Rattle.book.proofs.Done.{edit-done, replace-number}
+use Rattle.book.specs.Numbers.{replace-number}
+use Rattle.book.proofs.Done.{edit-done}
 use Rattle.book.proofs.Book.replace.Statement.{statement}
 use Rattle.book.proofs.Book.replace.Tie as tie
 

@@ -12,7 +12,8 @@ use Rattle.book.specs.Book.{bookAccepts, bookSays}
 use Rattle.book.specs.Calls.{strike, placeOf}
 use Rattle.book.specs.Sound.{Sound, sound-parts}
 use Rattle.book.specs.SoundLaws.{Enters, enters-strike}
-use Rattle.book.proofs.Done.{edit-done, strike-number}
+use Rattle.book.specs.Numbers.{strike-number}
+use Rattle.book.proofs.Done.{edit-done}
 use Rattle.book.proofs.Book.strike.Statement.{statement}
 use Rattle.book.proofs.Book.strike.Tie as tie
 

@@ -3,29 +3,27 @@ use borrow.Author.Tests.{not-true, not-false}
 use mir.Syntax.{w64}
 use mir.Facts.{toZ-ofZ}
 use Rattle.book.specs.Book.{sound}
-use Rattle.host.specs.CodecLaws.{fits-tested}
+use Rattle.layout.specs.CodecLaws.{fits-tested}
 use Rattle.host.proofs.Lent.{short-unfit}
 use Rattle.host.proofs.Answers.{sheet-unfit, sheet-fit}
 use borrow.Author.Needs.{needs, sfits-of}
 use Rattle.host.proofs.checking.dombrelat_check_sheet.Statement.{statement}
 use Rattle.host.proofs.checking.dombrelat_check_sheet.Tie as tie
-use Rattle.host.proofs.checking.dombrelat_check_sheet.Reads as reads
-use Rattle.host.proofs.checking.dombrelat_check_sheet.Lts as lts
-use Rattle.host.proofs.bytes.read.Reads as read-reads
-use Rattle.host.proofs.checking.answer_word.Reads as answer-word-reads
-use Rattle.host.proofs.checking.check_sheet_lent.Reads as check-sheet-lent-reads
 
 returns : tie.Need-returns
 returns c = sheet-unfit _ _ _ _ (short-unfit _ (c .if1 .taken))
 
-read-requires : tie.Need-read-requires
-read-requires c κs = search needs
+fits-requires : tie.Need-fits-requires
+fits-requires c κs = search needs
 
 returns-2 : tie.Need-returns-2
-returns-2 c = sheet-unfit _ _ _ _ (sym (c .before .read .ensures .0) ∙ not-true _ (c .if2 .taken))
+returns-2 c = sheet-unfit _ _ _ _ (sym (c .before .fits2 .ensures) ∙ not-true _ (c .if2 .taken))
+
+book-in-requires : tie.Need-book-in-requires
+book-in-requires c κs = search needs
 
 check-sheet-lent-requires : tie.Need-check-sheet-lent-requires
-check-sheet-lent-requires c κs = ap sound (c .before .before .before .read .ensures .1) ∙ fits-tested _ (sym (c .before .before .before .read .ensures .0) ∙ not-false _ (c .before .before .if2 .left))
+check-sheet-lent-requires c κs = ap sound (c .before .book-in .ensures) ∙ fits-tested _ (sym (c .before .before .before .fits2 .ensures) ∙ not-false _ (c .before .before .if2 .left))
 
 answer-word-requires : tie.Need-answer-word-requires
 answer-word-requires c κs = search needs
@@ -36,7 +34,7 @@ same-length c = search needs
 returns-3 : tie.Need-returns-3
 returns-3 c =
     let p = c .before .before .before .check-sheet-lent in
-    let e = sheet-fit _ _ _ _ _ _ _ (sym (c .before .before .before .before .before .before .before .read .ensures .0) ∙ not-false _ (c .before .before .before .before .before .before .if2 .left)) (c .before .before .before .before .before .before .before .read .ensures .1) (p .ensures .0 .0) (p .ensures .1) in
+    let e = sheet-fit _ _ _ _ _ _ _ (sym (c .before .before .before .before .before .before .before .fits2 .ensures) ∙ not-false _ (c .before .before .before .before .before .before .if2 .left)) (c .before .before .before .before .before .book-in .ensures) (p .ensures .0 .0) (p .ensures .1) in
     (toZ-ofZ {w = w64} {z = c .answer-word .result} (sfits-of (c .answer-word .ok)) ∙ c .answer-word .ensures ∙ e .0, e .1)
 
 pub dombrelat-check-sheet-spec : {M : Type 1} → statement M
@@ -44,8 +42,9 @@ dombrelat-check-sheet-spec =
     tie.close
     (tie.spec
     returns
-    read-requires
+    fits-requires
     returns-2
+    book-in-requires
     check-sheet-lent-requires
     answer-word-requires
     same-length

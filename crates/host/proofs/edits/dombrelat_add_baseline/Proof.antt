@@ -9,10 +9,6 @@ use Rattle.host.proofs.Lent.{answers-as}
 use borrow.Author.Needs.{needs, sfits-of}
 use Rattle.host.proofs.edits.dombrelat_add_baseline.Statement.{statement}
 use Rattle.host.proofs.edits.dombrelat_add_baseline.Tie as tie
-use Rattle.host.proofs.edits.dombrelat_add_baseline.Reads as reads
-use Rattle.host.proofs.edits.dombrelat_add_baseline.Lts as lts
-use Rattle.host.proofs.edits.baseline_of.Reads as baseline-of-reads
-use Rattle.host.proofs.edits.edit_bytes.Reads as edit-bytes-reads
 
 baseline-of-requires : tie.Need-baseline-of-requires
 baseline-of-requires c κs = search needs

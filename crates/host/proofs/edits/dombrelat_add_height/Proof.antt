@@ -9,10 +9,6 @@ use Rattle.host.proofs.Lent.{answers-as}
 use borrow.Author.Needs.{needs, sfits-of}
 use Rattle.host.proofs.edits.dombrelat_add_height.Statement.{statement}
 use Rattle.host.proofs.edits.dombrelat_add_height.Tie as tie
-use Rattle.host.proofs.edits.dombrelat_add_height.Reads as reads
-use Rattle.host.proofs.edits.dombrelat_add_height.Lts as lts
-use Rattle.host.proofs.edits.edit_bytes.Reads as edit-bytes-reads
-use Rattle.host.proofs.edits.height_of.Reads as height-of-reads
 
 height-of-requires : tie.Need-height-of-requires
 height-of-requires c κs = search needs

@@ -9,9 +9,6 @@ use Rattle.host.proofs.Lent.{answers-as}
 use borrow.Author.Needs.{needs, sfits-of}
 use Rattle.host.proofs.edits.dombrelat_undo.Statement.{statement}
 use Rattle.host.proofs.edits.dombrelat_undo.Tie as tie
-use Rattle.host.proofs.edits.dombrelat_undo.Reads as reads
-use Rattle.host.proofs.edits.dombrelat_undo.Lts as lts
-use Rattle.host.proofs.edits.edit_bytes.Reads as edit-bytes-reads
 
 edit-bytes-requires : tie.Need-edit-bytes-requires
 edit-bytes-requires c κs = search needs

@@ -1,0 +1,70 @@
+-- A whole book: judged from its parts, written part by part, and changed in place. Assumes nothing.
+use Prim.Native.Nat.{ℕ, _+_, _*_, _<_, _≤_}
+use mathlib.Core.Path.{_≡_, sym, ap, _∙_}
+use mathlib.Core.Bool.{Bool, true, false, _&&_}
+use mathlib.Core.List.{List, _++_}
+use native.Mathlib.Omega.{arith}
+use borrow.Author.Tests.{le-leb}
+use lib.Dec.{leb}
+use lib.ListN.{length}
+use lib.IntN.{ℤ}
+use Rattle.words.specs.Bools.{and-no-left, and-no-right}
+use Rattle.words.specs.Runs.{putWords}
+use Rattle.network.specs.Records.{recordAt}
+use Rattle.network.specs.Rules.{recordFits}
+use Rattle.network.specs.declared.Network.{Network}
+use Rattle.network.specs.declared.Record.{Record}
+use Rattle.normals.specs.declared.Normals.{Normals}
+use Rattle.normals.specs.Exchange.{Exchangeable, exchangedN, exchangedU}
+use Rattle.book.specs.declared.Book.{Book}
+use Rattle.book.specs.Book.{withRecord, sound}
+use Rattle.book.specs.Sound.{Sized, Sound}
+use Rattle.book.specs.Exchanged.{may-exchange, exchanged-is}
+use Rattle.layout.specs.Layout.{headWords, stationsPart, placesPart, countsPart, entriesPart, bookWords}
+use Rattle.layout.specs.BookWords.{tail, length-stations, length-places, length-entries}
+use Rattle.layout.specs.Bytes.{bookOf, putBook, laidOut, bytesFit}
+use Rattle.layout.specs.RunPatches.{run-append}
+
+-- ════ judged
+pub judged-odd : (s : List ℕ) → laidOut s ≡ false → false ≡ bytesFit s
+unfolding bytesFit
+judged-odd s e = sym (and-no-left (leb 56224 (length s) && laidOut s) (sound (bookOf s)) (and-no-right (leb 56224 (length s)) (laidOut s) e))
+
+pub judged : (s : List ℕ) (t : Bool) → 56224 ≤ length s → laidOut s ≡ true → t ≡ sound (bookOf s) → t ≡ bytesFit s
+unfolding bytesFit
+judged s t h e q = q ∙ sym (rw (le-leb 56224 (length s) h, e))
+
+-- ════ written
+next : (t u : List ℕ) (at n : ℕ) (a c : List ℤ) → at + 8 * length a ≡ n → u ≡ putWords t at a → putWords t at (a ++ c) ≡ putWords u n c
+next t u at n a c e p = run-append t at a c ∙ ap (λ (k : ℕ). putWords (putWords t at a) k c) e ∙ ap (λ (x : List ℕ). putWords x n c) (sym p)
+
+pub joined : (b : Book) (z : Sized b) (s s₁ s₂ s₃ s₄ s₅ s₆ : List ℕ) → s₁ ≡ putWords s 0 (headWords b) → s₂ ≡ putWords s₁ 16 (stationsPart b) → s₃ ≡ putWords s₂ 1040 (placesPart b)
+    → s₄ ≡ putWords s₃ 29712 (countsPart b) → s₅ ≡ putWords s₄ 29728 (entriesPart b) → s₆ ≡ putWords (putWords s₅ 37408 (b .normals .matrix)) 55840 (b .normals .right) → s₆ ≡ putBook s b
+unfolding bookWords
+joined b z s s₁ s₂ s₃ s₄ s₅ s₆ p₁ p₂ p₃ p₄ p₅ p₆ =
+    let m = b .normals .matrix in
+    let u = b .normals .right in
+    p₆
+    ∙ ap (λ (k : ℕ). putWords (putWords s₅ 37408 m) k u) (let l = z .matrix in let e : 55840 ≡ 37408 + 8 * length m = omega arith in e)
+    ∙ sym (next s s₁ 0 16 (headWords b) (stationsPart b ++ (placesPart b ++ tail b z)) (let e : 0 + 8 * 2 ≡ 16 = omega arith in e) p₁
+    ∙ next s₁ s₂ 16 1040 (stationsPart b) (placesPart b ++ tail b z) (let l = length-stations b z in omega arith) p₂
+    ∙ next s₂ s₃ 1040 29712 (placesPart b) (tail b z) (let l = length-places b z in omega arith) p₃
+    ∙ next s₃ s₄ 29712 29728 (countsPart b) (entriesPart b ++ (m ++ u)) (let e : 29712 + 8 * 2 ≡ 29728 = omega arith in e) p₄
+    ∙ next s₄ s₅ 29728 37408 (entriesPart b) (m ++ u) (let l = length-entries b z in omega arith) p₅
+    ∙ run-append s₅ 37408 m u)
+
+-- ════ N and u of the parts that were read, with one record exchanged
+module _ (b : Book) (o : Sound b) (i : ℕ) (r : Record) (inside : i < 256) (net : Network) (old : Record) (n u : List ℤ) (p : net ≡ b .network) (q : old ≡ recordAt (b .places) i)
+    (e : n ≡ b .normals .matrix) (f : u ≡ b .normals .right) where
+  pub may-change : recordFits (b .network) r ≡ true → Exchangeable net old r n u
+  may-change h = rw (p, q, e, f) (may-exchange b o i r inside h)
+
+  changed : _≡_ {A = Normals} (record { matrix = exchangedN (net .stations) old r n; right = exchangedU (net .stations) old r u }) (withRecord b i r)
+  changed =
+      (λ k. record { matrix = exchangedN (p k .stations) (q k) r (e k); right = exchangedU (p k .stations) (q k) r (f k) }) ∙ exchanged-is b o i r inside
+
+  pub matrix-changed : exchangedN (net .stations) old r n ≡ withRecord b i r .matrix
+  matrix-changed = ap (λ (x : Normals). x .matrix) changed
+
+  pub right-changed : exchangedU (net .stations) old r u ≡ withRecord b i r .right
+  right-changed = ap (λ (x : Normals). x .right) changed

@@ -1,0 +1,15 @@
+-- `next_in` reads a counter of the journal. Assumes nothing.
+use Rattle.layout.specs.Layout.{bookIn}
+use borrow.Author.Needs.{needs}
+use Rattle.layout.proofs.reading.next_in.Statement.{statement}
+use Rattle.layout.proofs.reading.next_in.Tie as tie
+
+count-in-requires : tie.Need-count-in-requires
+count-in-requires c κs = search needs
+
+returns : tie.Need-returns
+unfolding bookIn
+returns c = c .count-in .ensures
+
+pub next-in-spec : {M : Type 1} → statement M
+next-in-spec = tie.close (tie.spec count-in-requires returns)

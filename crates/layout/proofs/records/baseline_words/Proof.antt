@@ -1,0 +1,18 @@
+use Rattle.layout.specs.Layout.{recordWords}
+use mathlib.Core.Path.{_≡_, refl, sym, ap, _∙_}
+use mathlib.Core.List.{[], _∷_}
+use lib.IntN.{pos}
+use mir.Syntax.{w64}
+use mir.Facts.{toZ-ofZ}
+use borrow.Author.Needs.{needs}
+use Rattle.layout.proofs.records.baseline_words.Statement.{statement}
+use Rattle.layout.proofs.records.baseline_words.Tie as tie
+use Rattle.layout.proofs.records.baseline_words.Reads as reads
+use Rattle.layout.proofs.records.baseline_words.Lts as lts
+
+returns : tie.Need-returns
+unfolding recordWords
+returns c = let b = c .before .args .b in λ i. pos 1 ∷ toZ-ofZ {w = w64} {z = b .from} (search needs) i ∷ toZ-ofZ {w = w64} {z = b .to} (search needs) i ∷ toZ-ofZ {w = w64} {z = b .east} (search needs) i ∷ toZ-ofZ {w = w64} {z = b .north} (search needs) i ∷ toZ-ofZ {w = w64} {z = b .up} (search needs) i ∷ toZ-ofZ {w = w64} {z = b .ee} (search needs) i ∷ toZ-ofZ {w = w64} {z = b .en} (search needs) i ∷ toZ-ofZ {w = w64} {z = b .eu} (search needs) i ∷ toZ-ofZ {w = w64} {z = b .nn} (search needs) i ∷ toZ-ofZ {w = w64} {z = b .nu} (search needs) i ∷ toZ-ofZ {w = w64} {z = b .uu} (search needs) i ∷ pos 0 ∷ pos 0 ∷ []
+
+pub baseline-words-spec : {M : Type 1} → statement M
+baseline-words-spec = tie.close (tie.spec returns)

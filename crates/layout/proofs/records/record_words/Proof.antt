@@ -1,0 +1,47 @@
+use mathlib.Core.Path.{sym, ap}
+use Rattle.layout.specs.Layout.{recordWords}
+use borrow.Author.Needs.{needs}
+use Rattle.layout.proofs.records.record_words.Statement.{statement}
+use Rattle.layout.proofs.records.record_words.Tie as tie
+use Rattle.layout.proofs.records.record_words.Reads as reads
+use Rattle.layout.proofs.records.record_words.Lts as lts
+use Rattle.layout.proofs.records.baseline_words.Reads as baseline-words-reads
+use Rattle.layout.proofs.records.height_words.Reads as height-words-reads
+
+enum-told : tie.Need-enum-told
+enum-told c = search needs
+
+enum-known-r : tie.Need-enum-known-r
+enum-known-r c = search needs
+
+baseline-words-requires : tie.Need-baseline-words-requires
+baseline-words-requires c κs = search needs
+
+enum-known-r-2 : tie.Need-enum-known-r-2
+enum-known-r-2 c = search needs
+
+height-words-requires : tie.Need-height-words-requires
+height-words-requires c κs = search needs
+
+returns : tie.Need-returns
+unfolding recordWords
+returns c = ap recordWords (sym (c .enum-told .given .1))
+
+returns-2 : tie.Need-returns-2
+returns-2 c = cc
+
+returns-3 : tie.Need-returns-3
+returns-3 c = cc
+
+pub record-words-spec : {M : Type 1} → statement M
+record-words-spec =
+    tie.close
+    (tie.spec
+    enum-told
+    enum-known-r
+    baseline-words-requires
+    enum-known-r-2
+    height-words-requires
+    returns
+    returns-2
+    returns-3)

@@ -1,0 +1,167 @@
+-- One part of a book written in place, in bytes that hold the book: what comes of it is the book with that part changed. Assumes nothing.
+use Prim.Native.Nat.{ℕ, zero, suc, _+_, _-_, _*_, _<_, _≤_}
+use mathlib.Core.Path.{_≡_, refl, sym, ap, ap₂, _∙_}
+use mathlib.Core.List.{List, [], _∷_, _++_, append-assoc, append-nil}
+use native.Mathlib.Decide.{ℕ-discrete}
+use native.Mathlib.Omega.{arith}
+use lib.ListN.{length, getD, set, length-set, length-append}
+use lib.Seq.{getD-set-same, getD-set-other}
+use lib.IntN.{ℤ, pos}
+use Rattle.words.specs.Signed.{signed}
+use Rattle.words.specs.Runs.{putWords}
+use Rattle.network.specs.Records.{vacant, recordAt}
+use Rattle.network.specs.declared.Place.{Place}
+use Rattle.network.specs.declared.Record.{Record}
+use Rattle.normals.specs.declared.Normals.{Normals}
+use Rattle.book.specs.declared.Reversal.{Reversal}
+use Rattle.book.specs.declared.Journal.{Journal}
+use Rattle.book.specs.declared.Book.{Book}
+use Rattle.book.specs.Journal.{free}
+use Rattle.book.specs.Sound.{Sized}
+use Rattle.layout.specs.Chunks.{chunks, chunks-more, length-chunks}
+use Rattle.layout.specs.Layout.{stationPart, recordWords, reversalWords, countsPart, entriesPart, placesPart, bookWords}
+use Rattle.layout.specs.BookWords.{length-record, length-reversal, tail, toStations, toPlaces, toCounts, toEntries, length-toStations, length-toPlaces, length-toCounts, length-toEntries, length-toMatrix, at-places, at-counts, at-entries, at-matrix, at-right, length-book}
+use Rattle.layout.specs.Bytes.{putBook}
+use Rattle.layout.specs.RunPatches.{patch}
+
+-- ════ one of n equal parts
+chunks-ext : (n : ℕ) (f g : ℕ → List ℤ) → ((k : ℕ) → k < n → f k ≡ g k) → chunks n f ≡ chunks n g
+unfolding chunks
+chunks-ext zero f g h = refl
+chunks-ext (suc n) f g h = ap₂ _++_ (chunks-ext n f g (λ k l. h k (omega arith))) (h n (omega arith))
+
+-- f 0 .. f (i − 1), f i, and what is left
+chunks-cut : (f : ℕ → List ℤ) (i n : ℕ) → chunks (i + suc n) f ≡ chunks i f ++ (f i ++ chunks n (λ k. f (i + suc k)))
+unfolding chunks
+chunks-cut f i zero =
+    ap (λ (m : ℕ). chunks m f) (let e : i + suc zero ≡ suc i = omega arith in e) ∙ ap (λ (x : List ℤ). chunks i f ++ x) (sym (append-nil (f i)))
+chunks-cut f i (suc n) =
+    ap (λ (m : ℕ). chunks m f) (let e : i + suc (suc n) ≡ suc (i + suc n) = omega arith in e)
+    ∙ ap (λ (x : List ℤ). x ++ f (i + suc n)) (chunks-cut f i n)
+    ∙ append-assoc (chunks i f) (f i ++ chunks n (λ k. f (i + suc k))) (f (i + suc n))
+    ∙ ap (λ (x : List ℤ). chunks i f ++ x) (append-assoc (f i) (chunks n (λ k. f (i + suc k))) (f (i + suc n)))
+
+module _ (s : List ℕ) (a c : List ℤ) (m n i at : ℕ) (f g : ℕ → List ℤ) (even-f : (k : ℕ) → length (f k) ≡ m) (even-g : (k : ℕ) → length (g k) ≡ m)
+    (same : (k : ℕ) → (k ≡ i → ⊥) → f k ≡ g k) (inside : i < n) (is : length a ≡ at) (room : 8 * (at + n * m + length c) ≤ length s) where
+  left : ℕ
+  left = n - suc i
+
+  -- the run, of either
+  cut : (h : ℕ → List ℤ) → a ++ (chunks n h ++ c) ≡ (a ++ chunks i h) ++ (h i ++ (chunks left (λ k. h (i + suc k)) ++ c))
+  unfolding left
+  cut h =
+      let e : n ≡ i + suc (n - suc i) = omega arith in
+      ap (λ (x : List ℤ). a ++ (x ++ c)) (ap (λ (k : ℕ). chunks k h) e ∙ chunks-cut h i (n - suc i))
+      ∙ ap (λ (x : List ℤ). a ++ x) (append-assoc (chunks i h) (h i ++ chunks (n - suc i) (λ k. h (i + suc k))) c ∙ ap (λ (x : List ℤ). chunks i h ++ x) (append-assoc (h i) (chunks (n - suc i) (λ k. h (i + suc k))) c))
+      ∙ sym (append-assoc a (chunks i h) _)
+
+  first : chunks i f ≡ chunks i g
+  first = chunks-ext i f g (λ k l. same k (λ e. omega arith))
+
+  rest : chunks left (λ k. f (i + suc k)) ≡ chunks left (λ k. g (i + suc k))
+  rest = chunks-ext left (λ k. f (i + suc k)) (λ k. g (i + suc k)) (λ k l. same (i + suc k) (λ e. omega arith))
+
+  pub chunk-patch : putWords (putWords s 0 (a ++ (chunks n f ++ c))) (8 * (at + i * m)) (g i) ≡ putWords s 0 (a ++ (chunks n g ++ c))
+  unfolding left
+  chunk-patch =
+      let here : length (a ++ chunks i f) ≡ at + i * m = length-append a (chunks i f) ∙ ap₂ _+_ is (length-chunks m f even-f i) in
+      let behind : List ℤ = chunks left (λ k. f (i + suc k)) ++ c in
+      let whole : length (a ++ (chunks n f ++ c)) ≡ at + n * m + length c =
+      length-append a (chunks n f ++ c) ∙ ap₂ _+_ is (length-append (chunks n f) c ∙ ap (λ (k : ℕ). k + length c) (length-chunks m f even-f n)) ∙ (let e : at + (n * m + length c) ≡ at + n * m + length c = omega arith in e) in
+      let parts : length (a ++ (chunks n f ++ c)) ≡ length (a ++ chunks i f) + (length (f i) + length behind) =
+      ap length (cut f) ∙ length-append (a ++ chunks i f) (f i ++ behind) ∙ ap (λ (k : ℕ). length (a ++ chunks i f) + k) (length-append (f i) behind) in
+      let fits : 8 * (length (a ++ chunks i f) + length (f i) + length behind) ≤ length s = omega arith in
+      ap (λ (x : List ℤ). putWords (putWords s 0 x) (8 * (at + i * m)) (g i)) (cut f)
+      ∙ patch s (a ++ chunks i f) (f i) (g i) behind (8 * (at + i * m)) (even-f i ∙ sym (even-g i)) (ap (λ (k : ℕ). 8 * k) (sym here)) fits
+      ∙ ap (putWords s 0) (ap₂ (λ (x y : List ℤ). (a ++ x) ++ (g i ++ (y ++ c))) first rest ∙ sym (cut g))
+
+-- ════ the parts of a book
+abbrev pub withPlace : Book → ℕ → Record → Book
+withPlace b i r = record { network = b .network; places = set (b .places) i (record { entry = r }); journal = b .journal; normals = b .normals }
+
+abbrev pub withSlot : Book → ℕ → Reversal → Book
+withSlot b k u = record { network = b .network; places = b .places; journal = record { entries = set (b .journal .entries) k u; next = b .journal .next; held = b .journal .held }; normals = b .normals }
+
+abbrev pub withCounts : Book → ℕ → ℕ → Book
+withCounts b next held = record { network = b .network; places = b .places; journal = record { entries = b .journal .entries; next = next; held = held }; normals = b .normals }
+
+abbrev pub withNormals : Book → List ℤ → List ℤ → Book
+withNormals b m u = record { network = b .network; places = b .places; journal = b .journal; normals = record { matrix = m; right = u } }
+
+module _ (s : List ℕ) (room : 56224 ≤ length s) (b : Book) (z : Sized b) where
+  pub put-place : (i : ℕ) (r : Record) → i < 256 → putWords (putBook s b) (8 * (130 + i * 14)) (recordWords r) ≡ putBook s (withPlace b i r)
+  put-place i r h =
+      let b′ = withPlace b i r in
+      let z′ : Sized b′ = record { places = length-set (b .places) i _ ∙ z .places; entries = z .entries; matrix = z .matrix; right = z .right } in
+      let f : ℕ → List ℤ = λ p. recordWords (recordAt (b .places) p) in
+      let g : ℕ → List ℤ = λ p. recordWords (recordAt (set (b .places) i (record { entry = r })) p) in
+      let long : i < length (b .places) = let e = z .places in omega arith in
+      let new : g i ≡ recordWords r = ap (λ (q : Place). recordWords (q .entry)) (getD-set-same (b .places) i (record { entry = r }) vacant long) in
+      let fits : 8 * (130 + 256 * 14 + length (tail b z)) ≤ length s =
+      let l = length-book b z in let e = ap length (at-counts b z) ∙ length-append (toPlaces b z) (tail b z) in let p = length-toPlaces b z in omega arith in
+      ap (λ (x : List ℤ). putWords (putWords s 0 x) (8 * (130 + i * 14)) (recordWords r)) (at-places b z)
+      ∙ ap (putWords (putWords s 0 (toStations b z ++ (chunks 256 f ++ tail b z))) (8 * (130 + i * 14))) (sym new)
+      ∙ chunk-patch s (toStations b z) (tail b z) 14 256 i 130 f g (λ p. length-record _) (λ p. length-record _)
+      (λ k d. ap (λ (q : Place). recordWords (q .entry)) (sym (getD-set-other (b .places) i k (record { entry = r }) vacant d))) h (length-toStations b z) fits
+      ∙ ap (putWords s 0) (sym (at-places b′ z′))
+
+  pub put-slot : (k : ℕ) (u : Reversal) → k < 64 → putWords (putBook s b) (8 * (3716 + k * 15)) (reversalWords u) ≡ putBook s (withSlot b k u)
+  put-slot k u h =
+      let b′ = withSlot b k u in
+      let z′ : Sized b′ = record { places = z .places; entries = length-set (b .journal .entries) k _ ∙ z .entries; matrix = z .matrix; right = z .right } in
+      let f : ℕ → List ℤ = λ p. reversalWords (getD (b .journal .entries) p free) in
+      let g : ℕ → List ℤ = λ p. reversalWords (getD (set (b .journal .entries) k u) p free) in
+      let c : List ℤ = b .normals .matrix ++ b .normals .right in
+      let long : k < length (b .journal .entries) = let e = z .entries in omega arith in
+      let new : g k ≡ reversalWords u = ap reversalWords (getD-set-same (b .journal .entries) k u free long) in
+      let fits : 8 * (3716 + 64 * 15 + length c) ≤ length s =
+      let l = length-book b z in let e = ap length (at-matrix b z) ∙ length-append (toEntries b z) c in let p = length-toEntries b z in omega arith in
+      ap (λ (x : List ℤ). putWords (putWords s 0 x) (8 * (3716 + k * 15)) (reversalWords u)) (at-entries b z)
+      ∙ ap (putWords (putWords s 0 (toCounts b z ++ (chunks 64 f ++ c))) (8 * (3716 + k * 15))) (sym new)
+      ∙ chunk-patch s (toCounts b z) c 15 64 k 3716 f g (λ p. length-reversal _) (λ p. length-reversal _)
+      (λ j d. ap reversalWords (sym (getD-set-other (b .journal .entries) k j u free d))) h (length-toCounts b z) fits
+      ∙ ap (putWords s 0) (sym (at-entries b′ z′))
+
+  pub put-counts : (next held : ℕ) → putWords (putBook s b) 29712 (signed next ∷ signed held ∷ []) ≡ putBook s (withCounts b next held)
+  put-counts next held =
+      let b′ = withCounts b next held in
+      let z′ : Sized b′ = record { places = z .places; entries = z .entries; matrix = z .matrix; right = z .right } in
+      let c : List ℤ = entriesPart b ++ (b .normals .matrix ++ b .normals .right) in
+      let fits : 8 * (length (toPlaces b z) + 2 + length c) ≤ length s =
+      let l = length-book b z in let e = ap length (at-entries b z) ∙ length-append (toCounts b z) c in let p = length-toCounts b z in let q = length-toPlaces b z in omega arith in
+      ap (λ (x : List ℤ). putWords (putWords s 0 x) 29712 (signed next ∷ signed held ∷ [])) (at-counts b z)
+      ∙ patch s (toPlaces b z) (countsPart b) (signed next ∷ signed held ∷ []) c 29712 refl (let q = length-toPlaces b z in omega arith) fits
+      ∙ ap (putWords s 0) (sym (at-counts b′ z′))
+
+  pub put-normals : (m u : List ℤ) → length m ≡ 2304 → length u ≡ 48 → putWords (putWords (putBook s b) 37408 m) 55840 u ≡ putBook s (withNormals b m u)
+  put-normals m u lm lu =
+      let b′ = withNormals b m u in
+      let z′ : Sized b′ = record { places = z .places; entries = z .entries; matrix = lm; right = lu } in
+      let a = toEntries b z in
+      let old = b .normals .matrix in
+      let v = b .normals .right in
+      let la = length-toEntries b z in
+      let lo = z .matrix in
+      let lv = z .right in
+      let joined : length (a ++ m) ≡ 6980 = length-append a m ∙ (let e : length a + length m ≡ 6980 = omega arith in e) in
+      ap (λ (x : List ℤ). putWords (putWords (putWords s 0 x) 37408 m) 55840 u) (at-matrix b z)
+      ∙ ap (λ (x : List ℕ). putWords x 55840 u) (patch s a old m v 37408 (lo ∙ sym lm) (omega arith) (omega arith))
+      ∙ ap (λ (x : List ℤ). putWords (putWords s 0 x) 55840 u) (sym (append-assoc a m v) ∙ ap (λ (x : List ℤ). (a ++ m) ++ x) (sym (append-nil v)))
+      ∙ patch s (a ++ m) v u [] 55840 (lv ∙ sym lu) (omega arith) (let n : length {A = ℤ} [] ≡ 0 = refl in omega arith)
+      ∙ ap (putWords s 0) (ap (λ (x : List ℤ). (a ++ m) ++ x) (append-nil u) ∙ sym (at-right b′ z′))
+
+-- ════ all of them
+pub put-edit : (s : List ℕ) → 56224 ≤ length s → (b : Book) → Sized b → (m v : List ℤ) → length m ≡ 2304 → length v ≡ 48 → (i : ℕ) (r : Record) (slot : ℕ) (u : Reversal) (next held : ℕ) → i < 256 → slot < 64
+    → (s₁ s₂ s₃ s₄ : List ℕ) → s₁ ≡ putBook s (withNormals b m v) → s₂ ≡ putWords s₁ (8 * (130 + i * 14)) (recordWords r) → s₃ ≡ putWords s₂ (8 * (3716 + slot * 15)) (reversalWords u)
+    → s₄ ≡ putWords s₃ 29712 (signed next ∷ signed held ∷ [])
+    → s₄ ≡ putBook s (withCounts (withSlot (withPlace (withNormals b m v) i r) slot u) next held)
+put-edit s room b z m v lm lv i r slot u next held h k s₁ s₂ s₃ s₄ p₁ p₂ p₃ p₄ =
+    let b₁ = withNormals b m v in
+    let z₁ : Sized b₁ = record { places = z .places; entries = z .entries; matrix = lm; right = lv } in
+    let b₂ = withPlace b₁ i r in
+    let z₂ : Sized b₂ = record { places = length-set (b .places) i _ ∙ z .places; entries = z .entries; matrix = lm; right = lv } in
+    let b₃ = withSlot b₂ slot u in
+    let z₃ : Sized b₃ = record { places = z₂ .places; entries = length-set (b .journal .entries) slot u ∙ z .entries; matrix = lm; right = lv } in
+    let q₂ : s₂ ≡ putBook s b₂ = p₂ ∙ ap (λ (x : List ℕ). putWords x (8 * (130 + i * 14)) (recordWords r)) p₁ ∙ put-place s room b₁ z₁ i r h in
+    let q₃ : s₃ ≡ putBook s b₃ = p₃ ∙ ap (λ (x : List ℕ). putWords x (8 * (3716 + slot * 15)) (reversalWords u)) q₂ ∙ put-slot s room b₂ z₂ slot u k in
+    p₄ ∙ ap (λ (x : List ℕ). putWords x 29712 (signed next ∷ signed held ∷ [])) q₃ ∙ put-counts s room b₃ z₃ next held

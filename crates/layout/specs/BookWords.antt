@@ -1,0 +1,148 @@
+-- The words of a book of any value: where each part stands among the 7,028, and what is read there. Assumes nothing.
+use Prim.Native.Nat.{ℕ, suc, _+_, _*_, _<_}
+use mathlib.Core.Path.{_≡_, refl, sym, ap, _∙_}
+use mathlib.Core.Bool.{Bool, true, false, cond}
+use mathlib.Core.List.{List, [], _∷_, _++_, append-assoc}
+use native.Mathlib.Omega.{arith}
+use lib.Dec.{ltb}
+use lib.ListN.{length, getD, length-append, List·getD-append}
+use lib.Seq.{getD-append-add}
+use lib.IntN.{ℤ, pos}
+use Rattle.words.specs.Signed.{signed}
+use Rattle.network.specs.Stations.{stationAt}
+use Rattle.network.specs.Records.{recordAt}
+use Rattle.network.specs.declared.Network.{Network}
+use Rattle.network.specs.declared.Record.{Record}
+use Rattle.network.specs.declared.Record.the-variants.{Empty, Baseline as baseline, Height as height}
+use Rattle.book.specs.declared.Reversal.{Reversal}
+use Rattle.book.specs.declared.Book.{Book}
+use Rattle.book.specs.Journal.{free}
+use Rattle.book.specs.Sound.{Sized}
+use Rattle.layout.specs.Chunks.{length-chunks, inside}
+use Rattle.layout.specs.Layout.{stationWords, stationPart, recordWords, reversalWords, headWords, stationsPart, placesPart, countsPart, entriesPart, bookWords}
+
+-- ════ lengths
+pub length-record : (r : Record) → length (recordWords r) ≡ 14
+unfolding recordWords
+length-record Empty = refl
+length-record (baseline b) = refl
+length-record (height h) = refl
+
+pub length-reversal : (u : Reversal) → length (reversalWords u) ≡ 15
+unfolding reversalWords
+length-reversal u = ap suc (length-record (u .prior))
+
+pub length-station : (net : Network) (s : ℕ) → length (stationPart net s) ≡ 4
+unfolding stationPart stationWords
+length-station net s = go (ltb s (net .count))
+  where
+    go : (t : Bool) → length (cond t (stationWords (stationAt (net .stations) s)) (pos 0 ∷ pos 0 ∷ pos 0 ∷ pos 0 ∷ [])) ≡ 4
+    go true = refl
+    go false = refl
+
+-- ════ a book
+module _ (b : Book) (z : Sized b) where
+  -- what stands behind the places, and behind the counters
+  abbrev pub tail : List ℤ
+  tail = countsPart b ++ (entriesPart b ++ (b .normals .matrix ++ b .normals .right))
+
+  pub length-stations : length (stationsPart b) ≡ 128
+  length-stations = length-chunks 4 (stationPart (b .network)) (length-station (b .network)) 32
+
+  pub length-places : length (placesPart b) ≡ 3584
+  length-places = length-chunks 14 _ (λ p. length-record (recordAt (b .places) p)) 256
+
+  pub length-entries : length (entriesPart b) ≡ 960
+  length-entries = length-chunks 15 _ (λ k. length-reversal (getD (b .journal .entries) k free)) 64
+
+  -- what stands before each part
+  abbrev pub toStations : List ℤ
+  toStations = headWords b ++ stationsPart b
+
+  abbrev pub toPlaces : List ℤ
+  toPlaces = toStations ++ placesPart b
+
+  abbrev pub toCounts : List ℤ
+  toCounts = toPlaces ++ countsPart b
+
+  abbrev pub toEntries : List ℤ
+  toEntries = toCounts ++ entriesPart b
+
+  pub length-toStations : length toStations ≡ 130
+  length-toStations = length-append (headWords b) (stationsPart b) ∙ ap (λ (n : ℕ). 2 + n) length-stations
+
+  pub length-toPlaces : length toPlaces ≡ 3714
+  length-toPlaces = length-append toStations (placesPart b) ∙ omega (arith, length-toStations, length-places)
+
+  pub length-toCounts : length toCounts ≡ 3716
+  length-toCounts = length-append toPlaces (countsPart b) ∙ ap (λ (n : ℕ). n + 2) length-toPlaces
+
+  pub length-toEntries : length toEntries ≡ 4676
+  length-toEntries = length-append toCounts (entriesPart b) ∙ omega (arith, length-toCounts, length-entries)
+
+  pub length-toMatrix : length (toEntries ++ b .normals .matrix) ≡ 6980
+  length-toMatrix = length-append toEntries (b .normals .matrix) ∙ omega (arith, length-toEntries, z .matrix)
+
+  pub at-places : bookWords b ≡ toStations ++ (placesPart b ++ tail)
+  unfolding bookWords
+  at-places = sym (append-assoc (headWords b) (stationsPart b) (placesPart b ++ tail))
+
+  pub at-counts : bookWords b ≡ toPlaces ++ tail
+  at-counts = at-places ∙ sym (append-assoc toStations (placesPart b) tail)
+
+  pub at-entries : bookWords b ≡ toCounts ++ (entriesPart b ++ (b .normals .matrix ++ b .normals .right))
+  at-entries = at-counts ∙ sym (append-assoc toPlaces (countsPart b) (entriesPart b ++ (b .normals .matrix ++ b .normals .right)))
+
+  pub at-matrix : bookWords b ≡ toEntries ++ (b .normals .matrix ++ b .normals .right)
+  at-matrix = at-entries ∙ sym (append-assoc toCounts (entriesPart b) (b .normals .matrix ++ b .normals .right))
+
+  pub at-right : bookWords b ≡ (toEntries ++ b .normals .matrix) ++ b .normals .right
+  at-right = at-matrix ∙ sym (append-assoc toEntries (b .normals .matrix) (b .normals .right))
+
+  pub length-book : length (bookWords b) ≡ 7028
+  length-book = ap length at-right ∙ length-append (toEntries ++ b .normals .matrix) (b .normals .right) ∙ omega (arith, length-toMatrix, z .right)
+
+  -- ════ word by word
+  abbrev pub word : ℕ → ℤ
+  word k = getD (bookWords b) k (pos 0)
+
+  -- a word beyond a first part
+  behind : (a c : List ℤ) (n k : ℕ) → bookWords b ≡ a ++ c → length a ≡ n → word (n + k) ≡ getD c k (pos 0)
+  behind a c n k e l =
+      ap (λ (x : List ℤ). getD x (n + k) (pos 0)) e ∙ ap (λ (m : ℕ). getD (a ++ c) (m + k) (pos 0)) (sym l) ∙ getD-append-add a c k (pos 0)
+
+  pub head-word : word 0 ≡ pos 1
+  unfolding bookWords
+  head-word = refl
+
+  pub count-word : word 1 ≡ signed (b .network .count)
+  unfolding bookWords
+  count-word = refl
+
+  pub station-word : (s j : ℕ) → s < 32 → j < 4 → word (2 + s * 4 + j) ≡ getD (stationPart (b .network) s) j (pos 0)
+  unfolding bookWords
+  station-word s j h l = inside (headWords b) (placesPart b ++ tail) 4 32 s j 2 (stationPart (b .network)) (pos 0) (length-station (b .network)) refl h l
+
+  pub place-word : (p j : ℕ) → p < 256 → j < 14 → word (130 + p * 14 + j) ≡ getD (recordWords (recordAt (b .places) p)) j (pos 0)
+  place-word p j h l =
+      ap (λ (x : List ℤ). getD x (130 + p * 14 + j) (pos 0)) at-places
+      ∙ inside toStations tail 14 256 p j 130 _ (pos 0) (λ k. length-record (recordAt (b .places) k)) length-toStations h l
+
+  pub next-word : word 3714 ≡ signed (b .journal .next)
+  next-word = behind toPlaces tail 3714 0 at-counts length-toPlaces
+
+  pub held-word : word 3715 ≡ signed (b .journal .held)
+  held-word = behind toPlaces tail 3714 1 at-counts length-toPlaces
+
+  pub slot-word : (k j : ℕ) → k < 64 → j < 15 → word (3716 + k * 15 + j) ≡ getD (reversalWords (getD (b .journal .entries) k free)) j (pos 0)
+  slot-word k j h l =
+      ap (λ (x : List ℤ). getD x (3716 + k * 15 + j) (pos 0)) at-entries
+      ∙ inside toCounts (b .normals .matrix ++ b .normals .right) 15 64 k j 3716 _ (pos 0) (λ i. length-reversal (getD (b .journal .entries) i free)) length-toCounts h l
+
+  pub matrix-word : (k : ℕ) → k < 2304 → word (4676 + k) ≡ getD (b .normals .matrix) k (pos 0)
+  matrix-word k h =
+      behind toEntries (b .normals .matrix ++ b .normals .right) 4676 k at-matrix length-toEntries
+      ∙ List·getD-append (b .normals .matrix) (b .normals .right) (pos 0) k (let l = z .matrix in omega arith)
+
+  pub right-word : (k : ℕ) → word (6980 + k) ≡ getD (b .normals .right) k (pos 0)
+  right-word k = behind (toEntries ++ b .normals .matrix) (b .normals .right) 6980 k at-right length-toMatrix

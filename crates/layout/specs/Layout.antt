@@ -1,0 +1,103 @@
+-- The layout of a book: its 7,028 words in order, and the book that 7,028 words give. docs/BOOK.md has each word's index and name. Assumes nothing.
+use Prim.Native.Nat.{ℕ, zero, suc, _+_, _*_}
+use mathlib.Core.Bool.{cond}
+use mathlib.Core.List.{List, [], _∷_, _++_}
+use lib.Dec.{ltb}
+use lib.ListN.{getD, take, drop}
+use lib.IntN.{ℤ, pos}
+use Rattle.integers.specs.Tables.{tabulate}
+use Rattle.words.specs.Signed.{indexIn, signed, unsigned}
+use Rattle.network.specs.Stations.{stationAt, stationIn}
+use Rattle.network.specs.Records.{recordAt}
+use Rattle.network.specs.RecordWords.{recordIn}
+use Rattle.network.specs.declared.Kind.{Kind}
+use Rattle.network.specs.declared.Kind.the-variants.{Known, Free, Height}
+use Rattle.network.specs.declared.Station.{Station}
+use Rattle.network.specs.declared.Network.{Network}
+use Rattle.network.specs.declared.Place.{Place}
+use Rattle.network.specs.declared.Record.{Record}
+use Rattle.network.specs.declared.Record.the-variants.{Empty, Baseline as baseline, Height as height}
+use Rattle.normals.specs.declared.Normals.{Normals}
+use Rattle.book.specs.declared.Reversal.{Reversal}
+use Rattle.book.specs.declared.Journal.{Journal}
+use Rattle.book.specs.declared.Book.{Book}
+use Rattle.book.specs.Journal.{free}
+use Rattle.layout.specs.Chunks.{chunks}
+
+-- ════ words of the parts
+-- 1 known, 2 free, 3 height
+unfoldable pub kindWord : Kind → ℤ
+kindWord Known = pos 1
+kindWord Free = pos 2
+kindWord Height = pos 3
+
+-- four words a station: kind, E, N, U
+unfoldable pub stationWords : Station → List ℤ
+stationWords s = kindWord (s .kind) ∷ s .east ∷ s .north ∷ s .up ∷ []
+
+-- of the station s of the list, counted from 0; all 0 beyond the count
+unfoldable pub stationPart : Network → ℕ → List ℤ
+stationPart net s = cond (ltb s (net .count)) (stationWords (stationAt (net .stations) s)) (pos 0 ∷ pos 0 ∷ pos 0 ∷ pos 0 ∷ [])
+
+-- 14 words a record: kind (0 empty, 1 baseline, 2 height difference), from, to, observed E, N, U, weights EE, EN, EU, NN, NU, UU, and two that are 0.
+-- What a record does not use is 0
+unfoldable pub recordWords : Record → List ℤ
+recordWords Empty =
+    pos 0 ∷ pos 0 ∷ pos 0 ∷ pos 0 ∷ pos 0 ∷ pos 0 ∷ pos 0 ∷ pos 0 ∷ pos 0 ∷ pos 0 ∷ pos 0 ∷ pos 0 ∷ pos 0 ∷ pos 0 ∷ []
+recordWords (baseline b) =
+    pos 1 ∷ b .from ∷ b .to ∷ b .east ∷ b .north ∷ b .up ∷ b .ee ∷ b .en ∷ b .eu ∷ b .nn ∷ b .nu ∷ b .uu ∷ pos 0 ∷ pos 0 ∷ []
+recordWords (height h) =
+    pos 2 ∷ h .from ∷ h .to ∷ pos 0 ∷ pos 0 ∷ h .up ∷ pos 0 ∷ pos 0 ∷ pos 0 ∷ pos 0 ∷ pos 0 ∷ h .weight ∷ pos 0 ∷ pos 0 ∷ []
+
+-- 15 words a reversal: the place counted from 0, and the record to restore
+unfoldable pub reversalWords : Reversal → List ℤ
+reversalWords u = signed (u .place) ∷ recordWords (u .prior)
+
+-- ════ a book's words. A count is kept as the word with its bits
+-- the layout's number and the station count
+abbrev pub headWords : Book → List ℤ
+headWords b = pos 1 ∷ signed (b .network .count) ∷ []
+
+abbrev pub stationsPart : Book → List ℤ
+stationsPart b = chunks 32 (stationPart (b .network))
+
+abbrev pub placesPart : Book → List ℤ
+placesPart b = chunks 256 (λ p. recordWords (recordAt (b .places) p))
+
+abbrev pub countsPart : Book → List ℤ
+countsPart b = signed (b .journal .next) ∷ signed (b .journal .held) ∷ []
+
+abbrev pub entriesPart : Book → List ℤ
+entriesPart b = chunks 64 (λ k. reversalWords (getD (b .journal .entries) k free))
+
+unfoldable pub bookWords : Book → List ℤ
+bookWords b = headWords b ++ (stationsPart b ++ (placesPart b ++ (countsPart b ++ (entriesPart b ++ (b .normals .matrix ++ b .normals .right)))))
+
+-- ════ the book that words give, for any words. Those of a kind that is none are read as an empty record or a known station, and the two words that
+-- are 0 are not looked at: words that are not a book's are told by writing what was read, in Bytes.antt
+abbrev pub countIn : List ℤ → ℕ → ℕ
+countIn w at = unsigned (getD w at (pos 0))
+
+abbrev pub reversalIn : List ℤ → ℕ → Reversal
+reversalIn w at = record { place = countIn w at; prior = recordIn w (at + 1) }
+
+abbrev pub networkIn : List ℤ → Network
+networkIn w = record { count = countIn w 1; stations = tabulate 32 (stationIn (take 128 (drop 2 w))) }
+
+abbrev pub placeIn : List ℤ → ℕ → Place
+placeIn w p = record { entry = recordIn w (130 + p * 14) }
+
+abbrev pub placesIn : List ℤ → List Place
+placesIn w = tabulate 256 (placeIn w)
+
+abbrev pub entriesIn : List ℤ → List Reversal
+entriesIn w = tabulate 64 (λ k. reversalIn w (3716 + k * 15))
+
+abbrev pub journalIn : List ℤ → Journal
+journalIn w = record { entries = entriesIn w; next = countIn w 3714; held = countIn w 3715 }
+
+abbrev pub normalsIn : List ℤ → Normals
+normalsIn w = record { matrix = take 2304 (drop 4676 w); right = take 48 (drop 6980 w) }
+
+unfoldable pub bookIn : List ℤ → Book
+bookIn w = record { network = networkIn w; places = placesIn w; journal = journalIn w; normals = normalsIn w }

@@ -1,0 +1,239 @@
+-- A sound book's words read back as that book. Assumes nothing.
+use Prim.Native.Nat.{ℕ, zero, suc, _+_, _-_, _*_, _/_, _%_, _<_, _≤_, _^_}
+use mathlib.Core.Path.{_≡_, refl, sym, ap, _∙_, subst}
+use mathlib.Core.Bool.{Bool, true, false, cond, _&&_, _||_}
+use mathlib.Core.List.{List, [], _∷_, _++_, append-assoc}
+use native.Mathlib.Nat.{add-zero}
+use native.Mathlib.Decide.{ℕ-discrete, decLt}
+use native.Mathlib.Omega.{arith}
+use borrow.Author.Tests.{eqb-true}
+use lib.Dec.{ltb, eqb}
+use lib.ListN.{length, getD, take, drop, length-append}
+use lib.Seq.{take-at, drop-at, take-all, getD-append-add}
+use lib.IntN.{ℤ, pos}
+use Rattle.integers.specs.Tables.{tabulate, is-tabulate, length-tabulate}
+use Rattle.words.specs.Bools.{true-or-false, and-left, and-right}
+use Rattle.words.specs.Signed.{indexIn, signed, unsigned, eqZ}
+use Rattle.words.specs.SignedLaws.{eqZ-true, unsigned-signed}
+use Rattle.network.specs.All.{allBelow, all-at}
+use Rattle.network.specs.Stations.{blank, stationAt, kindAt, kindOf, stationIn, countFits, coordinatesFit, unknownsFit, isKnown, isBlank, blankBeyond, networkFits}
+use Rattle.network.specs.Records.{vacant, recordAt}
+use Rattle.network.specs.RecordWords.{recordOf, recordIn}
+use Rattle.network.specs.Rules.{isEmpty, recordFits}
+use Rattle.network.specs.RuleLaws.{network-few, empty-is, fits-empty}
+use Rattle.network.specs.declared.Kind.{Kind}
+use Rattle.network.specs.declared.Kind.the-variants.{Known, Free, Height}
+use Rattle.network.specs.declared.Station.{Station}
+use Rattle.network.specs.declared.Network.{Network}
+use Rattle.network.specs.declared.Place.{Place}
+use Rattle.network.specs.declared.Record.{Record}
+use Rattle.network.specs.declared.Record.the-variants.{Empty, Baseline as baseline, Height as height}
+use Rattle.normals.specs.declared.Normals.{Normals}
+use Rattle.book.specs.declared.Reversal.{Reversal}
+use Rattle.book.specs.declared.Book.{Book}
+use Rattle.book.specs.Journal.{free, isFree, before, entriesBefore}
+use Rattle.book.specs.Book.{undoable}
+use Rattle.book.specs.Sound.{Sized, Sound, Undoes, undoable-first}
+use Rattle.layout.specs.Chunks.{chunk-at}
+use Rattle.layout.specs.BookWords.{tail, length-station, length-stations, toEntries, length-toEntries, length-toMatrix, at-matrix, at-right, place-word, next-word, held-word, slot-word}
+use Rattle.layout.specs.Layout.{kindWord, stationWords, stationPart, recordWords, reversalWords, headWords, stationsPart, placesPart, countsPart, entriesPart, bookWords, reversalIn, networkIn, placeIn, placesIn, entriesIn, journalIn, normalsIn, bookIn}
+
+-- ════ a record
+pub record-back : (w : List ℤ) (at : ℕ) (r : Record) → ((j : ℕ) → j < 14 → getD w (at + j) (pos 0) ≡ getD (recordWords r) j (pos 0)) → recordIn w at ≡ r
+unfolding recordOf recordWords indexIn
+record-back w at Empty h =
+    let kind : getD w at (pos 0) ≡ pos 0 = ap (λ (k : ℕ). getD w k (pos 0)) (sym (add-zero at)) ∙ h 0 (omega arith) in
+    ap (λ (z : ℤ). recordOf (indexIn z 2) w at) kind
+record-back w at (baseline b) h =
+    let kind : getD w at (pos 0) ≡ pos 1 = ap (λ (k : ℕ). getD w k (pos 0)) (sym (add-zero at)) ∙ h 0 (omega arith) in
+    ap (λ (z : ℤ). recordOf (indexIn z 2) w at) kind
+    ∙ (λ i. baseline
+    (record {
+      from = h 1 (omega arith) i;
+      to = h 2 (omega arith) i;
+      east = h 3 (omega arith) i;
+      north = h 4 (omega arith) i;
+      up = h 5 (omega arith) i;
+      ee = h 6 (omega arith) i;
+      en = h 7 (omega arith) i;
+      eu = h 8 (omega arith) i;
+      nn = h 9 (omega arith) i;
+      nu = h 10 (omega arith) i;
+      uu = h 11 (omega arith) i;
+    }))
+record-back w at (height r) h =
+    let kind : getD w at (pos 0) ≡ pos 2 = ap (λ (k : ℕ). getD w k (pos 0)) (sym (add-zero at)) ∙ h 0 (omega arith) in
+    ap (λ (z : ℤ). recordOf (indexIn z 2) w at) kind
+    ∙ (λ i. height (record { from = h 1 (omega arith) i; to = h 2 (omega arith) i; up = h 5 (omega arith) i; weight = h 11 (omega arith) i }))
+
+reversal-back : (w : List ℤ) (at : ℕ) (u : Reversal) → ((j : ℕ) → j < 15 → getD w (at + j) (pos 0) ≡ getD (reversalWords u) j (pos 0)) → u .place < 2 ^ 64 → reversalIn w at ≡ u
+unfolding reversalWords
+reversal-back w at u h small =
+    let first : unsigned (getD w at (pos 0)) ≡ u .place =
+    ap (λ (k : ℕ). unsigned (getD w k (pos 0))) (sym (add-zero at)) ∙ ap unsigned (h 0 (omega arith)) ∙ unsigned-signed (u .place) small in
+    let rest : recordIn w (at + 1) ≡ u .prior =
+    record-back w (at + 1) (u .prior) (λ j l. ap (λ (k : ℕ). getD w k (pos 0)) (omega arith) ∙ h (suc j) (omega arith)) in
+    λ i. record { place = first i; prior = rest i }
+
+-- ════ what a sound book's journal holds to restore, in every slot
+pub record Restores (net : Network) (u : Reversal) : Type 0 where
+  pub inside : u .place < 256
+  pub fits : recordFits net (u .prior) ≡ true
+
+held-restores : (net : Network) (entries : List Reversal) (n slot t : ℕ) (at : ℕ → Record) → slot < 64 → t < 64 → (slot + 63 - t) % 64 < n
+    → undoable net at (entriesBefore entries slot n) ≡ true → Restores net (getD entries t free)
+unfolding entriesBefore
+held-restores net entries zero slot t at s h l e = absurd (omega arith)
+held-restores net entries (suc n) slot t at s h l e =
+    let o = undoable-first net at (getD entries (before slot) free) (entriesBefore entries (before slot) n) e in
+    go o (λ q. held-restores net entries n (before slot) t _ (omega arith) h (omega arith) (o .rest)) (ℕ-discrete t (before slot))
+  where
+    go : Undoes net at (getD entries (before slot) free) (entriesBefore entries (before slot) n) → ((t ≡ before slot → ⊥) → Restores net (getD entries t free)) → Dec (t ≡ before slot)
+        → Restores net (getD entries t free)
+    go o earlier (yes p) = subst (λ (k : ℕ). Restores net (getD entries k free)) (sym p) (record { inside = o .inside; fits = o .fits })
+    go o earlier (no q) = earlier q
+
+free-restores : (net : Network) (u : Reversal) → isFree u ≡ true → Restores net u
+unfolding isFree
+free-restores net u e =
+    record {
+      inside = let z : u .place ≡ 0 = eqb-true _ _ (and-left (eqb (u .place) 0) (isEmpty (u .prior)) e) in omega arith;
+      fits = ap (recordFits net) (empty-is (u .prior) (and-right (eqb (u .place) 0) (isEmpty (u .prior)) e)) ∙ fits-empty net;
+    }
+
+pub entry-restores : (b : Book) → Sound b → (k : ℕ) → k < 64 → Restores (b .network) (getD (b .journal .entries) k free)
+entry-restores b o k h = go (decLt ((b .journal .next + 63 - k) % 64) (b .journal .held))
+  where
+    go : Dec ((b .journal .next + 63 - k) % 64 < b .journal .held) → Restores (b .network) (getD (b .journal .entries) k free)
+    go (yes l) = held-restores (b .network) (b .journal .entries) (b .journal .held) (b .journal .next) k (recordAt (b .places)) (o .journal .next) h l (o .undoes)
+    go (no l) = free-restores (b .network) _ (o .journal .blank k h (omega arith))
+
+-- ════ a station
+kind-back : (k : Kind) → kindOf (kindWord k) ≡ k
+unfolding kindAt kindWord indexIn
+kind-back Known = refl
+kind-back Free = refl
+kind-back Height = refl
+
+known-is : (k : Kind) → isKnown k ≡ true → k ≡ Known
+unfolding isKnown
+known-is Known e = refl
+known-is Free e = absurd (let z : _≡_ {A = ℕ} 0 1 = ap (λ (t : Bool). cond t 1 0) e in omega arith)
+known-is Height e = absurd (let z : _≡_ {A = ℕ} 0 1 = ap (λ (t : Bool). cond t 1 0) e in omega arith)
+
+blank-is : (s : Station) → isBlank s ≡ true → s ≡ blank
+unfolding isBlank
+blank-is s e =
+    let k = isKnown (s .kind) in
+    let three = and-left (k && eqZ (s .east) (pos 0) && eqZ (s .north) (pos 0)) (eqZ (s .up) (pos 0)) e in
+    let two = and-left (k && eqZ (s .east) (pos 0)) (eqZ (s .north) (pos 0)) three in
+    let kind : s .kind ≡ Known = known-is (s .kind) (and-left k (eqZ (s .east) (pos 0)) two) in
+    let east : s .east ≡ pos 0 = eqZ-true _ _ (and-right k (eqZ (s .east) (pos 0)) two) in
+    let north : s .north ≡ pos 0 = eqZ-true _ _ (and-right (k && eqZ (s .east) (pos 0)) (eqZ (s .north) (pos 0)) three) in
+    let up : s .up ≡ pos 0 = eqZ-true _ _ (and-right (k && eqZ (s .east) (pos 0) && eqZ (s .north) (pos 0)) (eqZ (s .up) (pos 0)) e) in
+    λ i. record { kind = kind i; east = east i; north = north i; up = up i }
+
+beyond-blank : (net : Network) → networkFits net ≡ true → (s : ℕ) → s < 32 → ltb s (net .count) ≡ false → stationAt (net .stations) s ≡ blank
+unfolding networkFits blankBeyond
+beyond-blank net e s h f =
+    let two = and-left (countFits (net .count) && blankBeyond net) (coordinatesFit (net .stations)) (and-left _ (unknownsFit (net .stations)) e) in
+    let all = and-right (countFits (net .count)) (blankBeyond net) two in
+    blank-is _ (ap (λ (t : Bool). t || isBlank (stationAt (net .stations) s)) (sym f) ∙ all-at 32 (λ k. ltb k (net .count) || isBlank (stationAt (net .stations) k)) s all h)
+
+-- the words of a station read back; four words that are 0 are a blank one
+station-words : (x : Station) (w : List ℤ) (s : ℕ) → ((j : ℕ) → j < 4 → getD w (s * 4 + j) (pos 0) ≡ getD (stationWords x) j (pos 0)) → stationIn w s ≡ x
+unfolding stationIn stationWords
+station-words x w s at =
+    let kind : kindOf (getD w (s * 4) (pos 0)) ≡ x .kind =
+    ap (λ (k : ℕ). kindOf (getD w k (pos 0))) (sym (add-zero (s * 4))) ∙ ap kindOf (at 0 (omega arith)) ∙ kind-back (x .kind) in
+    λ i. record { kind = kind i; east = at 1 (omega arith) i; north = at 2 (omega arith) i; up = at 3 (omega arith) i }
+
+abbrev zeros : List ℤ
+zeros = pos 0 ∷ pos 0 ∷ pos 0 ∷ pos 0 ∷ []
+
+station-zeros : (w : List ℤ) (s : ℕ) → ((j : ℕ) → j < 4 → getD w (s * 4 + j) (pos 0) ≡ getD zeros j (pos 0)) → stationIn w s ≡ blank
+unfolding stationIn kindAt indexIn
+station-zeros w s at =
+    let kind : kindOf (getD w (s * 4) (pos 0)) ≡ Known =
+    ap (λ (k : ℕ). kindOf (getD w k (pos 0))) (sym (add-zero (s * 4))) ∙ ap kindOf (at 0 (omega arith)) in
+    λ i. record { kind = kind i; east = at 1 (omega arith) i; north = at 2 (omega arith) i; up = at 3 (omega arith) i }
+
+station-back : (net : Network) (w : List ℤ) (s : ℕ) → networkFits net ≡ true → s < 32 → ((j : ℕ) → j < 4 → getD w (s * 4 + j) (pos 0) ≡ getD (stationPart net s) j (pos 0))
+    → stationIn w s ≡ stationAt (net .stations) s
+unfolding stationPart
+station-back net w s e h at = go (ltb s (net .count)) refl
+  where
+    go : (t : Bool) → ltb s (net .count) ≡ t → stationIn w s ≡ stationAt (net .stations) s
+    go true q =
+        station-words (stationAt (net .stations) s) w s
+        (λ j l. at j l ∙ ap (λ (t : Bool). getD (cond t (stationWords (stationAt (net .stations) s)) zeros) j (pos 0)) q)
+    go false q =
+        station-zeros w s (λ j l. at j l ∙ ap (λ (t : Bool). getD (cond t (stationWords (stationAt (net .stations) s)) zeros) j (pos 0)) q)
+        ∙ sym (beyond-blank net e s h q)
+
+-- ════ a book. What is true of every value, the length of the station list, stands beside Sound
+pub sound-sized : (b : Book) → Sound b → Sized b
+sound-sized b o =
+    record {
+      places = o .places;
+      entries = o .entries;
+      matrix = ap (λ (n : Normals). length (n .matrix)) (o .normals) ∙ length-tabulate 2304 _;
+      right = ap (λ (n : Normals). length (n .right)) (o .normals) ∙ length-tabulate 48 _;
+    }
+
+module _ (b : Book) (o : Sound b) (long : length (b .network .stations) ≡ 32) where
+  sized : Sized b
+  sized = sound-sized b o
+
+  abbrev w : List ℤ
+  w = bookWords b
+
+  -- ════ each part read back
+  network-back : networkIn w ≡ b .network
+  unfolding bookWords
+  network-back =
+      let few : b .network .count ≤ 32 = network-few (b .network) (o .network) in
+      let part : take 128 (drop 2 w) ≡ stationsPart b = take-at (stationsPart b) (placesPart b ++ tail b sized) 128 (length-stations b sized) in
+      let count : unsigned (signed (b .network .count)) ≡ b .network .count = unsigned-signed (b .network .count) (omega arith) in
+      let stations : tabulate 32 (stationIn (stationsPart b)) ≡ b .network .stations =
+      sym (is-tabulate 32 (stationIn (stationsPart b)) (b .network .stations) blank long
+      (λ s h. sym (station-back (b .network) (stationsPart b) s (o .network) h
+      (λ j l. chunk-at 4 (stationPart (b .network)) (length-station (b .network)) 32 s j (pos 0) h l)))) in
+      λ i. record { count = count i; stations = (ap (λ (l : List ℤ). tabulate 32 (stationIn l)) part ∙ stations) i }
+
+  places-back : placesIn w ≡ b .places
+  places-back =
+      sym (is-tabulate 256 (placeIn w) (b .places) vacant (o .places)
+      (λ p h. ap (λ (r : Record). record { entry = r }) (sym (record-back w (130 + p * 14) (recordAt (b .places) p)
+      (λ j l. place-word b sized p j h l)))))
+
+  entries-back : entriesIn w ≡ b .journal .entries
+  entries-back =
+      sym (is-tabulate 64 (λ k. reversalIn w (3716 + k * 15)) (b .journal .entries) free (o .entries)
+      (λ k h. sym (reversal-back w (3716 + k * 15) (getD (b .journal .entries) k free)
+      (λ j l. slot-word b sized k j h l)
+      (let q = entry-restores b o k h .inside in omega arith))))
+
+  journal-back : journalIn w ≡ b .journal
+  journal-back =
+      let next : unsigned (getD w 3714 (pos 0)) ≡ b .journal .next =
+      ap unsigned (next-word b sized) ∙ unsigned-signed (b .journal .next) (let q = o .journal .next in omega arith) in
+      let held : unsigned (getD w 3715 (pos 0)) ≡ b .journal .held =
+      ap unsigned (held-word b sized) ∙ unsigned-signed (b .journal .held) (let q = o .journal .held in omega arith) in
+      λ i. record { entries = entries-back i; next = next i; held = held i }
+
+  normals-back : normalsIn w ≡ b .normals
+  normals-back =
+      let matrix : take 2304 (drop 4676 w) ≡ b .normals .matrix =
+      ap (λ (x : List ℤ). take 2304 (drop 4676 x)) (at-matrix b sized)
+      ∙ ap (take 2304) (drop-at (toEntries b sized) (b .normals .matrix ++ b .normals .right) 4676 (length-toEntries b sized))
+      ∙ take-at (b .normals .matrix) (b .normals .right) 2304 (sized .matrix) in
+      let right : take 48 (drop 6980 w) ≡ b .normals .right =
+      ap (λ (x : List ℤ). take 48 (drop 6980 x)) (at-right b sized)
+      ∙ ap (take 48) (drop-at (toEntries b sized ++ b .normals .matrix) (b .normals .right) 6980 (length-toMatrix b sized))
+      ∙ take-all 48 (b .normals .right) (omega (arith, sized .right)) in
+      λ i. record { matrix = matrix i; right = right i }
+
+  pub book-back : bookIn (bookWords b) ≡ b
+  unfolding bookIn
+  book-back = λ i. record { network = network-back i; places = places-back i; journal = journal-back i; normals = normals-back i }

@@ -1,0 +1,155 @@
+-- The words of a sound book are small, so that they fit 64 bits. Assumes nothing.
+use Prim.Native.Nat.{ℕ, zero, suc, _+_, _*_, _/_, _%_, _<_, _≤_, _^_, zero-le}
+use mathlib.Core.Path.{_≡_, sym, subst}
+use mathlib.Core.Bool.{Bool, true, false, cond}
+use mathlib.Core.List.{List, [], _∷_, _++_}
+use native.Mathlib.Omega.{arith}
+use borrow.Author.Tests.{leb-true, lt-ltb}
+use lib.Dec.{leb, ltb}
+use lib.ListN.{getD}
+use lib.IntN.{ℤ, pos, natAbs}
+use mir.Syntax.{w64}
+use mir.Val.{SFits}
+use Rattle.integers.specs.Tables.{within-tabulate}
+use Rattle.words.specs.Signed.{indexIn, signed}
+use Rattle.words.specs.SignedLaws.{index-number}
+use Rattle.network.specs.All.{all-at}
+use Rattle.network.specs.Sizes.{Small, small-at}
+use Rattle.network.specs.Stored.{fits-by}
+use Rattle.network.specs.Stations.{stationAt, coordinateIn, coordinate, coordinatesFit, networkFits}
+use Rattle.network.specs.Records.{recordAt}
+use Rattle.network.specs.Rules.{endsFit, recordFits}
+use Rattle.network.specs.RuleLaws.{network-few, network-coordinates, baseline-fits, height-fits, from-in-list, to-in-list}
+use Rattle.network.specs.Ranges.{baseline-range, height-range}
+use Rattle.network.specs.declared.Kind.{Kind}
+use Rattle.network.specs.declared.Kind.the-variants.{Known, Free, Height}
+use Rattle.network.specs.declared.Network.{Network}
+use Rattle.network.specs.declared.Record.{Record}
+use Rattle.network.specs.declared.Record.the-variants.{Empty, Baseline as baseline, Height as height}
+use Rattle.normals.specs.declared.Normals.{Normals}
+use Rattle.normals.specs.Formulas.{entryN, entryU, matrixOf, rightOf}
+use Rattle.normals.specs.Sizes.{N-entry, u-entry}
+use Rattle.normals.specs.Sound as normals
+use Rattle.book.specs.declared.Reversal.{Reversal}
+use Rattle.book.specs.declared.Book.{Book}
+use Rattle.book.specs.Journal.{free}
+use Rattle.book.specs.Sound.{Sound}
+use Rattle.layout.specs.Chunks.{chunks}
+use Rattle.layout.specs.Layout.{kindWord, stationWords, stationPart, recordWords, reversalWords, stationsPart, placesPart, countsPart, entriesPart, bookWords}
+use Rattle.layout.specs.ReadBack.{Restores, entry-restores}
+
+-- the largest of the limits: that of u
+abbrev L : ℕ
+L = 768000000000
+
+-- ════ lists
+small-append : (a b : List ℤ) → Small L a → Small L b → Small L (a ++ b)
+small-append [] b p q = q
+small-append (x ∷ a) b p q = (p .0, small-append a b (p .1) q)
+
+small-chunks : (n : ℕ) (f : ℕ → List ℤ) → ((k : ℕ) → k < n → Small L (f k)) → Small L (chunks n f)
+unfolding chunks
+small-chunks zero f h = tt
+small-chunks (suc n) f h = small-append (chunks n f) (f n) (small-chunks n f (λ k l. h k (omega arith))) (h n (omega arith))
+
+small-list : (l : List ℤ) → ((k : ℕ) → natAbs (getD l k (pos 0)) ≤ L) → Small L l
+small-list [] h = tt
+small-list (x ∷ l) h = (h 0, small-list l (λ k. h (suc k)))
+
+-- ════ the parts
+count-small : (n : ℕ) → n ≤ 256 → natAbs (signed n) ≤ L
+count-small n h = rw (lt-ltb n (2 ^ 63) (omega arith)) (omega arith)
+
+more : {n m : ℕ} → n ≤ m → m ≤ L → n ≤ L
+more p q = omega arith
+
+number-small : (v : ℤ) → indexIn v 32 < 32 → natAbs v ≤ L
+number-small v h = subst (λ (z : ℤ). natAbs z ≤ L) (sym (index-number v 32 h)) (omega arith)
+
+module _ (net : Network) (e : networkFits net ≡ true) where
+  ends-small : (from to : ℤ) → endsFit (net .count) from to ≡ true → (natAbs from ≤ L) × (natAbs to ≤ L)
+  ends-small from to f =
+      let few = network-few net e in
+      (number-small from (from-in-list (net .count) from to few f), number-small to (to-in-list (net .count) from to few f))
+
+  record-small : (r : Record) → recordFits net r ≡ true → Small L (recordWords r)
+  unfolding recordWords
+  record-small Empty f = (zero-le, (zero-le, (zero-le, (zero-le, (zero-le, (zero-le, (zero-le, (zero-le, (zero-le, (zero-le, (zero-le, (zero-le, (zero-le, (zero-le, tt))))))))))))))
+  record-small (baseline b) f =
+      let o = baseline-fits net b f in
+      let g = baseline-range b (o .range) in
+      let ends = ends-small (b .from) (b .to) (o .ends) in
+      ((omega arith), (ends .0, (ends .1, (more (g .east) (omega arith), (more (g .north) (omega arith), (more (g .up) (omega arith), (more (g .ee .most) (omega arith), (more (g .en) (omega arith), (more (g .eu) (omega arith), (more (g .nn .most) (omega arith), (more (g .nu) (omega arith), (more (g .uu .most) (omega arith), (zero-le, (zero-le, tt))))))))))))))
+  record-small (height h) f =
+      let o = height-fits net h f in
+      let g = height-range h (o .range) in
+      let ends = ends-small (h .from) (h .to) (o .ends) in
+      ((omega arith), (ends .0, (ends .1, (zero-le, (zero-le, (more (g .up) (omega arith), (zero-le, (zero-le, (zero-le, (zero-le, (zero-le, (more (g .weight .most) (omega arith), (zero-le, (zero-le, tt))))))))))))))
+
+  reversal-small : (u : Reversal) → Restores net u → Small L (reversalWords u)
+  unfolding reversalWords
+  reversal-small u o = (count-small (u .place) (let q = o .inside in omega arith), record-small (u .prior) (o .fits))
+
+  kind-small : (k : Kind) → natAbs (kindWord k) ≤ L
+  unfolding kindWord
+  kind-small Known = let h : 1 ≤ L = omega arith in h
+  kind-small Free = let h : 2 ≤ L = omega arith in h
+  kind-small Height = let h : 3 ≤ L = omega arith in h
+
+  coordinate-small : (s a : ℕ) → s < 32 → a < 3 → natAbs (coordinateIn (stationAt (net .stations) s) a) ≤ L
+  unfolding coordinate coordinatesFit
+  coordinate-small s a h l =
+      let q : natAbs (coordinate (net .stations) (s * 3 + a)) ≤ 500000000 =
+      leb-true _ _ (all-at 96 (λ q. leb (natAbs (coordinate (net .stations) q)) 500000000) (s * 3 + a) (network-coordinates net e) (omega arith)) in
+      let here : (s * 3 + a) / 3 ≡ s = omega arith in
+      let part : (s * 3 + a) % 3 ≡ a = omega arith in
+      more (subst (λ (k : ℕ). natAbs (coordinateIn (stationAt (net .stations) s) k) ≤ 500000000) part
+      (subst (λ (k : ℕ). natAbs (coordinateIn (stationAt (net .stations) k) ((s * 3 + a) % 3)) ≤ 500000000) here q)) (omega arith)
+
+  station-small : (s : ℕ) → s < 32 → Small L (stationPart net s)
+  unfolding stationPart stationWords coordinateIn
+  station-small s h = go (ltb s (net .count))
+    where
+      go : (t : Bool) → Small L (cond t (stationWords (stationAt (net .stations) s)) (pos 0 ∷ pos 0 ∷ pos 0 ∷ pos 0 ∷ []))
+      go true =
+          (kind-small (stationAt (net .stations) s .kind), (coordinate-small s 0 h (omega arith), (coordinate-small s 1 h (omega arith), (coordinate-small s 2 h (omega arith), tt))))
+      go false = (zero-le, (zero-le, (zero-le, (zero-le, tt))))
+
+-- ════ a book
+module _ (b : Book) (o : Sound b) where
+  records : normals.Sound (b .network) (b .places)
+  records = record { network = o .network; each = λ p h. o .records p }
+
+  matrix-small : Small L (b .normals .matrix)
+  matrix-small =
+      subst (λ (n : Normals). Small L (n .matrix)) (sym (o .normals))
+      (small-list (matrixOf (b .network .stations) (b .places)) (within-tabulate 2304 L (λ k. entryN (b .network .stations) (b .places) (k / 48) (k % 48))
+      (λ k h. more (N-entry (b .network) (b .places) records (k / 48) (k % 48)) (omega arith)) .bound))
+
+  right-small : Small L (b .normals .right)
+  right-small =
+      subst (λ (n : Normals). Small L (n .right)) (sym (o .normals))
+      (small-list (rightOf (b .network .stations) (b .places)) (within-tabulate 48 L (entryU (b .network .stations) (b .places)) (λ k h. u-entry (b .network) (b .places) records k) .bound))
+
+  words-small : Small L (bookWords b)
+  unfolding bookWords
+  words-small =
+      let few = network-few (b .network) (o .network) in
+      let next = o .journal .next in
+      let held = o .journal .held in
+      let one : 1 ≤ L = omega arith in
+      let tail : Small L (entriesPart b ++ (b .normals .matrix ++ b .normals .right)) =
+      small-append (entriesPart b) _ (small-chunks 64 _ (λ k h. reversal-small (b .network) (o .network) (getD (b .journal .entries) k free) (entry-restores b o k h)))
+      (small-append (b .normals .matrix) (b .normals .right) matrix-small right-small) in
+      let counts : Small L (countsPart b ++ (entriesPart b ++ (b .normals .matrix ++ b .normals .right))) =
+      (count-small (b .journal .next) (omega arith), (count-small (b .journal .held) (omega arith), tail)) in (
+        one,
+        (
+          count-small (b .network .count) (omega arith),
+          small-append (stationsPart b) _ (small-chunks 32 _ (λ s h. station-small (b .network) (o .network) s h))
+              (small-append (placesPart b) _ (small-chunks 256 _ (λ p h. record-small (b .network) (o .network) (recordAt (b .places) p) (o .records p))) counts),
+        ),
+      )
+
+  pub words-fit : (i : ℕ) → SFits w64 (getD (bookWords b) i (pos 0))
+  words-fit i = fits-by (getD (bookWords b) i (pos 0)) (small-at L (bookWords b) words-small i) tt

@@ -1,0 +1,85 @@
+// What 25 tests of bytes: the layout, part by part, and then the book's rules.
+use super::reading;
+use super::records::record_words;
+use super::writing::station_part;
+use normals::Normals;
+ghost use mathlib.Core.Path.{_≡_};
+ghost use Prim.Native.Nat.{ℕ, _+_, _*_, _≤_, _<_};
+ghost use lib.ListN.{length};
+ghost use Rattle.network.specs.All.{allBelow};
+ghost use Rattle.layout.specs.Laid.{recordLaid, stationLaid};
+ghost use Rattle.layout.specs.Bytes.{wordsOf, laidOut, bytesFit};
+
+fn record_laid(s: &[u8], k: usize) -> bool
+    requires { ⌜ (56224 ≤ length (now s)) × (k + 14 ≤ 7028) ⌝ }
+    ensures { λ r. ⌜ r ≡ recordLaid (wordsOf (now (s .entry))) k ⌝ }
+{
+    let w = reading::record_at(s, k);
+    let r = network::record_in(&w, 0);
+    let v = record_words(r);
+    normals::same_entries(&w, &v)
+}
+
+// n records, `step` words from one to the next.
+fn records_laid(s: &[u8], at: usize, step: usize, n: usize) -> bool
+    requires { ⌜ (56224 ≤ length (now s)) × (n ≤ 256) × ((p : ℕ) → p < n → at + p * step + 14 ≤ 7028) ⌝ }
+    ensures { λ r. ⌜ r ≡ allBelow n (λ p. recordLaid (wordsOf (now (s .entry))) (at + p * step)) ⌝ }
+{
+    let mut p: usize = 0;
+    while p < n {
+        if !record_laid(s, at + p * step) {
+            return false;
+        }
+        p += 1;
+    }
+    true
+}
+
+fn stations_laid(s: &[u8]) -> bool
+    requires { ⌜ 56224 ≤ length (now s) ⌝ }
+    ensures { λ r. ⌜ r ≡ allBelow 32 (stationLaid (wordsOf (now (s .entry)))) ⌝ }
+{
+    let net = reading::network_in(s);
+    let count = net.count;
+    let stations = net.stations;
+    let list = reading::stations_at(s);
+    let mut k: usize = 0;
+    while k < 32 {
+        let x = stations[k];
+        let v = station_part(count, k, x);
+        let a = k * 4;
+        let e = a + 4;
+        if !normals::same_entries(&list[a..e], &v) {
+            return false;
+        }
+        k += 1;
+    }
+    true
+}
+
+fn laid_out(s: &[u8]) -> bool
+    requires { ⌜ 56224 ≤ length (now s) ⌝ }
+    ensures { λ r. ⌜ r ≡ laidOut (now (s .entry)) ⌝ }
+{
+    let first = reading::word_in(s, 0);
+    words::same(first, 1)
+        & stations_laid(s)
+        & records_laid(s, 130, 14, 256)
+        & records_laid(s, 3717, 15, 64)
+}
+
+// Bytes long enough for a book pass the rest of what 25 tests.
+pub fn fits(s: &[u8]) -> bool
+    requires { ⌜ 56224 ≤ length (now s) ⌝ }
+    ensures { λ r. ⌜ r ≡ bytesFit (now (s .entry)) ⌝ }
+{
+    if !laid_out(s) {
+        return false;
+    }
+    let network = reading::network_in(s);
+    let places = reading::places_in(s);
+    let journal = reading::journal_in(s);
+    let matrix = reading::matrix_in(s);
+    let right = reading::right_in(s);
+    book::parts_fit(network, places, journal, Normals { matrix, right })
+}

@@ -1,0 +1,167 @@
+// The words of a book put into bytes: each function puts one part where it stands.
+use super::records::record_words;
+use book::Book;
+use book::Reversal;
+use network::Kind;
+use network::Network;
+use network::Place;
+use network::Record;
+use network::Station;
+use normals::Normals;
+ghost use mathlib.Core.Path.{_≡_};
+ghost use mathlib.Core.Bool.{cond};
+ghost use mathlib.Core.List.{[], _∷_, _++_};
+ghost use Prim.Native.Nat.{_+_, _*_, _≤_, _<_};
+ghost use lib.Dec.{ltb};
+ghost use lib.IntN.{pos};
+ghost use lib.ListN.{length, getD};
+ghost use Rattle.words.specs.Signed.{signed};
+ghost use Rattle.words.specs.Runs.{putWords};
+ghost use Rattle.network.specs.Records.{recordAt};
+ghost use Rattle.book.specs.Journal.{free};
+ghost use Rattle.layout.specs.Chunks.{chunks};
+ghost use Rattle.layout.specs.Layout.{kindWord, stationWords, stationPart, recordWords, reversalWords};
+ghost use Rattle.layout.specs.Bytes.{putBook};
+
+fn kind_word(kind: Kind) -> i64
+    ensures { λ r. ⌜ r ≡ kindWord kind ⌝ }
+{
+    match kind {
+        Kind::Known => 1,
+        Kind::Free => 2,
+        Kind::Height => 3,
+    }
+}
+
+fn station_words(s: Station) -> [i64; 4]
+    ensures { λ w. ⌜ w ≡ stationWords s ⌝ }
+{
+    let kind = s.kind;
+    let k = kind_word(kind);
+    [k, s.east, s.north, s.up]
+}
+
+// The words of station k, which is x, of a list of `count`: 0 beyond it.
+pub fn station_part(count: usize, k: usize, x: Station) -> [i64; 4]
+    ensures { λ w. ⌜ w ≡ cond (ltb k count) (stationWords x) (pos 0 ∷ pos 0 ∷ pos 0 ∷ pos 0 ∷ []) ⌝ }
+{
+    if k < count {
+        return station_words(x);
+    }
+    [0; 4]
+}
+
+fn put_stations(s: &mut [u8], net: Network)
+    requires { ⌜ 56224 ≤ length (now s) ⌝ }
+    ensures { λ _. ⌜ now (s .exit) ≡ putWords (now (s .entry)) 16 (chunks 32 (stationPart net)) ⌝ }
+{
+    let count = net.count;
+    let stations = net.stations;
+    let mut k: usize = 0;
+    while k < 32 {
+        let x = stations[k];
+        let v = station_part(count, k, x);
+        words::write_words(s, 16 + k * 32, &v);
+        k += 1;
+    }
+}
+
+// A record, its first word word k.
+pub fn put_record(s: &mut [u8], k: usize, r: Record)
+    requires { ⌜ (56224 ≤ length (now s)) × (k + 14 ≤ 7028) ⌝ }
+    ensures { λ _. ⌜ now (s .exit) ≡ putWords (now (s .entry)) (8 * k) (recordWords r) ⌝ }
+{
+    let v = record_words(r);
+    words::write_words(s, 8 * k, &v);
+}
+
+fn put_places(s: &mut [u8], places: [Place; 256])
+    requires { ⌜ 56224 ≤ length (now s) ⌝ }
+    ensures { λ _. ⌜ now (s .exit) ≡ putWords (now (s .entry)) 1040 (chunks 256 (λ p. recordWords (recordAt places p))) ⌝ }
+{
+    let mut p: usize = 0;
+    while p < 256 {
+        let q = places[p];
+        let r = q.entry;
+        put_record(s, 130 + p * 14, r);
+        p += 1;
+    }
+}
+
+fn count_word(n: usize) -> i64
+    ensures { λ r. ⌜ r ≡ signed n ⌝ }
+{
+    words::to_signed(n as u64)
+}
+
+// What a slot of the journal holds, its first word word k.
+pub fn put_reversal(s: &mut [u8], k: usize, u: Reversal)
+    requires { ⌜ (56224 ≤ length (now s)) × (k + 15 ≤ 7028) ⌝ }
+    ensures { λ _. ⌜ now (s .exit) ≡ putWords (now (s .entry)) (8 * k) (reversalWords u) ⌝ }
+{
+    let place = count_word(u.place);
+    words::put_word(s, 8 * k, place);
+    let r = u.prior;
+    put_record(s, k + 1, r);
+}
+
+fn put_entries(s: &mut [u8], entries: [Reversal; 64])
+    requires { ⌜ 56224 ≤ length (now s) ⌝ }
+    ensures { λ _. ⌜ now (s .exit) ≡ putWords (now (s .entry)) 29728 (chunks 64 (λ k. reversalWords (getD entries k free))) ⌝ }
+{
+    let mut k: usize = 0;
+    while k < 64 {
+        let u = entries[k];
+        put_reversal(s, 3716 + k * 15, u);
+        k += 1;
+    }
+}
+
+// Two words, the first of them word k.
+fn put_pair(s: &mut [u8], k: usize, a: i64, b: i64)
+    requires { ⌜ (56224 ≤ length (now s)) × (k + 2 ≤ 7028) ⌝ }
+    ensures { λ _. ⌜ now (s .exit) ≡ putWords (now (s .entry)) (8 * k) (a ∷ b ∷ []) ⌝ }
+{
+    words::put_word(s, 8 * k, a);
+    words::put_word(s, 8 * k + 8, b);
+}
+
+// The journal's counters.
+pub fn put_counts(s: &mut [u8], next: usize, held: usize)
+    requires { ⌜ 56224 ≤ length (now s) ⌝ }
+    ensures { λ _. ⌜ now (s .exit) ≡ putWords (now (s .entry)) 29712 (signed next ∷ signed held ∷ []) ⌝ }
+{
+    let n = count_word(next);
+    let h = count_word(held);
+    put_pair(s, 3714, n, h);
+}
+
+// N and u.
+pub fn put_normals(s: &mut [u8], matrix: &[i64; 2304], right: &[i64; 48])
+    requires { ⌜ (56224 ≤ length (now s)) × (length (now matrix) ≡ 2304) × (length (now right) ≡ 48) ⌝ }
+    ensures { λ _. ⌜ now (s .exit) ≡ putWords (putWords (now (s .entry)) 37408 (now (matrix .entry))) 55840 (now (right .entry)) ⌝ }
+{
+    words::write_words(s, 37408, matrix);
+    words::write_words(s, 55840, right);
+}
+
+// A book at the start of bytes.
+pub fn write_book(s: &mut [u8], book: Book)
+    requires { ⌜ 56224 ≤ length (now s) ⌝ }
+    ensures { λ _. ⌜ now (s .exit) ≡ putBook (now (s .entry)) book ⌝ }
+{
+    let net = book.network;
+    let count = count_word(net.count);
+    put_pair(s, 0, 1, count);
+    put_stations(s, net);
+    let places = book.places;
+    put_places(s, places);
+    let journal = book.journal;
+    put_counts(s, journal.next, journal.held);
+    let entries = journal.entries;
+    put_entries(s, entries);
+    let normals = book.normals;
+    let matrix = normals.matrix;
+    let right = normals.right;
+    put_normals(s, &matrix, &right);
+}

@@ -1,0 +1,13 @@
+-- A record by the kind that the code has told apart. Assumes nothing.
+use Prim.Native.Nat.{ℕ, zero, suc}
+use mathlib.Core.Path.{_≡_, refl}
+use mathlib.Core.List.{List}
+use lib.IntN.{ℤ}
+use Rattle.network.specs.declared.Record.the-variants.{Empty}
+use Rattle.network.specs.RecordWords.{recordOf}
+
+pub other-record : (k : ℕ) (w : List ℤ) (at : ℕ) → (k ≡ 0 → ⊥) → (k ≡ 1 → ⊥) → Empty ≡ recordOf k w at
+unfolding recordOf
+other-record zero w at x y = absurd (x refl)
+other-record (suc zero) w at x y = absurd (y refl)
+other-record (suc (suc k)) w at x y = refl

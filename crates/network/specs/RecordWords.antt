@@ -1,0 +1,33 @@
+-- A record in words: kind (1 baseline, 2 height difference, any other: Empty), from, to, observed E, N, U, weights EE, EN, EU, NN, NU, UU. A height
+-- difference has the U and UU words; words that a record does not use are not looked at. Assumes nothing.
+use Prim.Native.Nat.{ℕ, zero, suc, _+_}
+use mathlib.Core.List.{List}
+use lib.ListN.{getD}
+use lib.IntN.{ℤ, pos}
+use Rattle.words.specs.Signed.{indexIn}
+use Rattle.network.specs.declared.Record.{Record}
+use Rattle.network.specs.declared.Record.the-variants.{Empty, Baseline as baseline, Height as height}
+
+unfoldable pub recordOf : ℕ → List ℤ → ℕ → Record
+recordOf zero w at =
+    baseline
+    (record {
+      from = getD w (at + 1) (pos 0);
+      to = getD w (at + 2) (pos 0);
+      east = getD w (at + 3) (pos 0);
+      north = getD w (at + 4) (pos 0);
+      up = getD w (at + 5) (pos 0);
+      ee = getD w (at + 6) (pos 0);
+      en = getD w (at + 7) (pos 0);
+      eu = getD w (at + 8) (pos 0);
+      nn = getD w (at + 9) (pos 0);
+      nu = getD w (at + 10) (pos 0);
+      uu = getD w (at + 11) (pos 0);
+    })
+recordOf (suc zero) w at =
+    height (record { from = getD w (at + 1) (pos 0); to = getD w (at + 2) (pos 0); up = getD w (at + 5) (pos 0); weight = getD w (at + 11) (pos 0) })
+recordOf (suc (suc k)) w at = Empty
+
+-- the record whose first word is at index at
+abbrev pub recordIn : List ℤ → ℕ → Record
+recordIn w at = recordOf (indexIn (getD w at (pos 0)) 2) w at
