@@ -6,4 +6,3 @@ pub mod LeftInverse
 pub mod Follows
 pub mod Exactly
 pub mod Promises
-pub mod Examples

@@ -1,14 +1,20 @@
-// Runs the cases of document 01's "Both sides of each line" that need no text, and the limits around them, through edits and check_sheet. A line names the case, then
-// gives the numbers of its refused edits, the answer's number (and the unknown of an 11) and, where it is accepted, the sheet's words with the lent word beyond, which is -1.
+// Runs the cases of document 01's "Both sides of each line" that need no text, and the limits around them, through edits and check_sheet: first those that are proved, then the
+// others. A line names the case, then come the answers to its edits (of the others, the numbers of refused ones), the answer's number (and the unknown of an 11) and, where it is
+// accepted, the sheet's words with the lent ones beyond, which are -1.
 mod shown;
 
 use book::Book;
 use network::Baseline;
 use network::Level;
 use network::Record;
+use shown::edits;
+use shown::print_answer;
 use shown::refused;
 use shown::show;
 use shown::title;
+ghost use Prim.Native.Nat.{_<_};
+ghost use lib.ListN.{length};
+ghost use Rattle.cases.specs.Table.{table};
 
 fn opened(list: &[i64]) -> Book {
     let e = Book::open(list);
@@ -104,49 +110,51 @@ fn answer(book: Book, x: i64, m: i64, long: usize) {
     show(book, &xs, &ms, long);
 }
 
-fn as_printed() {
-    title(b"as printed");
-    answer(printed(1100), 50, 5368709, 26);
-    title(b"X 51");
-    answer(printed(1100), 51, 5368709, 26);
-    title(b"M 0");
-    answer(printed(1100), 50, 0, 26);
-    title(b"no records");
-    answer(two(), 50, 5368709, 26);
+// The cases that are proved, by the table of the crate cases.
+fn case_title(k: usize) {
+    match k {
+        0 => title(b"as printed"),
+        1 => title(b"X 51"),
+        2 => title(b"M 0"),
+        3 => title(b"no records"),
+        4 => title(b"replaced by 1200, X 50"),
+        5 => title(b"replaced by 1200, X 100"),
+        6 => title(b"undone, X 50"),
+        7 => title(b"undo on a new book"),
+        8 => title(b"1276, X 138"),
+        9 => title(b"1278, X 139"),
+        10 => title(b"difference 101000"),
+        11 => title(b"difference 101001"),
+        12 => title(b"EN 100"),
+        _ => title(b"EN 99"),
+    }
+}
+
+// Case k, with four lent answers and 33 lent words, each of them -1 before.
+fn show_case(k: usize)
+    requires { ⌜ k < length table ⌝ }
+{
+    case_title(k);
+    let mut answers = [-1i64; 4];
+    let mut sheet = [-1i64; 33];
+    let answer = cases::run_case(k, &mut answers, &mut sheet);
+    edits(&answers);
+    print_answer(answer, &sheet);
+}
+
+fn proved_cases() {
+    let mut k: usize = 0;
+    while k < 14 {
+        show_case(k);
+        k = k + 1;
+    }
+}
+
+fn sheet_room() {
     title(b"sheet one word short");
     answer(printed(1100), 50, 5368709, 24);
     title(b"sheet of just the room");
     answer(printed(1100), 50, 5368709, 25);
-}
-
-fn replaced() {
-    title(b"record 2 replaced by 1200, X 50");
-    let b = relevel(printed(1100), 2, 1, 2, 1200, 100);
-    answer(b, 50, 5368709, 26);
-    title(b"X 100");
-    answer(b, 100, 5368709, 26);
-    title(b"undone, X 50");
-    answer(undone(b), 50, 5368709, 26);
-    title(b"undo on a new book");
-    answer(undone(two()), 50, 5368709, 26);
-}
-
-fn local_test() {
-    title(b"record 2 as 1276, X 138");
-    answer(printed(1276), 138, 5368709, 26);
-    title(b"record 2 as 1278, X 139");
-    answer(printed(1278), 139, 5368709, 26);
-}
-
-fn limits() {
-    title(b"difference 101000");
-    answer(level(two(), 1, 1, 2, 101000, 100), 100000, 10737418, 26);
-    title(b"difference 101001");
-    answer(level(two(), 1, 1, 2, 101001, 100), 100000, 10737418, 26);
-    title(b"weights 100, 100, 100 with EN 100");
-    answer(baseline(two(), 1, 1, 2, 100), 0, 10737418, 26);
-    title(b"weights 100, 100, 100 with EN 99");
-    answer(baseline(two(), 1, 1, 2, 99), 0, 10737418, 26);
 }
 
 // Ten height differences of one unknown: nine degrees of freedom. The last two weigh v and w, the others 100.
@@ -291,54 +299,10 @@ fn disconnected() {
     ));
 }
 
-// x of 0 to 2 numbers and M of 0 to 3: of one unknown only 1 and 1 are right.
-fn lengths() {
-    let xs = [50i64, 50];
-    let ms = [5368709i64, 5368709, 5368709];
-    let b = printed(1100);
-    title(b"x of 0 numbers, M of 0 to 3");
-    show(b, &xs[0..0], &ms[0..0], 26);
-    show(b, &xs[0..0], &ms[0..1], 26);
-    show(b, &xs[0..0], &ms[0..2], 26);
-    show(b, &xs[0..0], &ms[0..3], 26);
-    title(b"x of 1 number, M of 0 to 3");
-    show(b, &xs[0..1], &ms[0..0], 26);
-    show(b, &xs[0..1], &ms[0..1], 26);
-    show(b, &xs[0..1], &ms[0..2], 26);
-    show(b, &xs[0..1], &ms[0..3], 26);
-    title(b"x of 2 numbers, M of 0 to 3");
-    show(b, &xs[0..2], &ms[0..0], 26);
-    show(b, &xs[0..2], &ms[0..1], 26);
-    show(b, &xs[0..2], &ms[0..2], 26);
-    show(b, &xs[0..2], &ms[0..3], 26);
-}
-
-fn extremes() {
-    let b = printed(1100);
-    title(b"x at its limits");
-    answer(b, 100000, 5368709, 26);
-    answer(b, 100001, 5368709, 26);
-    answer(b, -100000, 5368709, 26);
-    answer(b, -100001, 5368709, 26);
-    answer(b, 9223372036854775807, 5368709, 26);
-    answer(b, -9223372036854775808, 5368709, 26);
-    title(b"M at its limits");
-    answer(b, 50, 17179869184, 26);
-    answer(b, 50, 17179869185, 26);
-    answer(b, 50, -17179869184, 26);
-    answer(b, 50, -17179869185, 26);
-    answer(b, 50, 9223372036854775807, 26);
-    answer(b, 50, -9223372036854775808, 26);
-}
-
 fn main() {
-    as_printed();
-    replaced();
-    local_test();
-    limits();
+    proved_cases();
+    sheet_room();
     nine_degrees();
     history();
     disconnected();
-    lengths();
-    extremes();
 }

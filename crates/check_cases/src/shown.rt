@@ -53,7 +53,14 @@ fn print_words(sheet: &[i64]) {
     }
 }
 
-fn print_answer(answer: Answer, sheet: &[i64]) {
+// The answers to edits.
+pub(crate) fn edits(answers: &[i64]) {
+    io::write_all(1, b" edits");
+    print_words(answers);
+    io::write_all(1, b"\n");
+}
+
+pub(crate) fn print_answer(answer: Answer, sheet: &[i64]) {
     field(acceptance::number(answer));
     let unknown = acceptance::unknown(answer);
     if unknown != 0 {

@@ -1,0 +1,133 @@
+-- The loop's invariant: the book is that after the first i rows, and the first i answers are those to them.
+use Prim.Native.Nat.{ℕ, _+_, _-_, _<_, _≤_}
+use mathlib.Core.Path.{_≡_, refl, sym, ap, ap₂, _∙_, subst}
+use mathlib.Core.Bool.{true}
+use mathlib.Core.List.{_++_}
+use native.Mathlib.Omega.{arith}
+use borrow.Author.Needs.{needs}
+use mir.Syntax.{w64}
+use mir.Facts.{toZ-ofZ}
+use denote.Ref.{now}
+use lib.IntN.{pos}
+use lib.ListN.{length, take, drop, getD, take-append-drop}
+use lib.Seq.{take-all}
+use Rattle.integers.specs.Tables.{length-tabulate, getD-tabulate}
+use Rattle.network.specs.Filling.{Mapped, starts, goes-on}
+use Rattle.book.specs.Run.{final-zero, answers, length-answers}
+use Rattle.book.specs.Book.{bookNext, bookSays, sound}
+use Rattle.book.specs.Rows.{nameless, names, rowNext, rowSays}
+use Rattle.book.specs.ReplayLaws.{filled, unfilled}
+use Rattle.cases.specs.Script.{numbers, callAt, rowsFrom}
+use Rattle.cases.proofs.Calls.{refusal-small, after, said, turn-says, turn-next}
+use Rattle.cases.proofs.make_calls.Statement.{statement}
+use Rattle.cases.proofs.make_calls.Tie as tie
+
+abbrev Inv-loop : tie.InvT-loop
+Inv-loop start count answers₀ state₀ i₀ answers state i =
+    (i ≤ count) × Mapped (pos 0) (length answers₀) (said state₀ (rowsFrom start count)) answers₀ answers i × (state ≡ after state₀ (take i (rowsFrom start count))) × (sound state ≡ true)
+
+abbrev μ-loop : tie.MeasureT-loop
+μ-loop start count answers₀ state₀ i₀ answers state i = count - i
+
+-- the rows
+rows-long : (start count : ℕ) → length (rowsFrom start count) ≡ count
+unfolding rowsFrom
+rows-long start count = length-tabulate count _
+
+row-at : (start count i : ℕ) → i < count → getD (rowsFrom start count) i nameless ≡ names (callAt (getD numbers (start + i) 0))
+unfolding rowsFrom
+row-at start count i h = getD-tabulate count _ i nameless h
+
+loop-holds : tie.Need-loop-holds Inv-loop μ-loop
+loop-holds c = (omega arith, starts (pos 0) _ _ _ refl, final-zero (rowNext bookNext) (c .args .book) (rowsFrom (c .args .start) (c .args .count)), c .pre .0)
+
+add-call : tie.Need-add-call Inv-loop μ-loop
+add-call c = search needs
+
+mul-call : tie.Need-mul-call Inv-loop μ-loop
+mul-call c = search needs
+
+array-read-call : tie.Need-array-read-call Inv-loop μ-loop
+array-read-call c = search needs
+
+call-requires : tie.Need-call-requires Inv-loop μ-loop
+call-requires c κs = c .before .loop .inv .3
+
+answer-of-requires : tie.Need-answer-of-requires Inv-loop μ-loop
+answer-of-requires c κs = refusal-small (c .before .before .loop .state) _ _ (c .call .ensures)
+
+mul-answer : tie.Need-mul-answer Inv-loop μ-loop
+mul-answer c = search needs
+
+slice-set-from-answer : tie.Need-slice-set-from-answer Inv-loop μ-loop
+slice-set-from-answer c = search needs
+
+add-i : tie.Need-add-i Inv-loop μ-loop
+add-i c = search needs
+
+loop-less : tie.Need-loop-less Inv-loop μ-loop
+loop-less c = search needs
+
+loop-again : tie.Need-loop-again Inv-loop μ-loop
+unfolding numbers
+loop-again c =
+    let t = c .before .before .before .before in
+    let s = t .before in
+    let rows = rowsFrom (s .args .start) (s .args .count) in
+    let e = c .before .before .call in
+    let i = t .loop .i in
+    let h : i < s .args .count = omega arith in
+    let inside : i < length rows = let z : length rows ≡ s .args .count = rows-long (s .args .start) (s .args .count) in omega arith in
+    let row = row-at (s .args .start) (s .args .count) i h in
+    let room : s .args .count ≤ length (now (s .args .answers)) = s .pre .2 in (
+      omega arith,
+      goes-on (pos 0) _ (said (s .args .book) rows) (now (s .args .answers)) (t .loop .answers) i _ (omega arith) (t .loop .inv .1)
+          (toZ-ofZ {w = w64} {z = c .before .answer-of .result} (search needs)
+          ∙ c .before .answer-of .ensures
+          ∙ turn-says (s .args .book) rows i inside (callAt (getD numbers (s .args .start + i) 0)) row (t .loop .state) (t .loop .inv .2) (e .result) (e .ensures)),
+      turn-next (s .args .book) rows i inside (callAt (getD numbers (s .args .start + i) 0)) row (t .loop .state) (t .loop .inv .2) (e .result) (e .ensures),
+      e .ensures .1,
+    )
+
+same-length : tie.Need-same-length Inv-loop μ-loop
+same-length c = c .before .loop .inv .1 .long
+
+returns : tie.Need-returns Inv-loop μ-loop
+returns c =
+    let t = c .before in
+    let s = t .before in
+    let n = s .args .count in
+    let rows = rowsFrom (s .args .start) n in
+    let long : length rows ≡ n = rows-long (s .args .start) n in
+    let all : t .loop .i ≡ n = omega arith in
+    let p : Mapped (pos 0) (length (now (s .args .answers))) (said (s .args .book) rows) (now (s .args .answers)) (t .loop .answers) n =
+    subst (λ (k : ℕ). Mapped (pos 0) (length (now (s .args .answers))) (said (s .args .book) rows) (now (s .args .answers)) (t .loop .answers) k) all (t .loop .inv .1) in
+    record {
+      answered =
+          sym (take-append-drop n (t .loop .answers))
+          ∙ ap₂ _++_
+          (filled _ _ _ _ (answers (rowNext bookNext) (rowSays bookSays) (s .args .book) rows) n (s .pre .2) p (length-answers (rowNext bookNext) (rowSays bookSays) (s .args .book) rows ∙ long) (λ i h. refl))
+          (unfilled _ _ _ _ n refl p ∙ ap (λ (k : ℕ). drop k (now (s .args .answers))) (sym long));
+      left = t .loop .inv .2 ∙ ap (after (s .args .book)) (take-all (t .loop .i) rows (omega arith));
+      sound = t .loop .inv .3;
+    }
+
+pub make-calls-spec : {M : Type 1} → statement M
+make-calls-spec =
+    tie.close
+    (tie.spec
+    Inv-loop
+    μ-loop
+    loop-holds
+    add-call
+    mul-call
+    array-read-call
+    call-requires
+    answer-of-requires
+    mul-answer
+    slice-set-from-answer
+    add-i
+    loop-less
+    loop-again
+    same-length
+    returns)

@@ -1,0 +1,91 @@
+-- The ledger's answers, computed. Refusal 9 looks at every entry of N and u and never comes, so it is left out here; what is left is computed in few steps. Assumes nothing.
+use Prim.Native.Nat.{ℕ, _<_}
+use mathlib.Core.Path.{_≡_, refl, sym, ap, _∙_}
+use mathlib.Core.Bool.{Bool, true, false, cond}
+use mathlib.Core.List.{List}
+use borrow.Author.Tests.{ltb-true}
+use lib.IntN.{ℤ}
+use Rattle.words.specs.SignedLaws.{index-test}
+use Rattle.network.specs.Stations.{networkFits}
+use Rattle.network.specs.Records.{recordAt}
+use Rattle.network.specs.Rules.{inList, recordNo}
+use Rattle.network.specs.declared.Network.{Network}
+use Rattle.network.specs.declared.Record.{Record}
+use Rattle.book.specs.declared.Book.{Book}
+use Rattle.book.specs.Calls.{Call, add, replace, strike, undo, placeOf, placesOf, first, placeNo, filledNo, emptyNo, undoNo, callNo, unless}
+use Rattle.book.specs.Run.{final, answers, Alike, run-answers, run-final}
+use Rattle.book.specs.Rows.{Row, names, nameless, rowNext, rowSays}
+use Rattle.book.specs.Book.{openedBook, bookNext, bookSays}
+use Rattle.book.specs.Ledger.{Ledger, nothing, standing, accepted, ledgerSays}
+use Rattle.book.specs.SizeLaws.{add-says, replace-says}
+use Rattle.book.specs.Follows.{Follows, says, follows-next, follows-opened}
+use Rattle.book.specs.PlaceLaws.{is-placesOf}
+use Rattle.book.specs.Demand.{bookAfter, bookAnswers}
+
+-- the number of a call on a ledger, 9 left out
+unfoldable pub briefNo : Network → Ledger → Call → ℕ
+briefNo net l (add p r) = first (placeNo p) (first (recordNo net r) (filledNo (standing (l .edits) (placeOf p))))
+briefNo net l (replace p r) = first (placeNo p) (first (recordNo net r) (emptyNo (standing (l .edits) (placeOf p))))
+briefNo net l (strike p) = first (placeNo p) (emptyNo (standing (l .edits) (placeOf p)))
+briefNo net l undo = undoNo (l .count)
+
+abbrev pub briefNext : Network → Ledger → Call → Ledger
+briefNext net l c = unless (briefNo net l c) l (accepted l c)
+
+abbrev pub briefAfter : Network → List Row → Ledger
+briefAfter net rows = final (rowNext (briefNext net)) nothing rows
+
+abbrev pub briefAnswers : Network → List Row → List ℤ
+briefAnswers net rows = answers (rowNext (briefNext net)) (rowSays (briefNo net)) nothing rows
+
+-- what is judged of the record at a place looks at the 256 places alone
+judged : (f g : ℕ → Record) → ((p : ℕ) → p < 256 → f p ≡ g p) → (h : Record → ℕ) (p : ℤ) → first (placeNo p) (h (f (placeOf p))) ≡ first (placeNo p) (h (g (placeOf p)))
+unfolding first placeNo
+judged f g same h p = go (inList 256 p) refl
+  where
+    go : (t : Bool) → inList 256 p ≡ t → first (cond t 0 2) (h (f (placeOf p))) ≡ first (cond t 0 2) (h (g (placeOf p)))
+    go true e = ap h (same (placeOf p) (ltb-true _ _ (index-test p 256 ∙ e)))
+    go false e = refl
+
+module _ (net : Network) (b : Book) (l : Ledger) (o : Follows net b l) where
+  brief-says : (c : Call) → bookSays b c ≡ briefNo net l c
+  unfolding briefNo callNo
+  brief-says (add p r) =
+      sym (add-says b (o .sound) p r)
+      ∙ ap (λ (n : Network). first (placeNo p) (first (recordNo n r) (filledNo (recordAt (b .places) (placeOf p))))) (o .network)
+      ∙ judged (recordAt (b .places)) (standing (l .edits)) (o .holds) (λ q. first (recordNo net r) (filledNo q)) p
+  brief-says (replace p r) =
+      sym (replace-says b (o .sound) p r)
+      ∙ ap (λ (n : Network). first (placeNo p) (first (recordNo n r) (emptyNo (recordAt (b .places) (placeOf p))))) (o .network)
+      ∙ judged (recordAt (b .places)) (standing (l .edits)) (o .holds) (λ q. first (recordNo net r) (emptyNo q)) p
+  brief-says (strike p) = says net b l o (strike p)
+  brief-says undo = says net b l o undo
+
+  brief-next : (c : Call) → Follows net (bookNext b c) (briefNext net l c)
+  brief-next c =
+      let e : ledgerSays net l c ≡ briefNo net l c = sym (says net b l o c) ∙ brief-says c in
+      rw (← e) (follows-next net b l o c)
+
+brief-row : (net : Network) (b : Book) (l : Ledger) (r : Row) → Follows net b l → rowSays bookSays b r ≡ rowSays (briefNo net) l r
+unfolding rowSays
+brief-row net b l (names c) o = ap lib.IntN.pos (brief-says net b l o c)
+brief-row net b l nameless o = refl
+
+brief-stays : (net : Network) (b : Book) (l : Ledger) (r : Row) → Follows net b l → Follows net (rowNext bookNext b r) (rowNext (briefNext net) l r)
+unfolding rowNext
+brief-stays net b l (names c) o = brief-next net b l o c
+brief-stays net b l nameless o = o
+
+alike : (net : Network) → Alike (rowNext bookNext) (rowSays bookSays) (rowNext (briefNext net)) (rowSays (briefNo net)) (Follows net)
+alike net = record { says-same = brief-row net; stays = brief-stays net }
+
+module _ (net : Network) (g : networkFits net ≡ true) (rows : List Row) where
+  pub brief-answers : bookAnswers net rows ≡ briefAnswers net rows
+  brief-answers = run-answers (rowNext bookNext) (rowSays bookSays) (rowNext (briefNext net)) (rowSays (briefNo net)) (Follows net) (alike net) (openedBook net) nothing rows (follows-opened net g)
+
+  pub brief-follows : Follows net (bookAfter net rows) (briefAfter net rows)
+  brief-follows = run-final (rowNext bookNext) (rowSays bookSays) (rowNext (briefNext net)) (rowSays (briefNo net)) (Follows net) (alike net) (openedBook net) nothing rows (follows-opened net g)
+
+  -- the records in force
+  pub brief-places : bookAfter net rows .places ≡ placesOf (standing (briefAfter net rows .edits))
+  brief-places = is-placesOf (bookAfter net rows .places) (standing (briefAfter net rows .edits)) (brief-follows .sound .places) (brief-follows .holds)

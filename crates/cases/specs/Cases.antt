@@ -1,0 +1,85 @@
+-- What a case of the table says of the calls that ship, by the definitions that their contracts equal. Assumes nothing.
+--   opens, bookAnswers, bookAfter   the opening and the calls of a book, one after the other: what `replay` promises
+--   checked, sheetAfter             the answer to a check and the lent words afterwards: what `check` and `check_sheet` promise
+use Prim.Native.Nat.{ℕ, _-_, _≤_, _<_}
+use mathlib.Core.Path.{_≡_}
+use mathlib.Core.Bool.{true}
+use mathlib.Core.List.{List, [], _∷_, _++_, map}
+use lib.IntN.{ℤ, pos}
+use lib.ListN.{length, getD, drop, replicate}
+use Rattle.network.specs.Stations.{networkOf, opens}
+use Rattle.network.specs.declared.Network.{Network}
+use Rattle.network.specs.Records.{vacant}
+use Rattle.network.specs.declared.Record.{Record}
+use Rattle.network.specs.declared.Place.{Place}
+use Rattle.acceptance.specs.declared.Answer.{Answer}
+use Rattle.acceptance.specs.Tests.{at, refinement}
+use Rattle.acceptance.specs.Exactly.{n, N, u, rows}
+use Rattle.book.specs.declared.Book.{Book}
+use Rattle.book.specs.Book as spec
+use Rattle.book.specs.Run.{final, answers}
+use Rattle.book.specs.Rows.{Row, names, rowNext, rowSays}
+use Rattle.book.specs.Book.{bookNext, bookSays}
+use Rattle.book.specs.Demand.{bookAnswers, bookAfter}
+use Rattle.checks.specs.Checks.{checked, hasRoom, sheetAfter}
+use Rattle.cases.specs.Table.{Case, stationList, printed, asPrinted, table}
+
+-- the calls as rows of a run, and the book that they leave
+abbrev pub rowsOf : Case → List Row
+rowsOf c = map names (c .calls)
+
+abbrev pub bookOf : Case → Book
+bookOf c = bookAfter (networkOf stationList) (rowsOf c)
+
+-- X and M as lent
+abbrev pub xOf : Case → List ℤ
+xOf c = c .x ∷ []
+
+abbrev pub mOf : Case → List ℤ
+mOf c = c .m ∷ []
+
+-- entry i of Mr, on a network and its places
+abbrev pub refinedAt : Network → List Place → List ℤ → List ℤ → ℕ → ℤ
+refinedAt net places x m i = refinement (n net) (N net places) (rows net m) (u net places) (at x) i
+
+-- the 256 places that hold these records from the first on, and nothing beyond
+unfoldable pub filled : List Record → List Place
+filled records = map (λ r. record { entry = r }) records ++ replicate (256 - length records) vacant
+
+-- no case's sheet takes more words
+abbrev pub enough : ℕ
+enough = 32
+
+pub record Holds (c : Case) : Type 0 where
+  pub opened : opens stationList ≡ true
+  pub answered : bookAnswers (networkOf stationList) (rowsOf c) ≡ map pos (c .answers)
+  pub records : bookOf c .places ≡ filled (c .records)
+  pub refined : refinedAt (bookOf c .network) (bookOf c .places) (xOf c) (mOf c) 0 ≡ c .refined
+  -- without a sheet, and with one of any words that are enough: words beyond stay
+  pub check : checked (bookOf c) (xOf c) (mOf c) true ≡ c .answer
+  pub checkSheet : (lent : List ℤ) → enough ≤ length lent → checked (bookOf c) (xOf c) (mOf c) (hasRoom (bookOf c) lent) ≡ c .answer
+  pub written : (lent : List ℤ) → enough ≤ length lent → sheetAfter (bookOf c) (xOf c) (mOf c) lent ≡ c .sheet ++ drop (length (c .sheet)) lent
+
+-- case k of the table, counted from 0; beyond its last it is the first again
+abbrev pub first : Case
+first = asPrinted (printed 1100) (0 ∷ 0 ∷ [])
+
+abbrev pub caseAt : ℕ → Case
+caseAt k = getD table k first
+
+-- the one statement
+abbrev pub CasesHold : Type 0
+CasesHold = (k : ℕ) → k < length table → Holds (caseAt k)
+
+-- ════ what a run of a case gives
+-- rows answered in turn, at the front of a lent list, and the book that they leave
+pub record CallsMade (b : Book) (rows : List Row) (before after : List ℤ) (last : Book) : Type 0 where
+  pub answered : after ≡ answers (rowNext bookNext) (rowSays bookSays) b rows ++ drop (length rows) before
+  pub left : last ≡ final (rowNext bookNext) b rows
+  pub sound : spec.sound last ≡ true
+
+-- the calls answered and the check: the answers and the sheet at the front of the lent words
+pub record Ran (c : Case) (answers answers′ sheet sheet′ : List ℤ) (answer : Answer) : Type 0 where
+  pub answered : answers′ ≡ map pos (c .answers) ++ drop (length (c .answers)) answers
+  pub checked : answer ≡ c .answer
+  pub written : sheet′ ≡ c .sheet ++ drop (length (c .sheet)) sheet

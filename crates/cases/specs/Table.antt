@@ -1,0 +1,158 @@
+-- Document 01, "Both sides of each line": the lines marked *, as one table. "All start from the network above", that of the night print. Assumes nothing.
+use Prim.Native.Nat.{ℕ, _+_}
+use mathlib.Core.List.{List, [], _∷_, _++_}
+use lib.IntN.{ℤ, pos, negℤ}
+use Rattle.network.specs.declared.Record.{Record}
+use Rattle.network.specs.declared.Record.the-variants.{Baseline as baseline, Height as height}
+use Rattle.acceptance.specs.declared.Answer.{Answer}
+use Rattle.acceptance.specs.declared.Answer.the-variants.{Accepted, Refused, Untied}
+use Rattle.book.specs.Calls.{Call, add, replace, undo}
+
+-- ════ the night print's lines
+-- "S 1 K 0 0 100000", "S 2 V 0 0 101000": four words a station: kind (1 known, 3 height), E, N, U
+unfoldable pub stationList : List ℤ
+stationList = pos 1 ∷ pos 0 ∷ pos 0 ∷ pos 100000 ∷ pos 3 ∷ pos 0 ∷ pos 0 ∷ pos 101000 ∷ []
+
+-- "H place 1 2 difference 100"
+abbrev pub levelOf : ℤ → Record
+levelOf difference = height (record { from = pos 1; to = pos 2; up = difference; weight = pos 100 })
+
+abbrev pub level : ℕ → Record
+level difference = levelOf (pos difference)
+
+-- "B place 1 2 0 0 1000 100 EN 0 100 0 100"
+abbrev pub baselineOf : ℤ → Record
+baselineOf en =
+    baseline
+    (record {
+      from = pos 1;
+      to = pos 2;
+      east = pos 0;
+      north = pos 0;
+      up = pos 1000;
+      ee = pos 100;
+      en = en;
+      eu = pos 0;
+      nn = pos 100;
+      nu = pos 0;
+      uu = pos 100;
+    })
+
+abbrev pub baselineWith : ℕ → Record
+baselineWith en = baselineOf (pos en)
+
+-- its two H lines, the second with a difference of the case's own
+abbrev pub printed : ℕ → List Call
+printed difference = add (pos 1) (level 1000) ∷ add (pos 2) (level difference) ∷ []
+
+-- ════ a case: what is called and checked, and what is expected of it
+pub record Case : Type 0 where
+  -- the calls after the opening, and X and M, one number each, that are checked then
+  pub calls : List Call
+  pub x : ℤ
+  pub m : ℤ
+  -- the number that each call is answered, 0 where it is not refused, and the records in force afterwards, from place 1 on
+  pub answers : List ℕ
+  pub records : List Record
+  -- the check's answer; its number and unknown are acceptance's numberOf and unknownOf: Untied 1 is 11, unknown 1
+  pub answer : Answer
+  -- the one entry of Mr, which test 7 bounds
+  pub refined : ℤ
+  -- the words on the sheet, none where the check is refused
+  pub sheet : List ℤ
+
+-- ════ the words of the sheets, line by line as the night print has them
+-- both stations: the height of 2 and its variance
+abbrev pub stationLines : ℕ → ℕ → List ℤ
+stationLines up variance =
+    pos 1 ∷ pos 0 ∷ pos 0 ∷ pos 100000 ∷ pos 0 ∷ pos 0 ∷ pos 0
+    ∷ pos 2 ∷ pos 0 ∷ pos 0 ∷ pos up ∷ pos 0 ∷ pos 0 ∷ pos variance
+    ∷ []
+
+-- a height difference: place, residual, verdict (0 PASS, 1 FAIL)
+abbrev pub levelLine : ℕ → ℤ → ℕ → List ℤ
+levelLine place residual verdict = pos place ∷ residual ∷ pos verdict ∷ []
+
+-- T, D, verdict (0 PASS, 4 HIGH)
+abbrev pub globalLine : ℕ → ℕ → ℕ → List ℤ
+globalLine t d verdict = pos t ∷ pos d ∷ pos verdict ∷ []
+
+-- ════ the table
+-- the night print with X, its second difference, the verdict of both residuals and T as the case has them: accepted, and the sheet that is printed
+abbrev pub accepted : List Call → List ℕ → ℕ → ℕ → ℕ → ℕ → Case
+accepted calls answers second x verdict t =
+    record {
+      calls = calls;
+      x = pos x;
+      m = pos 5368709;
+      answers = answers;
+      records = level 1000 ∷ level second ∷ [];
+      answer = Accepted;
+      refined = pos 0;
+      sheet = (pos 2 ∷ pos 1 ∷ []) ++ stationLines (101000 + x) 5368709 ++ levelLine 1 (negℤ (pos x)) verdict ++ levelLine 2 (pos x) verdict ++ globalLine t 1 0;
+    }
+
+-- as it stands
+abbrev pub asPrinted : List Call → List ℕ → Case
+asPrinted calls answers = accepted calls answers 1100 50 0 500000
+
+-- one that is refused leaves the sheet
+abbrev pub refused : List Call → ℤ → ℤ → List ℕ → List Record → Answer → ℤ → Case
+refused calls x m answers records answer refined =
+    record { calls = calls; x = x; m = m; answers = answers; records = records; answer = answer; refined = refined; sheet = [] }
+
+unfoldable pub table : List Case
+table =
+    -- "As printed, accepted."
+    asPrinted (printed 1100) (0 ∷ 0 ∷ [])
+    -- "X 51: Mr is −1073741800, refused 16."
+    ∷ refused (printed 1100) (pos 51) (pos 5368709) (0 ∷ 0 ∷ []) (level 1000 ∷ level 1100 ∷ []) (Refused 16) (negℤ (pos 1073741800))
+    -- "M 0: 14."
+    ∷ refused (printed 1100) (pos 50) (pos 0) (0 ∷ 0 ∷ []) (level 1000 ∷ level 1100 ∷ []) (Refused 14) (pos 0)
+    -- "No records: 11, unknown 1."
+    ∷ refused [] (pos 50) (pos 5368709) [] [] (Untied 1) (pos 0)
+    -- "Record 2 replaced by 1200: X 50 is refused 16, X 100 accepted with T 2000000."
+    ∷ refused (printed 1100 ++ replace (pos 2) (level 1200) ∷ []) (pos 50) (pos 5368709) (0 ∷ 0 ∷ 0 ∷ []) (level 1000 ∷ level 1200 ∷ []) (Refused 16) (pos 53687090000)
+    ∷ accepted (printed 1100 ++ replace (pos 2) (level 1200) ∷ []) (0 ∷ 0 ∷ 0 ∷ []) 1200 100 0 2000000
+    -- "Undo then: X 50 accepted again."
+    ∷ asPrinted (printed 1100 ++ replace (pos 2) (level 1200) ∷ undo ∷ []) (0 ∷ 0 ∷ 0 ∷ 0 ∷ [])
+    -- "Undo on a new book: 8."
+    ∷ refused (undo ∷ []) (pos 50) (pos 5368709) (8 ∷ []) [] (Untied 1) (pos 0)
+    -- "Record 2 as 1276, X 138: both PASS."
+    ∷ accepted (printed 1276) (0 ∷ 0 ∷ []) 1276 138 0 3808800
+    -- "As 1278, X 139: both FAIL, T 3864200, global PASS."
+    ∷ accepted (printed 1278) (0 ∷ 0 ∷ []) 1278 139 1 3864200
+    -- "Difference 101000 enters": as a third record, with the solution and the inverse of the three, rounded
+    ∷ record {
+      calls = printed 1100 ++ add (pos 3) (level 101000) ∷ [];
+      x = pos 33367;
+      m = pos 3579139;
+      answers = 0 ∷ 0 ∷ 0 ∷ [];
+      records = level 1000 ∷ level 1100 ∷ level 101000 ∷ [];
+      answer = Accepted;
+      refined = negℤ (pos 357913900);
+      sheet =
+          (pos 3 ∷ pos 1 ∷ []) ++ stationLines 134367 3579139
+          ++ levelLine 1 (negℤ (pos 33367)) 1 ++ levelLine 2 (negℤ (pos 33267)) 1 ++ levelLine 3 (pos 66633) 1
+          ++ globalLine 666000666700 2 4;
+    }
+    -- "101001 is refused 6", and changes nothing
+    ∷ asPrinted (printed 1100 ++ add (pos 3) (level 101001) ∷ []) (0 ∷ 0 ∷ 6 ∷ [])
+    -- "Weights 100, 100, 100 with EN 100: 5"
+    ∷ asPrinted (printed 1100 ++ add (pos 3) (baselineWith 100) ∷ []) (0 ∷ 0 ∷ 5 ∷ [])
+    -- "with EN 99: entered."
+    ∷ record {
+      calls = printed 1100 ++ add (pos 3) (baselineWith 99) ∷ [];
+      x = pos 33;
+      m = pos 3579139;
+      answers = 0 ∷ 0 ∷ 0 ∷ [];
+      records = level 1000 ∷ level 1100 ∷ baselineWith 99 ∷ [];
+      answer = Accepted;
+      refined = pos 357913900;
+      sheet =
+          (pos 3 ∷ pos 1 ∷ []) ++ stationLines 101033 3579139
+          ++ levelLine 1 (negℤ (pos 33)) 0 ++ levelLine 2 (pos 67) 0
+          ++ (pos 3 ∷ pos 0 ∷ pos 0 ∷ negℤ (pos 33) ∷ pos 0 ∷ pos 0 ∷ pos 0 ∷ [])
+          ++ globalLine 666700 4 0;
+    }
+    ∷ []

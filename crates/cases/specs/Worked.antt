@@ -1,0 +1,87 @@
+-- Each case worked out on the ledger's records, by computation. Assumes nothing.
+use mathlib.Core.Path.{_≡_, refl}
+use mathlib.Core.Bool.{Bool, true}
+use mathlib.Core.List.{List, [], _∷_, map}
+use lib.Dec.{leb}
+use lib.ListN.{replicate}
+use lib.IntN.{ℤ, pos}
+use Rattle.integers.specs.Tables.{tabulate}
+use Rattle.integers.specs.Sums.{sum, sumN}
+use Rattle.words.specs.Signed.{indexIn}
+use Rattle.network.specs.All.{allBelow}
+use Rattle.network.specs.Stations.{blank, networkOf, stationIn, kindAt, opens, wholeStations, kindsFit, coordinatesFit, unknownsFit, unknown, unknownIn, number, coordinate, coordinateIn}
+use Rattle.network.specs.Records.{fromOf, toOf, joins, weights, misclosures, misclosureAt}
+use Rattle.network.specs.Rules.{endsFit, baselineInRange, heightInRange, minorsPositive, adjugateFits, matrixFits, misclosureFits, recordNoOver, recordNo, isEmpty}
+use Rattle.network.specs.declared.Kind.the-variants.{Known, Height}
+use Rattle.network.specs.declared.Network.{Network}
+use Rattle.network.specs.declared.Place.{Place}
+use Rattle.normals.specs.Formulas.{entryN, entryU, shareN, shareU, A, isUnknown}
+use Rattle.chains.specs.Chains.{allTied, isTied, tiedSet, edge, acts, firstUntied}
+use Rattle.chains.specs.Search.{search, pass, join}
+use Rattle.chains.specs.Bits.{setOf, setBit, digit, workedOut}
+use Rattle.chains.specs.Scans.{firstFailing}
+use Rattle.acceptance.specs.declared.Answer.{Answer}
+use Rattle.acceptance.specs.Tests.{lengthsFit, correctionsSmall, inverseSmall, defectSmall, residualSmall, refinementSmall}
+use Rattle.acceptance.specs.Judge.{judge, judgeNumbers}
+use Rattle.acceptance.specs.Exactly.{answer}
+use Rattle.book.specs.Calls.{placesOf, first, placeNo, filledNo, emptyNo, undoNo, unless}
+use Rattle.book.specs.Run.{final, answers}
+use Rattle.book.specs.Rows.{rowNext, rowSays}
+use Rattle.book.specs.Ledger.{standing, accepted}
+use Rattle.sheet.specs.Residuals.{correction, adjusted, covariance, residual, shareT, T, observations, isRecord, recordCount, D, observationVariance, differenceVariance, residualVariance, adjugate}
+use Rattle.sheet.specs.Verdicts.{verdictWord, localVerdict, globalVerdict, chiSquare}
+use Rattle.sheet.specs.Sheet.{stationWords, verdictAt, recordWords, stationLines, recordLines, globalWords, sheetWords, wordsOf, room}
+use Rattle.checks.specs.Checks.{onAcceptance}
+use Rattle.cases.specs.Table.{Case, stationList, table}
+use Rattle.cases.specs.Cases.{filled, rowsOf, xOf, mOf, refinedAt, enough}
+use Rattle.cases.specs.Brief.{briefNo, briefAfter, briefAnswers}
+
+-- ════ a case worked out on the ledger's records
+pub record Outcome : Type 0 where
+  pub answered : List ℤ
+  pub refined : ℤ
+  pub answer : Answer
+  pub fits : Bool
+  pub sheet : List ℤ
+
+abbrev pub placesIn : Network → Case → List Place
+placesIn net c = placesOf (standing (briefAfter net (rowsOf c) .edits))
+
+unfoldable pub workedOn : Network → List Place → Case → Outcome
+workedOn net places c =
+    record {
+      answered = briefAnswers net (rowsOf c);
+      refined = refinedAt net places (xOf c) (mOf c) 0;
+      answer = answer net places (xOf c) (mOf c) true;
+      fits = leb (room net places) enough;
+      sheet = onAcceptance (c .answer) (sheetWords net places (xOf c) (mOf c)) [];
+    }
+
+unfoldable pub expected : Case → Outcome
+expected c = record { answered = map pos (c .answers); refined = c .refined; answer = c .answer; fits = true; sheet = c .sheet }
+
+-- ════ every case of the table at once, by computation
+unfoldable pub network : Network
+network =
+    record {
+      count = 2;
+      stations = record { kind = Known; east = pos 0; north = pos 0; up = pos 100000 }
+          ∷ record { kind = Height; east = pos 0; north = pos 0; up = pos 101000 }
+          ∷ replicate 30 blank;
+    }
+
+pub network-is : networkOf stationList ≡ network
+unfolding network networkOf stationList stationIn kindAt indexIn tabulate
+network-is = refl
+
+pub list-opens : opens stationList ≡ true
+unfolding opens stationList wholeStations kindsFit coordinatesFit unknownsFit allBelow coordinate coordinateIn number sumN unknown unknownIn networkOf stationIn kindAt indexIn tabulate
+list-opens = refl
+
+pub all-places : map (placesIn network) table ≡ map (λ c. filled (c .records)) table
+unfolding filled network table final rowNext briefNo first placeNo filledNo emptyNo undoNo recordNo recordNoOver endsFit baselineInRange heightInRange minorsPositive adjugateFits matrixFits misclosureFits misclosures misclosureAt fromOf toOf indexIn tabulate coordinate coordinateIn allBelow standing accepted unless isEmpty
+all-places = refl
+
+pub all-worked : map (λ c. workedOn network (filled (c .records)) c) table ≡ map expected table
+unfolding workedOn filled expected network table final answers rowNext rowSays briefNo first placeNo filledNo emptyNo undoNo recordNo recordNoOver endsFit baselineInRange heightInRange minorsPositive adjugateFits matrixFits misclosureFits misclosures misclosureAt fromOf toOf indexIn tabulate coordinate coordinateIn allBelow standing accepted unless isEmpty answer sum sumN entryN shareN entryU shareU A isUnknown unknown unknownIn number joins weights judge judgeNumbers lengthsFit correctionsSmall inverseSmall defectSmall residualSmall refinementSmall allTied isTied tiedSet edge acts firstUntied firstFailing search pass join setOf setBit digit workedOut onAcceptance room wordsOf stationWords verdictAt recordWords stationLines recordLines globalWords sheetWords verdictWord localVerdict globalVerdict chiSquare correction adjusted covariance residual shareT T observations isRecord recordCount D observationVariance differenceVariance residualVariance adjugate
+all-worked = refl
