@@ -13,7 +13,9 @@ def number(field):
     digits = field[1:] if field[:1] == b'-' else field
     if not digits or any(not 48 <= b <= 57 for b in digits):
         raise Unreadable
-    value = int(digits)
+    if len(digits.lstrip(b'0')) > 19:       # beyond 64 bits; leading zeros may run to any length
+        raise Unreadable
+    value = int(digits.lstrip(b'0') or b'0')
     value = -value if field[:1] == b'-' else value
     if not -2 ** 63 <= value < 2 ** 63:
         raise Unreadable
@@ -64,9 +66,9 @@ class Run:
 
     def apply(self, line):
         """The refusal number of an edit, 0 for none; Unreadable is raised."""
-        fields = line.split(b' ')
         if len(line) > 50_000:
             raise Unreadable
+        fields = line.split(b' ')
         head = fields[0]
         if head == b'S':
             if self.ledger is not None or len(fields) != 6 or fields[2] not in LETTERS:
@@ -97,7 +99,7 @@ class Run:
 
     def run(self, data):
         for k, line in enumerate(split(data), 1):
-            if line.split(b' ')[0] != b'S' and not self.open():
+            if line.split(b' ', 1)[0] != b'S' and not self.open():
                 return b''.join(self.out)
             try:
                 refused = self.apply(line)

@@ -136,22 +136,30 @@ def normals(net, records):
     return matrix, right
 
 
+# By the limits behind refusals 4 and 6 an entry of N or u is at most 256 records · 3 · 10,000 · 100,000, so an edit is never refused with 9.
+assert 256 * 3 * 10_000 * 100_000 < LIMIT
+
+
 class Ledger:
     """Document 01's plain ledger: standing edits in order, and how many can be taken back."""
 
     def __init__(self, net):
         self.net = net
-        self.edits = []           # (place, record or None)
+        self.edits = []           # the places of the standing edits, in order
+        self.entries = {}         # place -> what its standing edits put there, in order; None for a strike
         self.count = 0
 
+    def at(self, place):
+        """What the last standing edit of the place puts there; None where it is empty."""
+        entries = self.entries.get(place)
+        return entries[-1] if entries else None
+
     def records(self):
-        held = {}
-        for place, record in self.edits:
-            held[place] = record
-        return {p: held[p] for p in sorted(held) if held[p] is not None}
+        return {p: self.at(p) for p in sorted(self.entries) if self.at(p) is not None}
 
     def _enter(self, place, record):
-        self.edits.append((place, record))
+        self.edits.append(place)
+        self.entries.setdefault(place, []).append(record)
         self.count = min(self.count + 1, 64)
         return 0
 
@@ -161,13 +169,8 @@ class Ledger:
         number = record_number(self.net, record)
         if number:
             return number
-        if (place in self.records()) != filled:
+        if (self.at(place) is not None) != filled:
             return 7
-        after = dict(self.records())
-        after[place] = record
-        matrix, right = normals(self.net, after)
-        if any(abs(v) > LIMIT for row in matrix for v in row) or any(abs(v) > LIMIT for v in right):
-            return 9
         return self._enter(place, record)
 
     def add(self, place, record):
@@ -179,14 +182,14 @@ class Ledger:
     def strike(self, place):
         if not 1 <= place <= 256:
             return 2
-        if place not in self.records():
+        if self.at(place) is None:
             return 7
         return self._enter(place, None)
 
     def undo(self):
         if self.count == 0:
             return 8
-        self.edits.pop()
+        self.entries[self.edits.pop()].pop()
         self.count -= 1
         return 0
 

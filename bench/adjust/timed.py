@@ -1,0 +1,36 @@
+"""Times the program on the network alone and on the network with the edits after it; prints edit lines a second, by elapsed time and, for a machine that is not idle, by processor time.
+
+    timed.py PROGRAM NETWORK EDITS
+"""
+import resource
+import subprocess
+import sys
+import time
+
+
+def processor_time():
+    used = resource.getrusage(resource.RUSAGE_CHILDREN)
+    return used.ru_utime + used.ru_stime
+
+
+def best(program, data):
+    """The least elapsed and the least processor time of five runs, and what was printed."""
+    elapsed, used = [], []
+    for _ in range(5):
+        start, before = time.perf_counter(), processor_time()
+        done = subprocess.run([program], input=data, stdout=subprocess.PIPE, check=True)
+        elapsed.append(time.perf_counter() - start)
+        used.append(processor_time() - before)
+    return min(elapsed), min(used), done.stdout
+
+
+program, network, edits = sys.argv[1:]
+with open(network, 'rb') as a, open(edits, 'rb') as b:
+    head, tail = a.read(), b.read()
+alone, whole = best(program, head), best(program, head + tail)
+if b'REFUSED' in whole[2] or b'UNREADABLE' in whole[2]:
+    sys.exit('an edit was not accepted')
+count = tail.count(b'\n')
+for name, k in (('elapsed', 0), ('processor', 1)):
+    seconds = whole[k] - alone[k]
+    print('%d edit lines on a full book, %s time: %.0f lines a second, %.2f microseconds each' % (count, name, count / seconds, seconds / count * 1e6))

@@ -1,0 +1,432 @@
+"""Random inputs of the program, each made from its seed alone. Most are damaged: what people mistype, and numbers at the limits.
+
+    inputs.py SEED        writes that input to standard output
+"""
+import os
+import random
+import sys
+
+sys.path.insert(0, os.path.join(os.path.dirname(os.path.abspath(__file__)), '..', 'reference'))
+import lines
+import solve
+import survey
+
+LETTER = {survey.KNOWN: b'K', survey.FREE: b'F', survey.HEIGHT: b'V'}
+WORD = [2 ** 63 - 1, 2 ** 63, -2 ** 63, -2 ** 63 - 1, 2 ** 64, 10 ** 19, 10 ** 30]      # 64 bits from both sides
+LINE = 50_000                                                                            # bytes of the longest readable line
+
+
+def joined(*fields):
+    return b' '.join(f if isinstance(f, bytes) else b'%d' % f for f in fields)
+
+
+def station_line(number, row):
+    return joined(b'S', number, LETTER[row[0]], *row[1:])
+
+
+def record_line(place, r):
+    if isinstance(r, survey.Baseline):
+        return joined(b'B', place, r.start, r.end, *r.observed, *r.weights)
+    return joined(b'H', place, r.start, r.end, r.up, r.single)
+
+
+def weights(rng, scale):
+    """Six weights, mostly within the rules; strong correlations come near the limits of refusal 5."""
+    d = [rng.randint(1, scale) for _ in range(3)]
+    strength = rng.choice((0, 0.1, 0.5, 0.9))
+    off = [int(rng.uniform(-strength, strength) * (d[a] * d[b]) ** 0.5) for a, b in ((0, 1), (0, 2), (1, 2))]
+    return d[0], off[0], off[1], d[1], off[2], d[2]
+
+
+class Survey:
+    """Stations at random, and records between them."""
+
+    def __init__(self, rng, count, scale, noise=None):
+        """Without a noise, as large as the weights say: a standard deviation is 1,000 over the root of the weight."""
+        self.rng, self.scale, self.noise = rng, scale, noise or int(2_000 / (scale / 2) ** 0.5)
+        far = rng.choice((1_000, 10_000_000, 499_000_000))
+        self.rows = [(survey.KNOWN, *[rng.randint(-far, far) for _ in range(3)])]
+        for _ in range(count - 1):
+            kind = rng.choice((survey.KNOWN, survey.FREE, survey.FREE, survey.HEIGHT, survey.HEIGHT))
+            self.rows.append((kind, *[rng.randint(-far, far) for _ in range(3)]))
+
+    def lines(self):
+        return [station_line(k, row) for k, row in enumerate(self.rows, 1)]
+
+    def between(self, start, end):
+        """A record from one station to another, near the provisional difference."""
+        rng = self.rng
+        a, b = self.rows[start - 1], self.rows[end - 1]
+        seen = tuple(b[c] - a[c] + rng.randint(-self.noise, self.noise) for c in (1, 2, 3))
+        if rng.random() < 0.45:
+            return survey.Level(start, end, seen[2], rng.randint(1, self.scale))
+        return survey.Baseline(start, end, seen, weights(rng, self.scale))
+
+    def record(self):
+        return self.between(*self.rng.sample(range(1, len(self.rows) + 1), 2))
+
+    def chained(self):
+        """Baselines that join every station to an earlier one, then records at random."""
+        rng = self.rng
+        records = []
+        for end in range(2, len(self.rows) + 1):
+            start = rng.randrange(1, end)
+            r = self.between(start, end)
+            while isinstance(r, survey.Level) and self.rows[end - 1][0] == survey.FREE:
+                r = self.between(start, end)
+            records.append(r)
+        return records + [self.record() for _ in range(rng.randint(0, 2 * len(self.rows)))]
+
+
+def damaged(rng, line):
+    """The line with one mistake."""
+    fields = line.split(b' ')
+    k = rng.randrange(len(fields))
+    kind = rng.randrange(16)
+    if kind == 0:
+        fields[k] = b'%d' % rng.choice(WORD + [0, -1, 1, 33, 256, 257, 10_000, 10_001, 100_000, 100_001, 10 ** 9, 10 ** 9 + 1, -10 ** 9, -10 ** 9 - 1])
+    elif kind == 1:
+        fields[k] = rng.choice((b'', b'-', b'+1', b'--1', b'1-', b'1.0', b'1e3', b'0x10', b'\xd9\xa1', b'1\x00', b'a', b'S', b'\xff', b'1,000', b'-+1', b'- 1'))
+    elif kind == 2:
+        fields[k] = fields[k].replace(b'-', b'-000') if fields[k][:1] == b'-' else b'000' + fields[k]
+    elif kind == 3:
+        fields[k] = rng.choice((b'-0', b'0', b'-00', b'0000000000000000000000000000'))
+    elif kind == 4:
+        del fields[k]
+    elif kind == 5:
+        fields.insert(k, rng.choice((b'0', b'1', b'', b'K', b'H')))
+    elif kind == 6:
+        fields.append(rng.choice((b'', b'0', b'\r', b'7')))
+    elif kind == 7:
+        fields[-1] += b'\r'
+    elif kind == 8 and len(fields) > 1:
+        return b'\t'.join((b' '.join(fields[:k]), b' '.join(fields[k:])))
+    elif kind == 9:
+        fields[0] = rng.choice((b'h', b'R', b'RH', b'Q', b'', b'S', b's', b'D', b'U', b'X', b'M', b'HB', b'\x00', b'B', b'H'))
+    elif kind == 10:
+        return b' ' + line
+    elif kind == 11:
+        at = rng.randrange(len(line) + 1)
+        return line[:at] + bytes([rng.randrange(256)]).replace(b'\n', b'?') + line[at:]
+    elif kind == 12 and line:
+        at = rng.randrange(len(line))
+        return line[:at] + line[at + 1:]
+    elif kind == 13 and len(fields) > 1:
+        j = rng.randrange(len(fields))
+        fields[k], fields[j] = fields[j], fields[k]
+    elif kind == 14:
+        fields[k:k] = fields[k:k + 2]
+    elif kind == 15:
+        value = fields[k]
+        if value.lstrip(b'-').isdigit():
+            fields[k] = b'%d' % (int(value) + rng.choice((-1, 1, 100_000, -100_000, 100_001)))
+    return b' '.join(fields)
+
+
+def padded(rng, line, length):
+    """The line with zeros put before one of its numbers, so that it has this many bytes; the line itself where it has no number."""
+    fields = line.split(b' ')
+    at = [k for k, f in enumerate(fields) if f.isdigit()]
+    if not at or len(line) > length:
+        return line
+    k = rng.choice(at)
+    fields[k] = b'0' * (length - len(line)) + fields[k]
+    return b' '.join(fields)
+
+
+def edit(rng, book, places):
+    """An edit line at one of the places, whatever they hold."""
+    kind = rng.random()
+    place = rng.choice(places)
+    if kind < 0.35:
+        return record_line(place, book.record())
+    if kind < 0.55:
+        return b'R ' + record_line(place, book.record())
+    if kind < 0.75:
+        return b'D %d' % place
+    return b'U'
+
+
+def with_damage(rng, text, share):
+    return [damaged(rng, line) if rng.random() < share else line for line in text]
+
+
+def rounded_pair(text):
+    """The exact pair, rounded, of the network as the lines so far leave it; zeros of the right lengths where it is not tied, None where no book opens."""
+    run = lines.Run(lambda net, records: None)
+    run.run(b'\n'.join(text))
+    if run.ledger is None:
+        return None
+    net, records = run.ledger.net, run.ledger.records()
+    if survey.untied(net, records):
+        return [0] * net.n, [0] * (net.n * net.n)
+    return solve.rounded(*survey.normals(net, records))
+
+
+def spoilt_pair(rng, x, m):
+    """The pair with a mistake that one of tests 1 to 7 may see, or may let pass."""
+    x, m = list(x), list(m)
+    kind = rng.randrange(9)
+    i = rng.randrange(len(x))
+    k = rng.randrange(len(m))
+    if kind == 0:
+        x[i] += rng.choice((-1, 1))
+    elif kind == 1:
+        x[i] += rng.choice((-2, 2, 10, 1_000, 20_000))
+    elif kind == 2:
+        x[i] = rng.choice((100_000, 100_001, -100_000, -100_001, *WORD))
+    elif kind == 3:
+        m[k] += rng.choice((1, -1, 5, 1000, 2 ** 16, 2 ** 20, 2 ** 26, -2 ** 26))
+    elif kind == 4:
+        m[k] = rng.choice((0, 2 ** 34, 2 ** 34 + 1, -2 ** 34, -2 ** 34 - 1, *WORD))
+    elif kind == 5:
+        x = x[:-1] if rng.random() < 0.5 else x + [0]
+    elif kind == 6:
+        m = m[:-1] if rng.random() < 0.5 else m + [0]
+    elif kind == 7:
+        n = len(x)
+        j = rng.randrange(n)
+        m[i * n:i * n + n], m[j * n:j * n + n] = m[j * n:j * n + n], m[i * n:i * n + n]
+    else:
+        return rng.choice((([], []), (x, []), ([], m), (m, x)))
+    return x, m
+
+
+def solution(rng, text):
+    """Lines X and M for the network as the lines leave it: right, spoilt, one alone, twice, or damaged."""
+    pair = rounded_pair(text) or ([0], [0])
+    good = [joined(b'X', *pair[0]), joined(b'M', *pair[1])]
+    kind = rng.random()
+    if kind < 0.5:
+        return good
+    x, m = spoilt_pair(rng, *pair)
+    bad = [joined(b'X', *x), joined(b'M', *m)]
+    if kind < 0.75:
+        return bad
+    if kind < 0.85:
+        return bad + good if rng.random() < 0.5 else good + bad
+    if kind < 0.9:
+        return [rng.choice(good)]
+    return good + [damaged(rng, rng.choice(good))]
+
+
+def network(rng):
+    """A network people would enter, with mistakes among its lines, and a solution."""
+    book = Survey(rng, rng.choice((2, 2, 3, 3, 4, 5, 6)), rng.choice((5, 100, 10_000)), rng.choice((None, None, None, 2_000, 90_000)))
+    records = book.chained()
+    share = rng.choice((0, 0, 0.05, 0.3))
+    text = book.lines()
+    if rng.random() < 0.15:
+        text = with_damage(rng, text, 0.3)
+    text += with_damage(rng, [record_line(k, r) for k, r in enumerate(records, 1)], share)
+    text += with_damage(rng, [edit(rng, book, range(1, len(records) + 2)) for _ in range(rng.choice((0, 0, 3, 10)))], share)
+    answer = solution(rng, text)
+    if rng.random() < 0.2:
+        answer.insert(rng.randrange(len(answer) + 1), edit(rng, book, range(1, len(records) + 2)))
+    if rng.random() < 0.1:
+        text, answer = text[:len(book.rows)] + answer + text[len(book.rows):], []
+    return text + answer
+
+
+def editing(rng):
+    """Many edits at few places: the history runs full, and undos go beyond its start."""
+    book = Survey(rng, rng.choice((2, 3, 4)), 100)
+    places = rng.choice(([1], [1, 2], [1, 2, 3, 256], [0, 1, 2, 256, 257], list(range(1, 9))))
+    text = [edit(rng, book, places) for _ in range(rng.choice((10, 40, 80, 200)))]
+    if rng.random() < 0.4:
+        text += [b'U'] * rng.choice((5, 64, 70))
+        text += [edit(rng, book, places) for _ in range(rng.choice((0, 3, 80)))]
+    text = book.lines() + with_damage(rng, text, rng.choice((0, 0.02, 0.1)))
+    return text + solution(rng, text)
+
+
+def history(rng):
+    """Accepted edits, about as many as the history keeps or twice that, then about as many undos; then the same again."""
+    book = Survey(rng, 3, 100)
+    text, filled = book.lines(), {}
+    for _ in range(rng.choice((1, 2))):
+        undone = []
+        for _ in range(rng.choice((62, 63, 64, 65, 66, 67, 130))):
+            place = rng.randint(1, 5)
+            line = b'D %d' % place
+            if not filled.get(place) or rng.random() < 0.7:
+                start, end = rng.sample((1, 2, 3), 2)
+                up = book.rows[end - 1][3] - book.rows[start - 1][3] + rng.randint(-500, 500)
+                line = (b'R ' if filled.get(place) else b'') + record_line(place, survey.Level(start, end, up, rng.randint(1, 100)))
+            undone.append((place, filled.get(place)))
+            filled[place] = line[:1] != b'D'
+            text.append(line)
+        count = rng.choice((1, 62, 63, 64, 65, 66, 67))
+        text += [b'U'] * count
+        for place, before in list(reversed(undone))[:min(count, 64)]:
+            filled[place] = before
+    return text + solution(rng, text)
+
+
+def station_list(rng):
+    """A list of stations with mistakes in it, or one beyond the limits."""
+    kind = rng.randrange(6)
+    book = Survey(rng, rng.choice((1, 2, 3, 5)), 100, 1_000)
+    text = book.lines()
+    if kind == 0:
+        text = with_damage(rng, text, 0.5)
+    elif kind == 1:
+        count = rng.choice((31, 32, 33, 34, 40))
+        text = [station_line(k, (survey.KNOWN if k > 1 else survey.HEIGHT, k, k, k)) for k in range(1, count + 1)]
+    elif kind == 2:
+        free = rng.choice((15, 16, 17))
+        text = [station_line(k, (survey.FREE if k <= free else rng.choice((survey.KNOWN, survey.HEIGHT)), 0, 0, 0)) for k in range(1, free + rng.randint(0, 3) + 1)]
+    elif kind == 3:
+        k = rng.randrange(len(text))
+        text.insert(rng.randrange(len(text) + 1), text[k])
+    elif kind == 4:
+        row = (rng.choice((1, 2, 3)), *[rng.choice((500_000_000, -500_000_000, 500_000_001, -500_000_001, *WORD)) if rng.random() < 0.4 else 0 for _ in range(3)])
+        text.append(station_line(len(text) + 1, row))
+    else:
+        text.insert(rng.randrange(len(text) + 1), rng.choice((b'', b' ', b'U', b'X', b'M', b'D 1', b'\r', b'S', b'Q', b'S ', b's 1 K 0 0 0')))
+    text += [record_line(k, book.record()) for k in range(1, 4) if len(book.rows) > 1]
+    if rng.random() < 0.3:
+        text.append(station_line(len(book.rows) + 1, (survey.FREE, 0, 0, 0)))
+    return text + solution(rng, text)
+
+
+def broken_bytes(rng):
+    """A network's text with bytes put in, taken out and changed anywhere, line ends too."""
+    data = bytearray(b'\n'.join(network(rng)) + b'\n')
+    for _ in range(rng.choice((1, 1, 2, 5, 20))):
+        at = rng.randrange(len(data))
+        kind = rng.randrange(4)
+        if kind == 0:
+            data[at:at] = rng.choice((b'\n', b' ', b'\r', b'\t', b'\x00', b'-', b'0', b'9', b'S', b'\n\n', b'\r\n', b'\x0b', b'\xa0'))
+        elif kind == 1:
+            del data[at:at + rng.choice((1, 1, 3))]
+        elif kind == 2:
+            data[at] = rng.randrange(256)
+        else:
+            data[at] ^= 1 << rng.randrange(8)
+        if not data:
+            break
+    return bytes(data).split(b'\n')
+
+
+def tokens(rng):
+    """Fields of the language in any order."""
+    words = [b'S', b'H', b'B', b'R', b'D', b'U', b'X', b'M', b'K', b'F', b'V', b'1', b'2', b'0', b'-1', b'100', b'1000', b'-0', b'', b'9223372036854775808']
+    text = [b'S 1 K 0 0 0', b'S 2 V 0 0 1000', b'S 3 F 0 0 0'][:rng.choice((0, 2, 3, 3))]
+    for _ in range(rng.randint(1, 30)):
+        text.append(b' '.join(rng.choice(words) for _ in range(rng.choice((1, 1, 2, 2, 3, 6, 13)))))
+    return text
+
+
+def long_lines(rng):
+    """Lines about as long as may be read, and X and M about as many numbers as they take."""
+    book = Survey(rng, 3, 100, 1_000)
+    text = book.lines()
+    if rng.random() < 0.2:
+        text[-1] = padded(rng, text[-1], rng.choice((LINE, LINE + 1)))
+    body = [record_line(k, book.record()) for k in range(1, 6)] + [b'D 2', b'U', b'R ' + record_line(3, book.record())]
+    body = [padded(rng, line, rng.choice((LINE - 1, LINE, LINE, LINE + 1, LINE + 2, 70_000))) if rng.random() < 0.4 else line for line in body]
+    extra = rng.choice(([joined(b'X', *[0] * rng.choice((47, 48, 49, 50)))], [joined(b'M', *[7] * rng.choice((2303, 2304, 2305)))],
+                        [padded(rng, joined(b'M', *range(2304)), rng.choice((LINE, LINE + 1)))], [b'X' + b' ' * rng.choice((1, LINE - 1, LINE))],
+                        [b'Q' * rng.choice((LINE, LINE + 1, 200_000))], [b' ' * (LINE + 1)]))
+    body[rng.randrange(len(body)):0] = extra
+    return text + body + (solution(rng, text + body) if rng.random() < 0.7 else [])
+
+
+def proposed(rng):
+    """No X and no M: the engine proposes."""
+    book = Survey(rng, rng.choice((2, 3, 4, 5, 6, 8)), rng.choice((3, 100, 10_000)), rng.choice((None, None, 2_000, 60_000)))
+    records = book.chained() if rng.random() < 0.9 else [book.record()]
+    text = book.lines() + with_damage(rng, [record_line(k, r) for k, r in enumerate(records, 1)], rng.choice((0, 0, 0.1)))
+    if rng.random() < 0.2:
+        text.append(rng.choice((b'X 1 a', b'M -', b'X  1', b'x 0')))
+    return text
+
+
+def full_size(rng):
+    """32 stations, 48 unknowns, 256 records."""
+    book = Survey(rng, 32, 10_000, 2_000)
+    kinds = [survey.KNOWN] * 8 + [survey.FREE] * 12 + [survey.HEIGHT] * 12
+    book.rows = [(kind, *row[1:]) for kind, row in zip(kinds, book.rows)]
+    records = {}
+    while len(records) < 256:
+        r = book.record()
+        if not isinstance(r, survey.Baseline) or survey.record_number(survey.Network(survey.Station(*row) for row in book.rows), r) == 0:
+            records[len(records) + 1] = r
+    text = book.lines() + [record_line(k, r) for k, r in records.items()]
+    return text + (solution(rng, text) if rng.random() < 0.7 else [])
+
+
+KINDS = [(network, 34), (editing, 14), (history, 4), (station_list, 12), (broken_bytes, 16), (tokens, 8), (long_lines, 2), (proposed, 10)]
+WHEEL = [kind for kind, share in KINDS for _ in range(share)]
+FULL_EVERY = 500
+
+
+def made(seed):
+    """(kind, bytes)"""
+    rng = random.Random(seed)
+    kind = full_size if seed % FULL_EVERY == FULL_EVERY - 1 else WHEEL[seed % len(WHEEL)]
+    data = b'\n'.join(kind(rng))
+    return kind.__name__, data if rng.random() < 0.15 else data + b'\n'
+
+
+def levelling_line(count):
+    """Marks one after another from a known one, with weights 1: the last variance is as many times S, and the limit of M is 16 times S."""
+    text = [b'S 1 K 0 0 0'] + [b'S %d V 0 0 0' % k for k in range(2, count + 2)]
+    return b'\n'.join(text + [b'H %d %d %d 0 1' % (k, k, k + 1) for k in range(1, count + 1)]) + b'\n'
+
+
+# Inputs that a random one seldom hits.
+HEAD = b'S 1 K 0 0 100000\nS 2 V 0 0 101000\n'
+PAIR = b'H 1 1 2 1000 100\nH 2 1 2 1100 100\n'
+NAMED = {
+    'nothing at all': b'',
+    'an empty line': b'\n',
+    'empty lines': b'\n' * 5,
+    'a blank': b' ',
+    'a zero byte': b'\x00',
+    'a zero byte in a line': HEAD + b'U\x00\nH 1 1 2 1000\x00 100\n' + PAIR,
+    'no last line end': HEAD + PAIR + b'X 50\nM 5368709',
+    'CR before each line end': (HEAD + PAIR).replace(b'\n', b'\r\n'),
+    'tabs': (HEAD + PAIR).replace(b' ', b'\t'),
+    'a tab in a record': HEAD + PAIR.replace(b' 2 ', b'\t2 '),
+    'only stations': HEAD,
+    'only known stations': b'S 1 K 0 0 0\nS 2 K 0 0 0\n',
+    'a byte order mark': b'\xef\xbb\xbf' + HEAD + PAIR,
+    'S after the opening': HEAD + b'U\nS 3 V 0 0 0\n' + PAIR,
+    'S out of turn': b'S 2 K 0 0 0\nS 1 K 0 0 0\nS 1 K 0 0 0\nS 2 V 0 0 0\nH 1 1 2 0 1\n',
+    'S with another letter': b'S 1 k 0 0 0\nS 1 A 0 0 0\nS 1 K 0 0 0\nS 2 V 0 0 0\nH 1 1 2 0 1\n',
+    'an S line too long, then the list goes on': b'S 1 K 0 0 0\nS ' + b'0' * LINE + b'\nS 2 V 0 0 0\nH 1 1 2 0 1\n',
+    'a first line too long opens': b'Q' * (LINE + 1) + b'\nS 1 V 0 0 0\n',
+    '33 stations': b''.join(b'S %d V 0 0 0\n' % k for k in range(1, 34)) + PAIR,
+    'a hundred thousand stations': b''.join(b'S %d V 0 0 0\n' % k for k in range(1, 100_001)) + b'S 5 V 0 0 0\n',
+    'no station that can be read': b'S 1 K 0 0\nS 1 Q 0 0 0\nS 2 K 0 0 0\n',
+    'X of 48 and of 49 numbers': HEAD + PAIR + b'X' + b' 1' * 48 + b'\nX' + b' 1' * 49 + b'\nM 5368709\n',
+    'M of 2,304 and of 2,305 numbers': HEAD + PAIR + b'X 50\nM' + b' 1' * 2304 + b'\nM' + b' 1' * 2305 + b'\n',
+    'X alone': HEAD + PAIR + b'X 50\n',
+    'M alone': HEAD + PAIR + b'M 5368709\n',
+    'X and M empty': HEAD + PAIR + b'X\nM\n',
+    'X with a blank and no number': HEAD + PAIR + b'X \nM 5368709\n',
+    'an unreadable X after a readable one': HEAD + PAIR + b'X 50\nM 5368709\nX fifty\n',
+    'a later X': HEAD + PAIR + b'X 51\nM 5368709\nX 50\n',
+    'X first': HEAD + b'X 50\nM 5368709\n' + PAIR,
+    'R before others': HEAD + PAIR + b'R D 1\nR U\nR X 1\nR\nR R H 1 1 2 1000 100\nR S 3 K 0 0 0\nR H 1 1 2 1010 100\n',
+    'undo beyond': HEAD + PAIR + b'U\nU\nU\nU\n',
+    '65 edits and 66 undos': HEAD + b'H 1 1 2 1000 100\n' + b'R H 1 1 2 1001 100\n' * 64 + b'U\n' * 66,
+    '64-bit ends': HEAD + b'H 1 1 2 -9223372036854775808 100\nH 1 1 2 9223372036854775807 100\nH 1 1 2 9223372036854775808 100\nH 1 1 2 -9223372036854775809 100\n' + PAIR,
+    'leading zeros and -0': b'S 01 K -0 00 0100000\nS 0002 V 0 0 101000\nH 001 01 2 01000 0100\nH -0 1 2 1000 100\n',
+    'no proposal': HEAD,
+    'a correction at the limit': HEAD + b'H 1 1 2 101000 1\nH 2 1 2 101000 1\n',
+    'a correction beyond the limit': HEAD + b'S 3 V 0 0 102000\nH 1 1 2 101000 1\nH 2 2 3 101000 1\n',
+    'a correction beyond the limit, given': HEAD + b'S 3 V 0 0 102000\nH 1 1 2 101000 1\nH 2 2 3 101000 1\nX 100000 200000\nM 1073741824 1073741824 1073741824 2147483648\n',
+    'a variance at the limit': levelling_line(16),
+    'a variance beyond the limit': levelling_line(17),
+    'a closed line of 50,000 bytes': HEAD + b'H 1 1 2 ' + b'0' * (LINE - 16) + b'1000 100\nH 2 1 2 1100 100\nX 50\nM 5368709\n',
+    'a closed line of 50,001 bytes': HEAD + b'H 1 1 2 ' + b'0' * (LINE - 15) + b'1000 100\nH 2 1 2 1100 100\nX 100\nM 10737418\n',
+    'a last line of 50,001 bytes': HEAD + PAIR + b'X ' + b'0' * (LINE - 1),
+    '10 MB in one line': HEAD + b'H 1 1 2 ' + b'0' * 10_000_000 + b' 100\n' + PAIR + b'X 50\nM 5368709\n',
+    '10 MB without a line end': HEAD + PAIR + b'X 50\nM 5368709\n' + b'7' * 10_000_000,
+}
+
+if __name__ == '__main__':
+    sys.stdout.buffer.write(made(int(sys.argv[1]))[1])

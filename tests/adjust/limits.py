@@ -1,0 +1,48 @@
+"""Both sides of every limit of the global test: for each D from 1 to 30 a network whose T is just a limit, and one whose T is one less or one more.
+
+All records join a known station to one unknown height, both at 0, and the correction given is 0: a record's difference is its residual. It lies within what the check allows of the
+exact answer as long as the weighted residuals nearly cancel."""
+import inputs
+import solve
+import survey
+
+# The table as document 01 has it, lower/upper in thousandths.
+LIMITS = '''1/5024, 51/7378, 216/9348, 484/11143, 831/12833, 1237/14449, 1690/16013, 2180/17535, 2700/19023, 3247/20483, 3816/21920, 4404/23337, 5009/24736, 5629/26119, 6262/27488,
+6908/28845, 7564/30191, 8231/31526, 8907/32852, 9591/34170, 10283/35479, 10982/36781, 11689/38076, 12401/39364, 13120/40646, 13844/41923, 14573/43195, 15308/44461, 16047/45722, 16791/46979'''
+
+
+def pair(t):
+    """Two residuals of opposite signs with their weights, whose weighted squares are t and whose weighted sum is small."""
+    for v in range(1, 60):
+        a, b = v * v, (v + 1) * (v + 1)
+        for first in range(t * pow(a, -1, b) % b, 10_001, b):
+            second = (t - first * a) // b
+            if 1 <= first and 1 <= second <= 10_000 and 10 * abs(first * v - second * (v + 1)) <= 8 * (first + second):
+                return [(v, first), (-v - 1, second)]
+    raise ValueError('no pair for %d' % t)
+
+
+def records(d, t):
+    """D + 1 residuals with their weights, whose weighted squares are t."""
+    large = []
+    if d >= 3 and t > 4_000_000:
+        v = int(((t - 1_000_000) / 20_000) ** 0.5)
+        large = [(v, 10_000), (-v, 10_000)]
+    found = large + pair(t - sum(w * v * v for v, w in large))
+    return found + [(0, 1)] * (d + 1 - len(found))
+
+
+def network(d, t):
+    held = records(d, t)
+    text = [b'S 1 K 0 0 0', b'S 2 V 0 0 0'] + [inputs.joined(b'H', k, 1, 2, v, w) for k, (v, w) in enumerate(held, 1)]
+    return b'\n'.join(text + [b'X 0', inputs.joined(b'M', solve.nearest(survey.S, sum(w for _, w in held)))]) + b'\n'
+
+
+def cases():
+    """(input, its last line)"""
+    for d, limits in enumerate(LIMITS.split(','), 1):
+        lower, upper = (1000 * int(v) for v in limits.split('/'))
+        for t, word in ((lower - 1, 'LOW'), (lower, 'PASS'), (upper, 'PASS'), (upper + 1, 'HIGH')):
+            yield network(d, t), b'GLOBAL %d %d %s' % (t, d, word.encode())
+    for t in (1_000, 50_000_000):
+        yield network(31, t), b'GLOBAL %d 31 NONE' % t

@@ -1,0 +1,53 @@
+"""Runs the program on bytes, and says what it must print."""
+import os
+import subprocess
+import sys
+
+HERE = os.path.dirname(os.path.abspath(__file__))
+ROOT = os.path.dirname(os.path.dirname(HERE))
+PROGRAM = os.path.join(ROOT, 'target', 'bin', 'adjust')
+sys.path.insert(0, os.path.join(HERE, '..', 'reference'))
+import lines
+import proposals
+
+LIMIT = 60      # seconds that no run takes
+
+
+def output(data):
+    """What the program prints for these bytes; an error text or a status other than 0 is shown in it, and so is a wrong output."""
+    done = subprocess.run([PROGRAM], input=data, stdout=subprocess.PIPE, stderr=subprocess.PIPE, timeout=LIMIT, close_fds=False)
+    if done.returncode or done.stderr:
+        return done.stdout + b'(status %d) ' % done.returncode + done.stderr
+    return done.stdout
+
+
+def first_difference(got, want):
+    g, w = got.split(b'\n'), want.split(b'\n')
+    k = next((k for k, (a, b) in enumerate(zip(g, w)) if a != b), min(len(g), len(w)))
+
+    def shown(rows):
+        return rows[k][:200] if k < len(rows) else b'(nothing)'
+    return 'line %d is %r, not %r' % (k + 1, shown(g), shown(w))
+
+
+class Expected:
+    """What the reference prints for these bytes. Where the engine proposes, `network` is what it proposes for, and `messages` what stands before its sheet."""
+
+    def __init__(self, data):
+        self.network = None
+        self.run = lines.Run(self.propose)
+        self.text = self.run.run(data)
+
+    def propose(self, net, records):
+        self.network = net, records
+        self.messages = b''.join(self.run.out)
+        return proposals.rounded(net, records)
+
+    def difference(self, got):
+        """What is wrong with the printed bytes; None where nothing is. They are those of the reference; only a sheet that the engine proposed may differ, as
+        `proposals` says, and it may stand where the rounded exact pair fails a limit by which another accepted pair is within it."""
+        if got == self.text:
+            return None
+        if self.network is None or not got.startswith(self.messages + b'SHEET '):
+            return first_difference(got, self.text)
+        return proposals.judge(*self.network, got[len(self.messages):])

@@ -1,0 +1,183 @@
+"""The surveys printed in source documents 002 and 003, as stations and records of document 01.
+
+    documents.py NAME         writes the survey as input of the program
+
+Document 01's unit is 0.01 mm, and weight 1 a standard deviation of 1,000 units. A survey whose lengths do not fit that unit, or whose weights would round to 0, is entered in another
+unit here: then lengths are whole numbers of that unit, weight 1 is a standard deviation of 1,000 of them, and T over 1,000,000 is still the sum of squares of the document.
+"""
+import sys
+from fractions import Fraction
+
+import solve
+import survey
+
+# Document 002, Table 17.1 without its last baseline: from, to, differences in metres, covariance elements XX XY XZ YY YZ ZZ in square metres. The table gives F to A as
+# -4,355.9062 in Z, the listing further down -4355.8962; the printed coordinates, residuals and reference variance follow from the listing, so its figure stands here.
+TABLE_002 = '''
+A C 11644.2232 3601.2165 3399.2550 9.884E-4 -9.580E-6 9.520E-6 9.377E-4 -9.520E-6 9.827E-4
+A E -5321.7164 3634.0754 3173.6652 2.158E-4 -2.100E-6 2.160E-6 1.919E-4 -2.100E-6 2.005E-4
+B C 3960.5442 -6681.2467 -7279.0148 2.305E-4 -2.230E-6 2.070E-6 2.546E-4 -2.230E-6 2.252E-4
+B D -11167.6076 -394.5204 -907.9593 2.700E-4 -2.750E-6 2.850E-6 2.721E-4 -2.720E-6 2.670E-4
+D C 15128.1647 -6286.7054 -6371.0583 1.461E-4 -1.430E-6 1.340E-6 1.614E-4 -1.440E-6 1.308E-4
+D E -1837.7459 -6253.8534 -6596.6697 1.231E-4 -1.190E-6 1.220E-6 1.277E-4 -1.210E-6 1.283E-4
+F A -1116.4523 -4596.1610 -4355.8962 7.475E-5 -7.900E-7 8.800E-7 6.593E-5 -8.100E-7 7.616E-5
+F C 10527.7852 -994.9377 -956.6246 2.567E-4 -2.250E-6 2.400E-6 2.163E-4 -2.270E-6 2.397E-4
+F E -6438.1364 -962.0694 -1182.2305 9.442E-5 -9.200E-7 1.040E-6 9.959E-5 -8.900E-7 8.826E-5
+F D -4600.3787 5291.7785 5414.4311 9.330E-5 -9.900E-7 9.000E-7 9.875E-5 -9.900E-7 1.204E-4
+F B 6567.2311 5686.2926 6322.3917 6.643E-5 -6.500E-7 6.900E-7 7.465E-5 -6.400E-7 6.048E-5
+B F -6567.2310 -5686.3033 -6322.3807 5.512E-5 -6.300E-7 6.100E-7 7.472E-5 -6.300E-7 6.629E-5
+A F 1116.4577 4596.1553 4355.9141 6.619E-5 -8.000E-7 9.000E-7 8.108E-5 -8.200E-7 9.376E-5
+'''
+CONTROL_002 = {'A': ('402.35087', '-4652995.30109', '4349760.77753'), 'B': ('8086.03178', '-4642712.84739', '4360439.08326')}
+RESIDUALS_002 = '''
+0.00669 0.00203 0.03082
+0.02645 0.00582 0.01068
+0.00478 0.01153 -0.00511
+-0.00731 -0.00136 -0.00194
+-0.00081 -0.00801 -0.00037
+-0.01005 0.00268 0.00109
+0.00198 0.00524 -0.01563
+-0.00563 0.00047 -0.00140
+-0.00387 -0.00514 -0.00545
+-0.00561 -0.00232 0.00156
+-0.00051 0.00534 0.00220
+0.00041 0.00536 -0.01320
+-0.00738 0.00046 -0.00227
+'''
+ADJUSTED_002 = {'C': ('12046.58076', '-4649394.08256', '4353160.06335'), 'D': ('-3081.58313', '-4643107.36915', '4359531.12202'),
+                'E': ('-4919.33908', '-4649361.21987', '4352934.45341'), 'F': ('1518.80119', '-4648399.14533', '4354116.68936')}
+
+# Document 003, Table 3: mark 1, mark 2, X, Y, Z in metres, lower triangle of the variance matrix by rows: XX, YX YY, ZX ZY ZZ.
+TABLE_003 = '''
+26 23 -514.6419 -198.1707 415.4426 7.843397e-07 -6.374967e-07 1.135554e-06 5.704006e-07 -7.829256e-07 1.083241e-06
+26 22 -296.5955 145.9824 461.6305 4.395123e-07 -2.398766e-07 3.260701e-07 2.487716e-07 -2.461248e-07 4.525997e-07
+26 24 61.7913 317.7330 211.6262 3.443994e-07 -1.918564e-07 2.675435e-07 2.078026e-07 -2.246877e-07 4.216571e-07
+23 22 218.0438 344.1575 46.1858 1.078977e-06 -7.029027e-07 9.465813e-07 7.132949e-07 -7.109973e-07 1.097470e-06
+22 24 358.3865 171.7508 -250.0044 6.455877e-07 -3.771552e-07 4.988322e-07 4.081710e-07 -3.921777e-07 6.773083e-07
+23 24 576.4315 515.9078 -203.8178 1.415800e-06 -9.109323e-07 1.185005e-06 9.537250e-07 -9.403620e-07 1.468584e-06
+'''
+
+# Document 003, Tables 1 and 2: heights of the marks, and levelled differences with their standard deviations, in metres.
+HEIGHTS_003 = {'21': '103.70', '22': '104.20', '23': '104.10', '24': '103.60', '25': '102.80'}
+LEVELS_003 = '''
+21 22 0.506 0.010
+22 23 -0.045 0.011
+23 25 -1.320 0.011
+24 21 0.112 0.011
+25 24 0.754 0.015
+22 21 -0.506 0.010
+23 22 0.042 0.011
+25 23 1.318 0.011
+21 24 -0.112 0.011
+24 25 -0.740 0.015
+'''
+
+
+def whole(metres, unit):
+    v = Fraction(metres) / unit
+    return solve.nearest(v.numerator, v.denominator)
+
+
+def inverse(xx, xy, xz, yy, yz, zz):
+    """The upper triangle of the inverse of a symmetric matrix, by its adjugate."""
+    adj = (yy * zz - yz * yz, xz * yz - xy * zz, xy * yz - xz * yy, xx * zz - xz * xz, xy * xz - xx * yz, xx * yy - xy * xy)
+    det = xx * adj[0] + xy * adj[1] + xz * adj[2]
+    return [v / det for v in adj]
+
+
+def weight_numbers(covariance, unit, factor):
+    """The weights of a variance matrix in square metres, times the factor, rounded."""
+    scaled = [v * factor * (1000 * unit) ** 2 for v in inverse(*map(Fraction, covariance))]
+    return tuple(solve.nearest(v.numerator, v.denominator) for v in scaled)
+
+
+def rows_of(table):
+    return [line.split() for line in table.strip().split('\n')]
+
+
+def baselines_002(factor=1):
+    """Document 002's network in units of 0.1 mm (0.01 mm would put its baselines beyond the limits), coordinates from A. Provisional coordinates are the printed ones to the metre."""
+    unit = Fraction(1, 10_000)
+    names = 'ABCDEF'
+    a = [Fraction(v) for v in CONTROL_002['A']]
+
+    def coordinates(name):
+        if name in CONTROL_002:
+            return [whole(Fraction(v) - o, unit) for v, o in zip(CONTROL_002[name], a)]
+        return [10_000 * whole(Fraction(v) - o, 1) for v, o in zip(ADJUSTED_002[name], a)]
+    stations = [(survey.KNOWN if name in CONTROL_002 else survey.FREE, *coordinates(name)) for name in names]
+    records = [survey.Baseline(names.index(f) + 1, names.index(t) + 1, tuple(whole(v, unit) for v in seen), weight_numbers(covariance, unit, factor))
+               for f, t, *rest in rows_of(TABLE_002) for seen, covariance in [(rest[:3], rest[3:])]]
+    return stations, dict(enumerate(records, 1))
+
+
+def printed_002():
+    """What document 002 prints, in 0.01 mm, three numbers a row: coordinates of C to F less those of A, then residuals as observed minus adjusted (it has adjusted minus observed)."""
+    unit = Fraction(1, 100_000)
+    a = [Fraction(v) for v in CONTROL_002['A']]
+    rows = [[whole(Fraction(v) - o, unit) for v, o in zip(ADJUSTED_002[name], a)] for name in 'CDEF']
+    return rows + [[-whole(v, unit) for v in row] for row in rows_of(RESIDUALS_002)]
+
+
+def baselines_003():
+    """Document 003's baselines in document 01's own unit, mark 22 held. Provisional coordinates are those of the baselines at mark 22, to the centimetre."""
+    unit = Fraction(1, 100_000)
+    names = ['22', '23', '24', '26']
+    records = []
+    for f, t, x, y, z, xx, yx, yy, zx, zy, zz in rows_of(TABLE_003):
+        records.append(survey.Baseline(names.index(f) + 1, names.index(t) + 1, tuple(whole(v, unit) for v in (x, y, z)), weight_numbers((xx, yx, zx, yy, zy, zz), unit, 1)))
+    stations = [(survey.KNOWN, 0, 0, 0)]
+    for name in names[1:]:
+        r, sign = next((r, sign) for r in records for sign, ends in ((1, (1, names.index(name) + 1)), (-1, (names.index(name) + 1, 1))) if (r.start, r.end) == ends)
+        stations.append((survey.FREE, *[sign * 1000 * solve.nearest(v, 1000) for v in r.observed]))
+    return stations, dict(enumerate(records, 1))
+
+
+def levels_003():
+    """Document 003's levelling in units of 0.1 mm (10 mm would be weight 1 in document 01's unit), mark 22 held."""
+    unit = Fraction(1, 10_000)
+    names = list(HEIGHTS_003)
+    stations = [(survey.KNOWN if name == '22' else survey.HEIGHT, 0, 0, whole(up, unit)) for name, up in HEIGHTS_003.items()]
+    records = []
+    for f, t, up, deviation in rows_of(LEVELS_003):
+        weight = (1000 * unit / Fraction(deviation)) ** 2
+        records.append(survey.Level(names.index(f) + 1, names.index(t) + 1, whole(up, unit), solve.nearest(weight.numerator, weight.denominator)))
+    return stations, dict(enumerate(records, 1))
+
+
+def exact_sheet(stations, records):
+    """The corrections and the sheet's words of the exact answer: corrections, variances, residuals and T rounded to nearest, verdicts by the rounded pair."""
+    net = survey.Network(survey.Station(*row) for row in stations)
+    matrix, right = survey.normals(net, records)
+    d, y, _ = solve.exact(matrix, right)
+    x, m = solve.rounded(matrix, right)
+    words = survey.sheet(net, records, x, m)
+    at = 2 + 7 * len(stations)
+    t = 0                                            # times d squared
+    for _, r in sorted(records.items()):
+        def moved(s, c):
+            return y[net.index[s, c]] if (s, c) in net.index else 0
+        v = {c: d * net.misclosure(r, c) - moved(r.end, c) + moved(r.start, c) for c in r.components}
+        for k, c in enumerate(r.components, 1):
+            words[at + k] = solve.nearest(v[c], d)
+        t += sum(v[a] * r.weight(a, b) * v[b] for a in r.components for b in r.components)
+        at += 1 + 2 * len(v)
+    words[at] = solve.nearest(t, d * d)
+    return x, words
+
+
+SURVEYS = {'baselines_document_002': baselines_002, 'baselines_document_003': baselines_003, 'levelling_document_003': levels_003}
+
+
+def text(stations, records):
+    lines = ['S %d %s %d %d %d' % (k, ' KFV'[row[0]], *row[1:]) for k, row in enumerate(stations, 1)]
+    for place, r in records.items():
+        if isinstance(r, survey.Baseline):
+            lines.append('B ' + ' '.join(map(str, (place, r.start, r.end, *r.observed, *r.weights))))
+        else:
+            lines.append('H %d %d %d %d %d' % (place, r.start, r.end, r.up, r.single))
+    return '\n'.join(lines) + '\n'
+
+
+if __name__ == '__main__':
+    sys.stdout.write(text(*SURVEYS[sys.argv[1]]()))
