@@ -22,7 +22,8 @@ use Rattle.network.specs.declared.Record.{Record}
 use Rattle.network.specs.declared.Record.the-variants.{Baseline as baseline, Height as height}
 use Rattle.normals.specs.Same.{sameEntries}
 use Rattle.layout.specs.Chunks.{chunks, chunks-more, length-chunks}
-use Rattle.layout.specs.Layout.{stationWords, stationPart, recordWords, networkIn, bookIn}
+use Rattle.network.specs.StationWords.{stationWords}
+use Rattle.layout.specs.Layout.{stationPart, recordWords, networkIn, bookIn}
 use Rattle.layout.specs.Laid.{recordLaid, stationLaid}
 use Rattle.layout.specs.Bytes.{wordsOf, bookOf}
 use Rattle.layout.specs.RunPatches.{run-append}

@@ -19,7 +19,8 @@ use Rattle.book.specs.declared.Book.{Book}
 use Rattle.book.specs.Journal.{free}
 use Rattle.book.specs.Sound.{Sized}
 use Rattle.layout.specs.Chunks.{length-chunks, inside}
-use Rattle.layout.specs.Layout.{stationWords, stationPart, recordWords, reversalWords, headWords, stationsPart, placesPart, countsPart, entriesPart, bookWords}
+use Rattle.network.specs.StationWords.{stationWords}
+use Rattle.layout.specs.Layout.{stationPart, recordWords, reversalWords, headWords, stationsPart, placesPart, countsPart, entriesPart, bookWords}
 
 -- ════ lengths
 pub length-record : (r : Record) → length (recordWords r) ≡ 14

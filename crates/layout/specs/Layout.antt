@@ -8,6 +8,7 @@ use lib.IntN.{ℤ, pos}
 use Rattle.integers.specs.Tables.{tabulate}
 use Rattle.words.specs.Signed.{indexIn, signed, unsigned}
 use Rattle.network.specs.Stations.{stationAt, stationIn}
+use Rattle.network.specs.StationWords.{stationWords}
 use Rattle.network.specs.Records.{recordAt}
 use Rattle.network.specs.RecordWords.{recordIn}
 use Rattle.network.specs.declared.Kind.{Kind}
@@ -25,17 +26,7 @@ use Rattle.book.specs.Journal.{free}
 use Rattle.layout.specs.Chunks.{chunks}
 
 -- ════ words of the parts
--- 1 known, 2 free, 3 height
-unfoldable pub kindWord : Kind → ℤ
-kindWord Known = pos 1
-kindWord Free = pos 2
-kindWord Height = pos 3
-
--- four words a station: kind, E, N, U
-unfoldable pub stationWords : Station → List ℤ
-stationWords s = kindWord (s .kind) ∷ s .east ∷ s .north ∷ s .up ∷ []
-
--- of the station s of the list, counted from 0; all 0 beyond the count
+-- four words a station, of the station s of the list, counted from 0; all 0 beyond the count
 unfoldable pub stationPart : Network → ℕ → List ℤ
 stationPart net s = cond (ltb s (net .count)) (stationWords (stationAt (net .stations) s)) (pos 0 ∷ pos 0 ∷ pos 0 ∷ pos 0 ∷ [])
 

@@ -36,7 +36,8 @@ use Rattle.book.specs.Book.{undoable}
 use Rattle.book.specs.Sound.{Sized, Sound, Undoes, undoable-first}
 use Rattle.layout.specs.Chunks.{chunk-at}
 use Rattle.layout.specs.BookWords.{tail, length-station, length-stations, toEntries, length-toEntries, length-toMatrix, at-matrix, at-right, place-word, next-word, held-word, slot-word}
-use Rattle.layout.specs.Layout.{kindWord, stationWords, stationPart, recordWords, reversalWords, headWords, stationsPart, placesPart, countsPart, entriesPart, bookWords, reversalIn, networkIn, placeIn, placesIn, entriesIn, journalIn, normalsIn, bookIn}
+use Rattle.network.specs.StationWords.{kindWord, stationWords, kind-back}
+use Rattle.layout.specs.Layout.{stationPart, recordWords, reversalWords, headWords, stationsPart, placesPart, countsPart, entriesPart, bookWords, reversalIn, networkIn, placeIn, placesIn, entriesIn, journalIn, normalsIn, bookIn}
 
 -- ════ a record
 pub record-back : (w : List ℤ) (at : ℕ) (r : Record) → ((j : ℕ) → j < 14 → getD w (at + j) (pos 0) ≡ getD (recordWords r) j (pos 0)) → recordIn w at ≡ r
@@ -109,12 +110,6 @@ entry-restores b o k h = go (decLt ((b .journal .next + 63 - k) % 64) (b .journa
     go (no l) = free-restores (b .network) _ (o .journal .blank k h (omega arith))
 
 -- ════ a station
-kind-back : (k : Kind) → kindOf (kindWord k) ≡ k
-unfolding kindAt kindWord indexIn
-kind-back Known = refl
-kind-back Free = refl
-kind-back Height = refl
-
 known-is : (k : Kind) → isKnown k ≡ true → k ≡ Known
 unfolding isKnown
 known-is Known e = refl

@@ -35,7 +35,8 @@ use Rattle.book.specs.declared.Book.{Book}
 use Rattle.book.specs.Journal.{free}
 use Rattle.book.specs.Sound.{Sound}
 use Rattle.layout.specs.Chunks.{chunks}
-use Rattle.layout.specs.Layout.{kindWord, stationWords, stationPart, recordWords, reversalWords, stationsPart, placesPart, countsPart, entriesPart, bookWords}
+use Rattle.network.specs.StationWords.{kindWord, stationWords}
+use Rattle.layout.specs.Layout.{stationPart, recordWords, reversalWords, stationsPart, placesPart, countsPart, entriesPart, bookWords}
 use Rattle.layout.specs.ReadBack.{Restores, entry-restores}
 
 -- the largest of the limits: that of u

@@ -2,7 +2,6 @@
 use super::records::record_words;
 use book::Book;
 use book::Reversal;
-use network::Kind;
 use network::Network;
 use network::Place;
 use network::Record;
@@ -20,33 +19,16 @@ ghost use Rattle.words.specs.Runs.{putWords};
 ghost use Rattle.network.specs.Records.{recordAt};
 ghost use Rattle.book.specs.Journal.{free};
 ghost use Rattle.layout.specs.Chunks.{chunks};
-ghost use Rattle.layout.specs.Layout.{kindWord, stationWords, stationPart, recordWords, reversalWords};
+ghost use Rattle.network.specs.StationWords.{stationWords};
+ghost use Rattle.layout.specs.Layout.{stationPart, recordWords, reversalWords};
 ghost use Rattle.layout.specs.Bytes.{putBook};
-
-fn kind_word(kind: Kind) -> i64
-    ensures { λ r. ⌜ r ≡ kindWord kind ⌝ }
-{
-    match kind {
-        Kind::Known => 1,
-        Kind::Free => 2,
-        Kind::Height => 3,
-    }
-}
-
-fn station_words(s: Station) -> [i64; 4]
-    ensures { λ w. ⌜ w ≡ stationWords s ⌝ }
-{
-    let kind = s.kind;
-    let k = kind_word(kind);
-    [k, s.east, s.north, s.up]
-}
 
 // The words of station k, which is x, of a list of `count`: 0 beyond it.
 pub fn station_part(count: usize, k: usize, x: Station) -> [i64; 4]
     ensures { λ w. ⌜ w ≡ cond (ltb k count) (stationWords x) (pos 0 ∷ pos 0 ∷ pos 0 ∷ pos 0 ∷ []) ⌝ }
 {
     if k < count {
-        return station_words(x);
+        return network::station_words(x);
     }
     [0; 4]
 }

@@ -9,6 +9,7 @@ pub mod OpeningLaws
 pub mod Records
 pub mod RecordLaws
 pub mod RecordWords
+pub mod StationWords
 pub mod Rules
 pub mod Ranges
 pub mod Positive

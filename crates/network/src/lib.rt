@@ -1,5 +1,6 @@
 // Stations, records and their rules: document 01's "Units and stations" and "Records".
 
+mod as_words;
 mod opening;
 mod record_words;
 mod records;
@@ -7,6 +8,8 @@ mod rules;
 mod stations;
 mod unit;
 
+pub use as_words::kind_word;
+pub use as_words::station_words;
 pub use opening::coordinates_fit;
 pub use opening::network_fits;
 pub use opening::network_of;

@@ -14,7 +14,8 @@ use Rattle.network.specs.Stations.{blank, wholeStations, countFits, opens}
 use Rattle.network.specs.declared.Station.{Station}
 use Rattle.book.specs.Book.{opening, sound}
 use Rattle.book.specs.declared.Edited.{Edited}
-use Rattle.stations.specs.Flat.{stationWords, flat, readCount}
+use Rattle.network.specs.StationWords.{stationWords}
+use Rattle.stations.specs.Flat.{flat, readCount}
 
 pub flat-length : (ys : List Station) → length (flat ys) ≡ length ys * 4
 unfolding flat

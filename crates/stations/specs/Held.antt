@@ -14,14 +14,9 @@ use Rattle.network.specs.declared.Kind.{Kind}
 use Rattle.network.specs.declared.Kind.the-variants.{Known, Free, Height}
 use Rattle.network.specs.declared.Station.{Station}
 use Rattle.book.specs.Book.{opening}
-use Rattle.stations.specs.Flat.{kindWord, stationWords, flat}
+use Rattle.network.specs.StationWords.{kindWord, stationWords, kind-back}
+use Rattle.stations.specs.Flat.{flat}
 use Rattle.stations.specs.FlatLaws.{flat-length}
-
-kind-back : (k : Kind) → kindOf (kindWord k) ≡ k
-unfolding kindAt indexIn
-kind-back Known = refl
-kind-back Free = refl
-kind-back Height = refl
 
 -- the numbers of the stations after the first
 after : (x : Station) (xs : List Station) (i j : ℕ) → j ≡ 4 + i → getD (flat (x ∷ xs)) j (pos 0) ≡ getD (flat xs) i (pos 0)

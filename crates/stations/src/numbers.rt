@@ -1,7 +1,6 @@
 // A station's four numbers, and the opening on the numbers that stand first in an array.
 use book::Book;
 use book::Edited;
-use network::Kind;
 use network::Station;
 use network::Unit;
 ghost use mathlib.Core.Path.{_≡_};
@@ -12,18 +11,8 @@ ghost use lib.IntN.{pos};
 ghost use lib.ListN.{take, replicate};
 ghost use Rattle.network.specs.Stations.{opens};
 ghost use Rattle.book.specs.Book.{opening, sound};
-ghost use Rattle.stations.specs.Flat.{kindWord, stationWords, readCount};
-
-// Kinds in numbers: 1 known, 2 free, 3 height.
-fn kind_word(k: Kind) -> i64
-    ensures { λ r. ⌜ r ≡ kindWord k ⌝ }
-{
-    match k {
-        Kind::Known => 1,
-        Kind::Free => 2,
-        Kind::Height => 3,
-    }
-}
+ghost use Rattle.network.specs.StationWords.{stationWords};
+ghost use Rattle.stations.specs.Flat.{readCount};
 
 // How many stations of n are read: none where they are more than a list may have, since no such list opens.
 pub(crate) fn read_count(n: usize) -> usize
@@ -47,7 +36,7 @@ pub(crate) fn put(out: [i64; 128], i: usize, s: Station) -> [i64; 128]
     let mut w = out;
     let at = i * 4;
     let kind = s.kind;
-    let k = kind_word(kind);
+    let k = network::kind_word(kind);
     let e = s.east;
     let n = s.north;
     let u = s.up;

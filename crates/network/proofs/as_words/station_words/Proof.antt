@@ -1,15 +1,15 @@
-use Rattle.layout.specs.Layout.{stationWords}
+use Rattle.network.specs.StationWords.{stationWords}
 use mathlib.Core.Path.{_≡_, refl, sym, ap, _∙_}
 use mathlib.Core.List.{[], _∷_}
 use lib.IntN.{pos}
 use mir.Syntax.{w64}
 use mir.Facts.{toZ-ofZ}
 use borrow.Author.Needs.{needs, sfits-of}
-use Rattle.layout.proofs.writing.station_words.Statement.{statement}
-use Rattle.layout.proofs.writing.station_words.Tie as tie
-use Rattle.layout.proofs.writing.station_words.Reads as reads
-use Rattle.layout.proofs.writing.station_words.Lts as lts
-use Rattle.layout.proofs.writing.kind_word.Reads as kind-word-reads
+use Rattle.network.proofs.as_words.station_words.Statement.{statement}
+use Rattle.network.proofs.as_words.station_words.Tie as tie
+use Rattle.network.proofs.as_words.station_words.Reads as reads
+use Rattle.network.proofs.as_words.station_words.Lts as lts
+use Rattle.network.proofs.as_words.kind_word.Reads as kind-word-reads
 
 kind-word-requires : tie.Need-kind-word-requires
 kind-word-requires c κs = search needs

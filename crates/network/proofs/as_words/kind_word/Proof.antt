@@ -1,10 +1,10 @@
 use mathlib.Core.Path.{sym, ap}
-use Rattle.layout.specs.Layout.{kindWord}
+use Rattle.network.specs.StationWords.{kindWord}
 use borrow.Author.Needs.{needs}
-use Rattle.layout.proofs.writing.kind_word.Statement.{statement}
-use Rattle.layout.proofs.writing.kind_word.Tie as tie
-use Rattle.layout.proofs.writing.kind_word.Reads as reads
-use Rattle.layout.proofs.writing.kind_word.Lts as lts
+use Rattle.network.proofs.as_words.kind_word.Statement.{statement}
+use Rattle.network.proofs.as_words.kind_word.Tie as tie
+use Rattle.network.proofs.as_words.kind_word.Reads as reads
+use Rattle.network.proofs.as_words.kind_word.Lts as lts
 
 enum-told : tie.Need-enum-told
 enum-told c = search needs
