@@ -3,4 +3,5 @@ pub mod CommandLaws
 pub mod Messages
 pub mod Sheet
 pub mod SheetLaws
+pub mod Brings
 pub mod Examples

@@ -1,11 +1,10 @@
--- Floor division of an integer by a positive natural: `floorDiv a d` is the largest q with q d ≤ a. (At d = 0 it is 0 where 0 ≤ a, and −1 where a < 0; only abs-floorDiv, floorDiv-quot
--- and floorDiv-shr hold there.)
+-- Floor division of an integer by a positive natural: `floorDiv a d` is the largest q with q d ≤ a. (At d = 0 it is 0 where 0 ≤ a, and −1 where a < 0; only floorDiv-quot holds there.)
 --     use Rattle.integers.specs.Division.{floorDiv, floorDiv-≤, floorDiv->, floorDiv-unique}
 -- It is known by its bounds, with h : 0 < d
 --     floorDiv-≤ a d h : (floorDiv a d *ℤ pos d) ≤ℤ a
 --     floorDiv-> a d h : a <ℤ ((floorDiv a d +ℤ pos 1) *ℤ pos d)
 -- and any q with these bounds is it: `floorDiv-unique a q d h low high : floorDiv a d ≡ q`. At literals it computes: `floorDiv (negsuc 0) 2 ≡ negsuc 0` is `refl`.
--- Code divides by `/`, quotZ of lib.Signed, which rounds toward zero: `floorDiv-quot d h : floorDiv a d ≡ quotZ a (pos d)`, with h : pos 0 ≤ℤ a. A `>>` is shrZ: `floorDiv-shr`.
+-- Code divides by `/`, quotZ of lib.Signed, which rounds toward zero: `floorDiv-quot d h : floorDiv a d ≡ quotZ a (pos d)`, with h : pos 0 ≤ℤ a.
 use mathlib.Core.Path.{_≡_, refl}
 use mathlib.Core.Logic.{_⊎_, inl, inr}
 use mathlib.Core.List.{[], _∷_}
@@ -60,16 +59,7 @@ floorDiv-multiple q d h =
     let ρ = q ∷ pos d ∷ [] in
     floorDiv-unique (q *ℤ pos d) q d h (zle ρ (search shapes) (omega arith)) (zlt ρ (search shapes) (omega arith))
 
-pub abs-floorDiv : (a : ℤ) (d : ℕ) → natAbs (floorDiv a d) ≤ natAbs a
-abs-floorDiv (pos a) d = div-le-self a d
-abs-floorDiv (negsuc a) d = omega (arith, div-le-self a d)
-
 -- the machine's `/`, of a number that is not negative
 pub floorDiv-quot : {a : ℤ} (d : ℕ) → pos 0 ≤ℤ a → floorDiv a d ≡ quotZ a (pos d)
 floorDiv-quot {a = pos a} d h = refl
 floorDiv-quot {a = negsuc a} d h = absurd (h .le)
-
--- the machine's `>>`
-pub floorDiv-shr : (a : ℤ) (d : ℕ) → floorDiv a d ≡ shrZ a d
-floorDiv-shr (pos a) d = refl
-floorDiv-shr (negsuc a) d = refl

@@ -1,8 +1,7 @@
 -- Approximate inverses: what the tests of a proposed solution give (x, and M that is nearly S times the inverse of N, S = 2 ^ 30), and when a rounded solution passes them.
 -- All is over functions of the index, n of them: for lists l of a row length n take `λ i. getD l i (pos 0)` and `λ i j. getD l (i * n + j) (pos 0)`.
 --     approx             test 5 in every row, test 7 in every row:  |y − d x| ≤ d in each place, for y and d > 0 with N y = d u
---     approx-column      test 5 in row i:  16 |d M i j − S z i| ≤ S Z, for z and d with N z = d times unit column j, and Z a bound of every |z|;
---                        approx-column-largest is the same with `largest`, the largest |z|
+--     approx-column      test 5 in row i:  16 |d M i j − S z i| ≤ S Z, for z and d with N z = d times unit column j, and Z a bound of every |z|
 --     rounded-passes-5   row i of M is S times the exact inverse, rounded to nearest, and N is not too large: test 5
 --     rounded-passes-6   x is the exact answer, rounded to nearest, and row i of N is not too large: test 6
 --     rounded-passes-7   the same x, and test 5: test 7
@@ -156,14 +155,6 @@ approx-column n M N z d j lj h Z b i l o =
 
     eq : S *ℤ z i -ℤ d *ℤ M i j ≡ sum n (λ m. defect n M N i m *ℤ z m)
     eq = sym (defect-mul n M N z i l ∙ ap (λ (y : ℤ). S *ℤ z i -ℤ y) Mz)
-
--- The same with the largest |z|.
-pub approx-column-largest : (n : ℕ) (M N : ℕ → ℕ → ℤ) (z : ℕ → ℤ) (d : ℤ) (j : ℕ) → j < n
-    → ((k : ℕ) → k < n → sum n (λ m. N k m *ℤ z m) ≡ d *ℤ δ k j)
-    → (i : ℕ) → i < n → sumN n (λ m. natAbs (pos (2 ^ 30) *ℤ δ i m -ℤ sum n (λ k. M i k *ℤ N k m))) ≤ 2 ^ 26
-    → 16 * natAbs (d *ℤ M i j -ℤ pos (2 ^ 30) *ℤ z i) ≤ 2 ^ 30 * largest n (λ k. natAbs (z k))
-approx-column-largest n M N z d j lj h i l o =
-    approx-column n M N z d j lj h (largest n (λ k. natAbs (z k))) (≤-largest n (λ k. natAbs (z k))) i l o
 
 -- ════ rounding to nearest implies tests 5 to 7
 -- each |e k| at most D / 2

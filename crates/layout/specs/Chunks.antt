@@ -14,10 +14,6 @@ unfoldable pub chunks : ℕ → (ℕ → List ℤ) → List ℤ
 chunks zero f = []
 chunks (suc n) f = chunks n f ++ f n
 
-pub chunks-none : (f : ℕ → List ℤ) → chunks 0 f ≡ []
-unfolding chunks
-chunks-none f = refl
-
 pub chunks-more : (n : ℕ) (f : ℕ → List ℤ) → chunks (suc n) f ≡ chunks n f ++ f n
 unfolding chunks
 chunks-more n f = refl

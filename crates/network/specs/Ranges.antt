@@ -80,12 +80,3 @@ module _ (b : Baseline) (r : BaselineRange b) where
       let eu = r .eu in
       let nu = r .nu in
       absle (determinant b) (search bounds depth 12) (lit≤ tt)
-
-  pub adjugateE-small : natAbs (adjugateE b) ≤ 200000000
-  adjugateE-small = let nn = r .nn .most in let uu = r .uu .most in let nu = r .nu in absle (adjugateE b) (search bounds) (lit≤ tt)
-
-  pub adjugateN-small : natAbs (adjugateN b) ≤ 200000000
-  adjugateN-small = let ee = r .ee .most in let uu = r .uu .most in let eu = r .eu in absle (adjugateN b) (search bounds) (lit≤ tt)
-
-  pub adjugateU-small : natAbs (adjugateU b) ≤ 200000000
-  adjugateU-small = let ee = r .ee .most in let nn = r .nn .most in let en = r .en in absle (adjugateU b) (search bounds) (lit≤ tt)

@@ -50,9 +50,6 @@ module _ (net : Network) (e : networkFits net ≡ true) where
   unfolding networkFits
   tests = each (countFits (net .count) ∷ blankBeyond net ∷ coordinatesFit (net .stations) ∷ unknownsFit (net .stations) ∷ []) e
 
-  pub network-some : 1 ≤ net .count
-  network-some = leb-true 1 (net .count) (and-left (leb 1 (net .count)) (leb (net .count) 32) (tests .0))
-
   pub network-few : net .count ≤ 32
   network-few = leb-true (net .count) 32 (and-right (leb 1 (net .count)) (leb (net .count) 32) (tests .0))
 
@@ -134,10 +131,6 @@ pub record SoundRecord (stations : List Station) (r : Record) : Type 0 where
   pub values : (a : ℕ) → natAbs (getD (observed r) a (pos 0)) ≤ 1000000000
   pub weight : (k : ℕ) → natAbs (getD (weights r) k (pos 0)) ≤ 10000
   pub misclosure : (a : ℕ) → natAbs (l stations r a) ≤ 100000
-
--- what its misclosures ask
-pub sound-observed : (stations : List Station) (r : Record) → SoundStations stations → SoundRecord stations r → Observed (coordinates stations) r
-sound-observed stations r s g = record { from = g .from; to = g .to; values = g .values; provisional = s .provisional }
 
 -- the same of a record whose misclosures are not judged yet
 module _ (count : ℕ) (c : List ℤ) (few : count ≤ 32) (w : Within 96 500000000 c) where

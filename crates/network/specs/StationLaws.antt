@@ -75,11 +75,3 @@ module _ (st : List Station) where
       go zero h = inl refl
       go (suc zero) h = inr refl
       go (suc (suc b)) h = absurd (omega arith)
-
-  pub place-size : (q : ℕ) → place st q ≤ number st q
-  unfolding place
-  place-size q = go (bit-cases q)
-    where
-      go : (unknown st q ≡ 0) ⊎ (unknown st q ≡ 1) → unknown st q * number st q ≤ number st q
-      go (inl e) = rw e (omega arith)
-      go (inr e) = rw e (omega arith)

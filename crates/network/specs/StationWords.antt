@@ -1,6 +1,6 @@
--- A station in four words, as a list of numbers has it: kind, E, N, U. Assumes nothing.
+-- A station in four words, as a list of numbers has it: kind, E, N, U; and a list of stations. Assumes nothing.
 use mathlib.Core.Path.{_≡_, refl}
-use mathlib.Core.List.{List, [], _∷_}
+use mathlib.Core.List.{List, [], _∷_, _++_}
 use lib.IntN.{ℤ, pos}
 use Rattle.words.specs.Signed.{indexIn}
 use Rattle.network.specs.Stations.{kindAt, kindOf}
@@ -16,6 +16,11 @@ kindWord Height = pos 3
 
 unfoldable pub stationWords : Station → List ℤ
 stationWords s = kindWord (s .kind) ∷ s .east ∷ s .north ∷ s .up ∷ []
+
+-- the words of a list of stations, in list order
+unfoldable pub flat : List Station → List ℤ
+flat [] = []
+flat (s ∷ ss) = stationWords s ++ flat ss
 
 -- the kind that a kind's number gives is that kind
 pub kind-back : (k : Kind) → kindOf (kindWord k) ≡ k

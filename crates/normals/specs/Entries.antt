@@ -30,9 +30,6 @@ module _ (st : List Station) (places : List Place) where
   pub right-at : (i : ℕ) → i < 48 → getD (rightOf st places) i (pos 0) ≡ entryU st places i
   right-at i h = getD-tabulate 48 _ i (pos 0) h
 
-  pub normals-sized : Sized (normalsOf st places)
-  normals-sized = record { matrix = length-tabulate 2304 _; right = length-tabulate 48 _ }
-
 module _ (net : Network) (places : List Place) (g : Sound net places) where
   pub matrix-within : Within 2304 2560000 (matrixOf (net .stations) places)
   matrix-within = within-tabulate 2304 2560000 _ (λ k h. N-entry net places g (k / 48) (k % 48))

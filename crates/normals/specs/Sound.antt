@@ -26,14 +26,3 @@ changed places p r = set places p (record { entry = r })
 module _ (net : Network) (places : List Place) (g : Sound net places) where
   pub record-sound : (p : ℕ) → p < 256 → SoundRecord (net .stations) (recordAt places p)
   record-sound p h = sound-record net (recordAt places p) (g .network) (g .each p h)
-
-  -- a place changed by the rules leaves records by the rules
-  pub sound-changed : (p : ℕ) (r : Record) → p < 256 → length places ≡ 256 → recordFits net r ≡ true → Sound net (changed places p r)
-  sound-changed p r h e f = record { network = g .network; each = λ k l. at k l (ℕ-discrete k p) }
-    where
-      at : (k : ℕ) → k < 256 → Dec (k ≡ p) → recordFits net (recordAt (changed places p r) k) ≡ true
-      at k l (yes q) =
-          ap (λ (j : ℕ). recordFits net (recordAt (changed places p r) j)) q
-          ∙ ap (λ (x : Place). recordFits net (x .entry)) (getD-set-same places p (record { entry = r }) vacant (subst (λ (n : ℕ). p < n) (sym e) h))
-          ∙ f
-      at k l (no q) = ap (λ (x : Place). recordFits net (x .entry)) (getD-set-other places p k (record { entry = r }) vacant q) ∙ g .each k l

@@ -22,10 +22,6 @@ pub product : (a b c d : ℤ) {v : ℤ} → natAbs a ≤ 10000 → natAbs b ≤ 
     → v ≡ stored a *ℤ stored b -ℤ stored c *ℤ stored d → v ≡ a *ℤ b -ℤ c *ℤ d
 product a b c d p q r t e = e ∙ rw (back a p tt, back b q tt, back c r tt, back d t tt)
 
-pub product-size : (a b c d : ℤ) {v : ℤ} → natAbs a ≤ 10000 → natAbs b ≤ 10000 → natAbs c ≤ 10000 → natAbs d ≤ 10000
-    → v ≡ stored a *ℤ stored b -ℤ stored c *ℤ stored d → natAbs v ≤ 200000000
-product-size a b c d p q r t e = rw (product a b c d p q r t e) (absle (a *ℤ b -ℤ c *ℤ d) (search bounds) (omega arith))
-
 -- a quotient of numbers that were stored
 module _ {A D x y : ℤ} (q : Quotient A D) (e : x ≡ A) (g : y ≡ D) where
   above-is : stored x ≡ A

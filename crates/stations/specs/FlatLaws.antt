@@ -14,22 +14,22 @@ use Rattle.network.specs.Stations.{blank, wholeStations, countFits, opens}
 use Rattle.network.specs.declared.Station.{Station}
 use Rattle.book.specs.Book.{opening, sound}
 use Rattle.book.specs.declared.Edited.{Edited}
-use Rattle.network.specs.StationWords.{stationWords}
-use Rattle.stations.specs.Flat.{flat, readCount}
+use Rattle.network.specs.StationWords.{stationWords, flat}
+use Rattle.stations.specs.Flat.{readCount}
 
 pub flat-length : (ys : List Station) → length (flat ys) ≡ length ys * 4
-unfolding flat
+unfolding flat stationWords
 flat-length [] = refl
 flat-length (s ∷ ss) = omega (arith, flat-length ss)
 
 flat-append : (xs ys : List Station) → flat (xs ++ ys) ≡ flat xs ++ flat ys
-unfolding flat
+unfolding flat stationWords
 flat-append [] ys = refl
 flat-append (s ∷ ss) ys = rw (flat-append ss ys)
 
 -- one station more
 pub flat-more : (ys : List Station) (i : ℕ) → i < length ys → flat (take (i + 1) ys) ≡ flat (take i ys) ++ stationWords (getD ys i blank)
-unfolding flat
+unfolding flat stationWords
 flat-more ys i h = rw (add-one, take-suc ys i blank, flat-append) (simp append-nil)
 
 -- the same as the reader's loop has it: w holds the first i stations, and the next one's numbers are put after them

@@ -14,18 +14,17 @@ use Rattle.network.specs.declared.Kind.{Kind}
 use Rattle.network.specs.declared.Kind.the-variants.{Known, Free, Height}
 use Rattle.network.specs.declared.Station.{Station}
 use Rattle.book.specs.Book.{opening}
-use Rattle.network.specs.StationWords.{kindWord, stationWords, kind-back}
-use Rattle.stations.specs.Flat.{flat}
+use Rattle.network.specs.StationWords.{kindWord, stationWords, flat, kind-back}
 use Rattle.stations.specs.FlatLaws.{flat-length}
 
 -- the numbers of the stations after the first
 after : (x : Station) (xs : List Station) (i j : ℕ) → j ≡ 4 + i → getD (flat (x ∷ xs)) j (pos 0) ≡ getD (flat xs) i (pos 0)
-unfolding flat
+unfolding flat stationWords
 after x xs i j e = rw e (getD-append-add (stationWords x) (flat xs) i (pos 0))
 
 -- station s, counted from 0; blank beyond the last
 pub station-back : (ys : List Station) (s : ℕ) → stationIn (flat ys) s ≡ getD ys s blank
-unfolding stationIn flat kindAt indexIn
+unfolding stationIn flat stationWords kindAt indexIn
 station-back [] s = refl
 station-back (x ∷ xs) zero = rw (kind-back (x .kind))
 station-back (x ∷ xs) (suc s) =

@@ -15,7 +15,8 @@ ghost use Prim.Native.Nat.{_*_, _<_};
 ghost use lib.ListN.{length, getD, take};
 ghost use Rattle.network.specs.Stations.{blank, opens};
 ghost use Rattle.book.specs.Book.{opening, sound};
-ghost use Rattle.stations.specs.Flat.{flat, readCount};
+ghost use Rattle.network.specs.StationWords.{flat};
+ghost use Rattle.stations.specs.Flat.{readCount};
 
 // The station at i, counted from 0.
 fn station_at(list: &[Station], i: usize) -> Station

@@ -29,7 +29,7 @@ use denote.Struct.Laws as LL
 use denote.Triple.Statement.{Contract}
 use denote.Triple.Spec.{tripleOf}
 use denote.Triple.Clauses.{ensured, lasts}
-use Rattle.stations.specs.Flat.{flat}
+use Rattle.network.specs.StationWords.{flat}
 use Rattle.stations.specs.FlatLaws.{Opened}
 use Rattle.network.specs.declared.Station.{Station}
 use Rattle.book.specs.declared.Edited.{Edited}

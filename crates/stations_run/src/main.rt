@@ -16,7 +16,7 @@ ghost use Prim.Native.Nat.{_≤_};
 ghost use lib.ListN.{take};
 ghost use Rattle.network.specs.Stations.{opens};
 ghost use Rattle.book.specs.Book.{opening, sound};
-ghost use Rattle.stations.specs.Flat.{flat};
+ghost use Rattle.network.specs.StationWords.{flat};
 
 // A book on a list of two stations, made here and lent. Proved by hand, as the reader is.
 fn open_pair(a: Station, b: Station) -> Edited

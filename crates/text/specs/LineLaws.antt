@@ -24,9 +24,6 @@ module _ (buffer : List ℕ) (len : ℕ) (over : Bool) (chunk : List ℕ) (at en
   whole-part : take (end - at) (drop at chunk) ≡ part chunk at
   whole-part = let e : end - at ≡ length (part chunk at) = omega arith in rw e (before-take 10 (drop at chunk))
 
-  pub end-inside : at ≤ length chunk → end ≤ length chunk
-  end-inside h = omega (arith, left)
-
   said :
       (r : Fed) (m : ℕ) (o : Bool) →
       r ≡ fedAt (length chunk) end m o →

@@ -103,9 +103,3 @@ number-back (negsuc k) f =
     signed-in minus 9223372036854775808 (suc k) (decimalIn 20 (suc k)) (twenty (suc k)) (decimal-value 20 (suc k) (omega arith)) (omega arith)
 
 -- ════ room
-pub digits-length : (k n : ℕ) → length (decimalIn k n) ≤ k
-unfolding decimalIn
-digits-length zero n = omega arith
-digits-length (suc k) n =
-    by-digits (λ ds. length ds ≤ suc k) k n (λ h. omega arith)
-    (λ h. rw (length-append (decimalIn k (n / 10)) ((48 + n % 10) ∷ [])) (omega (arith, digits-length k (n / 10))))

@@ -9,7 +9,7 @@ use lib.IntN.{ℤ, pos}
 use mir.Syntax.{w64}
 use mir.Val.{SFits}
 use Rattle.words.specs.Words.{Bytes, wordAt, putWord}
-use Rattle.words.specs.WordLaws.{length-word, word-back, word-out, word-same, word-kept, word-fits, word-bytes}
+use Rattle.words.specs.WordLaws.{length-word, word-back, word-out, word-same, word-kept, word-fits}
 use Rattle.words.specs.Runs.{wordsAt, putWords}
 
 -- ---- lengths
@@ -66,11 +66,6 @@ pub run-word : (s : List ℕ) (at : ℕ) (ws : List ℤ) (j : ℕ) → (j + 8 �
 run-word s at ws j (inl o) = word-same _ _ j (λ p a b. run-out s at ws p (inl (omega arith)))
 run-word s at ws j (inr o) = word-same _ _ j (λ p a b. run-out s at ws p (inr (omega arith)))
 
--- a run elsewhere, where one word was written
-pub word-run : (s : List ℕ) (at : ℕ) (v : ℤ) (j n : ℕ) → (j + 8 * n ≤ at) ⊎ (at + 8 ≤ j) → wordsAt (putWord s at v) j n ≡ wordsAt s j n
-word-run s at v j n (inl o) = words-same _ _ j n (λ p a b. word-out s at v p (inl (omega arith)))
-word-run s at v j n (inr o) = words-same _ _ j n (λ p a b. word-out s at v p (inr (omega arith)))
-
 -- ---- there and back
 -- the run that was written is read
 pub run-back : (s : List ℕ) (at : ℕ) (ws : List ℤ) → at + 8 * length ws ≤ length s → ((i : ℕ) → SFits w64 (getD ws i (pos 0))) → wordsAt (putWords s at ws) at (length ws) ≡ ws
@@ -95,9 +90,3 @@ unfolding wordsAt
 words-fit s at zero i h = record { sfits = omega arith }
 words-fit s at (suc n) zero h = word-fits s at h
 words-fit s at (suc n) (suc i) h = words-fit s (at + 8) n i h
-
--- bytes stay bytes
-pub run-bytes : (s : List ℕ) (at : ℕ) (ws : List ℤ) → Bytes s → Bytes (putWords s at ws)
-unfolding putWords
-run-bytes s at [] h = h
-run-bytes s at (w ∷ ws) h = run-bytes (putWord s at w) (at + 8) ws (word-bytes s at w h)

@@ -33,18 +33,7 @@ eq-eqZ a b e = rw e (eqZ-refl b)
 pub eqZ-false : (a b : ℤ) → eqZ a b ≡ false → a ≡ b → ⊥
 eqZ-false a b e p = clash (eq-eqZ a b p) e
 
-pub ne-eqZ : (a b : ℤ) → (a ≡ b → ⊥) → eqZ a b ≡ false
-ne-eqZ a b n = ⊎-elim (λ e. absurd (n (eqZ-true a b e))) (λ e. e) (true-or-false (eqZ a b))
-
 -- ---- sizes
-pub size-le : (v : ℤ) → SFits w64 v → natAbs v ≤ 2 ^ 63
-size-le v f = natAbs-le v (f .sfits)
-
--- a number between two that are not negative is its size
-pub between-pos : (low high : ℕ) (v : ℤ) → leZ (pos low) v && leZ v (pos high) ≡ true → (v ≡ pos (natAbs v)) × (low ≤ natAbs v) × (natAbs v ≤ high)
-between-pos low high (pos n) e = (refl, leb-true low n (and-left (leb low n) (leb n high) e), leb-true n high (and-right (leb low n) (leb n high) e))
-between-pos low high (negsuc k) e = clash e refl
-
 -- ---- a number in a list
 pub index-suc : (k n : ℕ) → k < n → indexIn (pos (suc k)) n ≡ k
 unfolding indexIn
@@ -53,12 +42,6 @@ index-suc k n h = rw (lt-ltb k n h)
 pub index-beyond : (k n : ℕ) → n ≤ k → indexIn (pos (suc k)) n ≡ n
 unfolding indexIn
 index-beyond k n h = rw (le-ltb k n h)
-
-pub index-le : (v : ℤ) (n : ℕ) → indexIn v n ≤ n
-unfolding indexIn
-index-le (pos zero) n = omega arith
-index-le (pos (suc k)) n = ⊎-elim (λ e. rw e (omega (arith, ltb-true k n e))) (λ e. rw e (omega arith)) (true-or-false (ltb k n))
-index-le (negsuc k) n = omega arith
 
 -- indexIn v n is below n exactly where v is 1 to n
 pub index-test : (v : ℤ) (n : ℕ) → ltb (indexIn v n) n ≡ (leZ (pos 1) v && leZ v (pos n))

@@ -48,8 +48,8 @@ use denote.Triple.Walked.{says, Stays, stay-none-slice, walkOf, goes-none-slice,
 use denote.Triple.Clauses.{ensured, lasts}
 use denote.Exit.{yes}
 use Rattle.network.specs.Stations.{blank}
-use Rattle.network.specs.StationWords.{stationWords}
-use Rattle.stations.specs.Flat.{flat, readCount}
+use Rattle.network.specs.StationWords.{stationWords, flat}
+use Rattle.stations.specs.Flat.{readCount}
 use Rattle.stations.specs.FlatLaws.{flat-step, read-most, read-within}
 use Rattle.network.specs.declared.Station.{Station}
 use Rattle.network.proofs.Station as S

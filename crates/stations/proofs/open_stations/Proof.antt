@@ -39,7 +39,8 @@ use denote.Triple.Table.{entered, cited}
 use denote.Triple.Walked.{says, Stays, stay-none-slice, walkOf, goes-none-slice, Walks, ends-at, walked, walk-meets}
 use denote.Triple.Clauses.{ensured, lasts}
 use denote.Exit.{yes}
-use Rattle.stations.specs.Flat.{flat, readCount}
+use Rattle.network.specs.StationWords.{flat}
+use Rattle.stations.specs.Flat.{readCount}
 use Rattle.stations.specs.FlatLaws.{Opened, read-opened}
 use Rattle.network.specs.declared.Station.{Station}
 use Rattle.book.specs.declared.Edited.{Edited}

@@ -45,7 +45,7 @@ use denote.Triple.Walked.{says, needs, Stays, stay-none, walkOf, goes-none, Walk
 use denote.Exit.{yes}
 use borrow.Table.Elements.{at, cut-app, join-app}
 use borrow.Rule.Slice.Shared.{Sh, parts-cells}
-use Rattle.stations.specs.Flat.{flat}
+use Rattle.network.specs.StationWords.{flat}
 use Rattle.stations.specs.FlatLaws.{Opened}
 use Rattle.network.specs.declared.Station.{Station}
 use Rattle.book.specs.declared.Edited.{Edited}

@@ -33,7 +33,7 @@ use denote.Triple.Spec.{Meets, tripleOf}
 use denote.Triple.Table.{entered, cited}
 use denote.Triple.Walked.{says, Stays, stay-none, walkOf, goes-none, Walks, ends-at, walked, walk-meets}
 use denote.Exit.{yes}
-use Rattle.stations.specs.Flat.{flat}
+use Rattle.network.specs.StationWords.{flat}
 use Rattle.stations.specs.FlatLaws.{Opened}
 use Rattle.network.specs.declared.Station.{Station}
 use Rattle.book.specs.declared.Edited.{Edited}

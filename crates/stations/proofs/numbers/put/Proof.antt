@@ -5,6 +5,7 @@ use native.Mathlib.Omega.{arith}
 use borrow.Author.Needs.{needs, sfits-of}
 use mir.Syntax.{w64}
 use mir.ValLaws.{toZ-ofZ}
+use Rattle.network.specs.StationWords.{stationWords}
 use Rattle.stations.specs.FlatLaws.{put-four}
 use Rattle.stations.proofs.numbers.put.Statement.{statement}
 use Rattle.stations.proofs.numbers.put.Tie as tie
@@ -49,6 +50,7 @@ array-set-from-w-4 : tie.Need-array-set-from-w-4
 array-set-from-w-4 c = search needs
 
 returns : tie.Need-returns
+unfolding stationWords
 returns c =
     let x = c .before .before .before .before .args in
     put-four (x .out) (x .i * 4) ((x .i + 1) * 4) (omega arith) (search needs)

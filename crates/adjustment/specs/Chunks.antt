@@ -1,0 +1,34 @@
+-- A chunk of the input: what taking it leaves and prints. Assumes nothing.
+use Prim.Native.Nat.{ℕ, _≤_}
+use mathlib.Core.Path.{_≡_}
+use mathlib.Core.List.{List, _++_}
+use lib.ListN.{length, take, drop}
+use lib.IntN.{ℤ}
+use Rattle.text.specs.Lines as lines
+use Rattle.text.specs.Lines.{Kept, came, holds}
+use Rattle.runs.specs.Runs.{Run, start, runAfter, saysAll}
+use Rattle.runs.specs.States.{runOf, Ready}
+use Rattle.adjustment.specs.declared.Taken.{Taken}
+
+-- ════ a chunk taken, with the run r₀ and what was held of a line, k₀, before it: the lines that end in it are obeyed, what they print is the
+-- front of `after`, up to p, and the rest of it is as before
+pub record Takes (r₀ : Run) (k₀ : Kept) (chunk before : List ℕ) (r : Run) (k : Kept) (p : ℕ) (after : List ℕ) : Type 0 where
+  pub run : r ≡ runAfter r₀ (came 50000 k₀ chunk .ended)
+  pub going : k ≡ came 50000 k₀ chunk .going
+  pub printed : take p after ≡ saysAll r₀ (came 50000 k₀ chunk .ended)
+  pub beyond : drop p after ≡ drop p before
+
+-- the same in the middle of the chunk, at `at`: what is ahead from here is what was ahead from its start
+pub record Ahead (r₀ : Run) (k₀ : Kept) (chunk before : List ℕ) (r : Run) (k : Kept) (at p : ℕ) (after : List ℕ) : Type 0 where
+  pub run : runAfter r (came 50000 k (drop at chunk) .ended) ≡ runAfter r₀ (came 50000 k₀ chunk .ended)
+  pub going : came 50000 k (drop at chunk) .going ≡ came 50000 k₀ chunk .going
+  pub printed : take p after ++ saysAll r (came 50000 k (drop at chunk) .ended) ≡ saysAll r₀ (came 50000 k₀ chunk .ended)
+  pub beyond : drop p after ≡ drop p before
+
+-- a run before its first byte
+pub record Begun (t : Taken) : Type 0 where
+  pub run : (list x m : List ℤ) → runOf (t .state) (t .book) list x m ≡ start
+  pub blank : (line : List ℕ) → holds line (t .len) (t .over) ≡ lines.blank
+  pub ready : (list x m : List ℤ) → 132 ≤ length list → 48 ≤ length x → 2304 ≤ length m → Ready (t .state) (t .book) list x m
+  pub lines : t .state .lines ≡ 0
+  pub short : t .len ≡ 0

@@ -1,0 +1,5 @@
+pub mod Chunks
+pub mod ChunkLaws
+pub mod Ends
+pub mod EndLaws
+pub mod Whole

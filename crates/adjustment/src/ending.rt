@@ -1,0 +1,71 @@
+// The end of the input: the check of what X and M gave, or of what the engine proposes.
+use book::Book;
+use runs::Given;
+use runs::State;
+ghost use mathlib.Core.Path.{_≡_};
+ghost use mathlib.Core.Bool.{true};
+ghost use Prim.Native.Nat.{_≤_};
+ghost use lib.ListN.{length};
+ghost use Rattle.book.specs.Book.{sound};
+ghost use Rattle.runs.specs.States.{countOf, givenOf, isGiven, runOf, Ready};
+ghost use Rattle.adjustment.specs.Ends.{BookEnds, Ends};
+
+fn count(given: Given) -> usize
+    ensures { λ r. ⌜ r ≡ countOf given ⌝ }
+{
+    match given {
+        Given::Nothing => 0,
+        Given::Numbers(n) => n,
+    }
+}
+
+fn is_given(given: Given) -> bool
+    ensures { λ r. ⌜ r ≡ isGiven given ⌝ }
+{
+    match given {
+        Given::Nothing => false,
+        Given::Numbers(_) => true,
+    }
+}
+
+// What the end prints of a book.
+fn conclude(
+    out: &mut [u8],
+    book: Book,
+    corrections: Given,
+    matrix: Given,
+    x: &[i64],
+    m: &[i64],
+) -> usize
+    requires { ⌜ (sound book ≡ true) × (countOf corrections ≤ length (now x)) × (countOf matrix ≤ length (now m)) × (32188 ≤ length (now out)) ⌝ }
+    ensures { λ r. ⌜ BookEnds (givenOf corrections (now (x .entry))) (givenOf matrix (now (m .entry))) book (now (out .entry)) r (now (out .exit)) ⌝ }
+{
+    if is_given(corrections) | is_given(matrix) {
+        let n = count(corrections);
+        let entries = count(matrix);
+        return reports::write_check(out, book, &x[0..n], &m[0..entries]);
+    }
+    reports::write_proposal(out, book)
+}
+
+// What the end of the input prints, at the front of out. It opens an unopened book.
+pub fn finish(state: State, book: Book, list: &[i64], x: &[i64], m: &[i64], out: &mut [u8]) -> usize
+    requires { ⌜ Ready state book (now list) (now x) (now m) × (32188 ≤ length (now out)) ⌝ }
+    ensures { λ r. ⌜ Ends (runOf state book (now (list .entry)) (now (x .entry)) (now (m .entry))) (now (out .entry)) r (now (out .exit)) ⌝ }
+{
+    let corrections = state.corrections;
+    let matrix = state.matrix;
+    if runs::is_ended(state) {
+        return 0;
+    }
+    if runs::is_opened(state) {
+        return conclude(out, book, corrections, matrix, x, m);
+    }
+    let e = runs::open_list(list, state.words);
+    let refusal = e.refusal;
+    if refusal != 0 {
+        return commands::write_refused(out, 0, refusal);
+    }
+    let fresh = e.book;
+    conclude(out, fresh, corrections, matrix, x, m)
+}

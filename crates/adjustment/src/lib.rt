@@ -1,0 +1,19 @@
+// The run of an input, chunk by chunk, and its end: all of document 01's "The night print" but for reading and writing.
+mod chunks;
+mod ending;
+
+use book::Book;
+pub use chunks::begin;
+pub use chunks::take_chunk;
+pub use ending::finish;
+use runs::State;
+
+// A run between two chunks of its input: its state and book, how many bytes are held of the line that goes on and whether it had more, and how
+// many bytes were printed.
+pub struct Taken {
+    pub state: State,
+    pub book: Book,
+    pub len: usize,
+    pub over: bool,
+    pub printed: usize,
+}

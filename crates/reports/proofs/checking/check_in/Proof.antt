@@ -1,0 +1,102 @@
+-- `checking::check_in` meets its contract. Assumes nothing.
+use native.Mathlib.Omega.{arith}
+use denote.Ref.{now}
+use Rattle.network.specs.Filling.{length-mapped}
+use Rattle.network.specs.RuleLaws.{network-few}
+use Rattle.book.specs.Sound.{Sound, sound-parts}
+use Rattle.commands.specs.SheetLaws.{written-as}
+use Rattle.reports.specs.ReportLaws.{kinds-room, says-sheet, says-refused, says-untied}
+use borrow.Author.Needs.{needs}
+use Rattle.reports.proofs.checking.check_in.Statement.{statement}
+use Rattle.reports.proofs.checking.check_in.Tie as tie
+use Rattle.reports.proofs.checking.check_in.Reads as reads
+use Rattle.reports.proofs.checking.check_in.Lts as lts
+use Rattle.checks.proofs.check_sheet.Reads as check-sheet-reads
+use Rattle.commands.proofs.write_refused.Reads as write-refused-reads
+use Rattle.commands.proofs.write_refused_unknown.Reads as write-refused-unknown-reads
+use Rattle.reports.proofs.checking.write_words.Reads as write-words-reads
+
+sound-book : (s : tie.Start) → Sound (s .args .book)
+sound-book s = sound-parts (s .args .book) (record { places = search (needs, length-mapped); entries = search (needs, length-mapped); matrix = search needs; right = search needs }) (s .pre .0)
+
+check-sheet-requires : tie.Need-check-sheet-requires
+check-sheet-requires c κs = search needs
+
+enum-told : tie.Need-enum-told
+enum-told c = search needs
+
+write-words-requires : tie.Need-write-words-requires
+write-words-requires c κs =
+    let s = c .before .before .before .before .before .before .before .before .before .before in
+    let b = s .args .book in
+    let r = kinds-room (b .network) (b .places) in
+    (network-few (b .network) (sound-book s .network), omega (arith, r, s .pre .1, c .before .before .before .before .before .before .before .check-sheet .kept .1 .1 .1 .0), s .pre .2)
+
+enum-known-answer : tie.Need-enum-known-answer
+enum-known-answer c = search needs
+
+write-refused-requires : tie.Need-write-refused-requires
+write-refused-requires c κs = search needs
+
+enum-known-answer-2 : tie.Need-enum-known-answer-2
+enum-known-answer-2 c = search needs
+
+write-refused-unknown-requires : tie.Need-write-refused-unknown-requires
+write-refused-unknown-requires c κs = search needs
+
+same-length : tie.Need-same-length
+same-length c = search needs
+
+same-length-2 : tie.Need-same-length-2
+same-length-2 c = search needs
+
+returns : tie.Need-returns
+returns c =
+    let s = c .before .before .before .before .before .before .before .before .before .before .before .before .before in
+    let k = c .before .before .before .before .before .before .before .before .before .before .check-sheet in
+    (written-as (says-sheet (s .args .book) (now (s .args .x)) (now (s .args .m)) (now (s .args .words)) (s .pre .1) (k .result) (k .ensures .0) _ (c .before .before .before .before .before .enum-told .given .1) (k .ensures .1)) (c .before .before .write-words .ensures .0), c .before .before .write-words .ensures .1)
+
+same-length-3 : tie.Need-same-length-3
+same-length-3 c = search needs
+
+same-length-4 : tie.Need-same-length-4
+same-length-4 c = search needs
+
+returns-2 : tie.Need-returns-2
+returns-2 c =
+    let s = c .before .before .before .before .before .before .before .before .before .before .before .before .before in
+    let k = c .before .before .before .before .before .before .before .before .before .before .check-sheet in
+    (written-as (says-refused (s .args .book) (now (s .args .x)) (now (s .args .m)) (now (s .args .words)) (s .pre .1) (k .result) (k .ensures .0) _ (c .before .before .before .before .before .answer .given .1)) (c .before .before .write-refused .ensures .0), omega (arith, c .before .before .write-refused .ensures .1))
+
+same-length-5 : tie.Need-same-length-5
+same-length-5 c = search needs
+
+same-length-6 : tie.Need-same-length-6
+same-length-6 c = search needs
+
+returns-3 : tie.Need-returns-3
+returns-3 c =
+    let s = c .before .before .before .before .before .before .before .before .before .before .before .before .before in
+    let k = c .before .before .before .before .before .before .before .before .before .before .check-sheet in
+    (written-as (says-untied (s .args .book) (now (s .args .x)) (now (s .args .m)) (now (s .args .words)) (s .pre .1) (k .result) (k .ensures .0) _ (c .before .before .before .before .before .answer2 .given .1)) (c .before .before .write-refused-unknown .ensures .0), omega (arith, c .before .before .write-refused-unknown .ensures .1))
+
+pub check-in-spec : {M : Type 1} → statement M
+check-in-spec =
+    tie.close
+    (tie.spec
+    check-sheet-requires
+    enum-told
+    write-words-requires
+    enum-known-answer
+    write-refused-requires
+    enum-known-answer-2
+    write-refused-unknown-requires
+    same-length
+    same-length-2
+    returns
+    same-length-3
+    same-length-4
+    returns-2
+    same-length-5
+    same-length-6
+    returns-3)

@@ -1,0 +1,64 @@
+-- `checking::write_words` meets its contract. Assumes nothing.
+use Prim.Native.Nat.{_≤_}
+use native.Mathlib.Omega.{arith}
+use lib.ListN.{length}
+use Rattle.reports.specs.ReportLaws.{kinds-front, kinds-few}
+use borrow.Author.Needs.{needs}
+use Rattle.reports.proofs.checking.write_words.Statement.{statement}
+use Rattle.reports.proofs.checking.write_words.Tie as tie
+use Rattle.reports.proofs.checking.write_words.Reads as reads
+use Rattle.reports.proofs.checking.write_words.Lts as lts
+use Rattle.commands.proofs.write_sheet.Reads as write-sheet-reads
+use Rattle.reports.proofs.checking.no_kinds.Reads as no-kinds-reads
+use Rattle.reports.proofs.checking.put_kinds.Reads as put-kinds-reads
+
+no-kinds-requires : tie.Need-no-kinds-requires
+no-kinds-requires c κs = search needs
+
+slice-aggregate-put-kinds : tie.Need-slice-aggregate-put-kinds
+slice-aggregate-put-kinds c = search needs
+
+put-kinds-requires : tie.Need-put-kinds-requires
+put-kinds-requires c κs = search needs
+
+sub-write-sheet : tie.Need-sub-write-sheet
+sub-write-sheet c = search needs
+
+part-write-sheet-start : tie.Need-part-write-sheet-start
+part-write-sheet-start c = search needs
+
+part-write-sheet-end : tie.Need-part-write-sheet-end
+part-write-sheet-end c = search needs
+
+write-sheet-requires : tie.Need-write-sheet-requires
+write-sheet-requires c κs =
+    let k = c .before .before .before .before .put-kinds in
+    let s = c .before .before .before .before .before .before .before .before in
+    let e = kinds-front (s .args .places) (k .ensures .0) (let h : 256 ≤ length (c .before .before .before .before .before .before .no-kinds .result) = omega (arith, c .before .before .before .before .before .before .no-kinds .ensures) in h) in
+    let few = kinds-few (s .args .places) 256 in
+    rw e (s .pre .1, omega (arith, s .pre .0, s .pre .2, few))
+
+same-length : tie.Need-same-length
+same-length c = search needs
+
+returns : tie.Need-returns
+returns c =
+    let k = c .before .before .before .before .before .before .before .put-kinds in
+    let s = c .before .before .before .before .before .before .before .before .before .before .before in
+    let e = kinds-front (s .args .places) (k .ensures .0) (let h : 256 ≤ length (c .before .before .before .before .before .before .before .before .before .no-kinds .result) = omega (arith, c .before .before .before .before .before .before .before .before .before .no-kinds .ensures) in h) in
+    let w = rw e at (c .before .before .write-sheet .ensures) in
+    (w .0, omega (arith, w .1, s .pre .0, kinds-few (s .args .places) 256))
+
+pub write-words-spec : {M : Type 1} → statement M
+write-words-spec =
+    tie.close
+    (tie.spec
+    no-kinds-requires
+    slice-aggregate-put-kinds
+    put-kinds-requires
+    sub-write-sheet
+    part-write-sheet-start
+    part-write-sheet-end
+    write-sheet-requires
+    same-length
+    returns)

@@ -1,0 +1,93 @@
+-- `proposing::propose_in` meets its contract. Assumes nothing.
+use mathlib.Core.Path.{_≡_, subst}
+use mathlib.Core.Bool.{true}
+use native.Mathlib.Omega.{arith}
+use denote.Ref.{now}
+use Rattle.acceptance.specs.declared.Answer.the-variants.{Accepted}
+use Rattle.checks.specs.Checks.{checked}
+use Rattle.engine.specs.declared.Proposal.{Proposal}
+use Rattle.engine.specs.Proposals.{Proposed}
+use Rattle.commands.specs.SheetLaws.{written-as}
+use Rattle.reports.specs.Reports.{none, pair, no-pair, accepted, offerSays}
+use Rattle.reports.specs.ReportLaws.{accepted-says}
+use borrow.Author.Needs.{needs}
+use Rattle.reports.proofs.proposing.propose_in.Statement.{statement}
+use Rattle.reports.proofs.proposing.propose_in.Tie as tie
+use Rattle.reports.proofs.proposing.propose_in.Reads as reads
+use Rattle.reports.proofs.proposing.propose_in.Lts as lts
+use Rattle.commands.proofs.write_no_proposal.Reads as write-no-proposal-reads
+use Rattle.engine.proofs.propose.Reads as propose-reads
+use Rattle.reports.proofs.checking.write_check.Reads as write-check-reads
+
+propose-requires : tie.Need-propose-requires
+propose-requires c κs = search needs
+
+enum-told : tie.Need-enum-told
+enum-told c = search needs
+
+write-no-proposal-requires : tie.Need-write-no-proposal-requires
+write-no-proposal-requires c κs = search needs
+
+enum-told-2 : tie.Need-enum-told-2
+enum-told-2 c = search needs
+
+write-check-requires : tie.Need-write-check-requires
+write-check-requires c κs = search needs
+
+same-length : tie.Need-same-length
+same-length c = search needs
+
+same-length-2 : tie.Need-same-length-2
+same-length-2 c = search needs
+
+same-length-3 : tie.Need-same-length-3
+same-length-3 c = search needs
+
+same-length-4 : tie.Need-same-length-4
+same-length-4 c = search needs
+
+returns : tie.Need-returns
+unfolding offerSays
+returns c = record { offer = none; offers = no-pair; written = c .before .before .write-no-proposal .ensures; small = omega (arith, c .before .before .write-no-proposal .ensures .past) }
+
+same-length-5 : tie.Need-same-length-5
+same-length-5 c = search needs
+
+same-length-6 : tie.Need-same-length-6
+same-length-6 c = search needs
+
+same-length-7 : tie.Need-same-length-7
+same-length-7 c = search needs
+
+same-length-8 : tie.Need-same-length-8
+same-length-8 c = search needs
+
+returns-2 : tie.Need-returns-2
+returns-2 c =
+    let s = c .before .before .before .before .before .before .before .before .before .before .before .before .before .before .before .before .before .before in
+    let b = s .args .book in
+    let p = c .before .before .before .before .before .before .before .before .before .before .before .before .propose in
+    let x = p .last .1 .0 in
+    let m = p .last .1 .1 .0 in
+    let e : checked b x m true ≡ Accepted = subst (λ (r : Proposal). Proposed r (checked b x m true) (now (s .args .x)) (now (s .args .m)) x m) (c .before .before .before .before .before .before .enum-told2 .given .1) (p .ensures .0) in
+    record { offer = pair x m; offers = accepted e; written = written-as (accepted-says b x m e) (c .before .before .write-check .ensures .0); small = c .before .before .write-check .ensures .1 }
+
+pub propose-in-spec : {M : Type 1} → statement M
+propose-in-spec =
+    tie.close
+    (tie.spec
+    propose-requires
+    enum-told
+    write-no-proposal-requires
+    enum-told-2
+    write-check-requires
+    same-length
+    same-length-2
+    same-length-3
+    same-length-4
+    returns
+    same-length-5
+    same-length-6
+    same-length-7
+    same-length-8
+    returns-2)

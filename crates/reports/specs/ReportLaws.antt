@@ -1,0 +1,128 @@
+-- Laws of reports: the words of a sheet are as many as its lines take, and the cases of a check. Assumes nothing.
+use Prim.Native.Nat.{ℕ, zero, suc, _+_, _-_, _*_, _≤_, _<_}
+use mathlib.Core.Path.{_≡_, refl, sym, ap, subst, _∙_}
+use mathlib.Core.Bool.{true}
+use mathlib.Core.List.{List, [], _∷_, _++_, append-nil}
+use native.Mathlib.Omega.{arith}
+use native.Mathlib.Numerals.{add-one}
+use native.Mathlib.Nat.{add-zero}
+use borrow.Author.Tests.{le-leb}
+use lib.ListN.{length, getD, take, drop, length-append, List·getD-append}
+use lib.Seq.{sets, sets-eq, take-at, getD-append-add, drop-length}
+use lib.IntN.{ℤ}
+use Rattle.integers.specs.Sums.{sumN, sumN-const}
+use Rattle.network.specs.Records.{recordAt}
+use Rattle.network.specs.declared.Network.{Network}
+use Rattle.network.specs.declared.Place.{Place}
+use Rattle.network.specs.declared.Record.{Record}
+use Rattle.network.specs.declared.Record.the-variants.{Empty, Baseline as baseline, Height as height}
+use Rattle.acceptance.specs.declared.Answer.{Answer}
+use Rattle.acceptance.specs.declared.Answer.the-variants.{Accepted, Refused, Untied}
+use Rattle.book.specs.declared.Book.{Book}
+use Rattle.sheet.specs.Sheet.{wordsOf, room, sheetWords}
+use Rattle.checks.specs.Checks.{checked, hasRoom, onAcceptance, sheetAfter}
+use Rattle.text.specs.Writing.{Written}
+use Rattle.commands.specs.Messages.{refused, refusedUnknown}
+use Rattle.commands.specs.Sheet.{recordWords, recordStart, globalStart, sheetText}
+use Rattle.reports.specs.Reports.{kindsAt, kindsBelow, kindsOf, sheetOf, answerSays, checkSays, pair, offerSays}
+
+-- ════ what was written stands at the front
+pub front : {l : List ℕ} {t : List ℕ} {n : ℕ} {after : List ℕ} → Written l 0 t n after → length t ≤ length l → take n after ≡ t
+front {l} {t} {n} w h =
+    let e : n ≡ length t = let p = w .past in omega arith in
+    rw (w .leaves, sets-eq t l 0 (omega arith), e) (take-at t (drop (0 + length t) l) (length t) refl)
+
+-- ════ kinds
+pub kinds-none : (places : List Place) → kindsBelow places 0 ≡ []
+unfolding kindsBelow
+kinds-none places = refl
+
+pub kinds-more : (places : List Place) (k : ℕ) → kindsBelow places k ++ kindsAt (recordAt places k) ≡ kindsBelow places (k + 1)
+unfolding kindsBelow
+kinds-more places k = rw add-one
+
+at-most-one : (r : Record) → length (kindsAt r) ≤ 1
+unfolding kindsAt
+at-most-one Empty = let h : 0 ≤ 1 = omega arith in h
+at-most-one (baseline b) = let h : 1 ≤ 1 = omega arith in h
+at-most-one (height l) = let h : 1 ≤ 1 = omega arith in h
+
+pub kinds-few : (places : List Place) (k : ℕ) → length (kindsBelow places k) ≤ k
+unfolding kindsBelow
+kinds-few places zero = let h : 0 ≤ 0 = omega arith in h
+kinds-few places (suc k) = rw length-append (omega (arith, kinds-few places k, at-most-one (recordAt places k)))
+
+pub kinds-front : (places : List Place) {l : List ℕ} {n : ℕ} {after : List ℕ} → Written l 0 (kindsOf places) n after → 256 ≤ length l → take (n - 0) after ≡ kindsOf places
+kinds-front places {l} {n} w h = let e : n - 0 ≡ n = omega arith in rw e (front w (omega (arith, kinds-few places 256)))
+
+-- ════ where the words of the records end
+module _ (o : ℕ) where
+  start-front : (a b : List ℕ) (i : ℕ) → i ≤ length a → recordStart o (a ++ b) i ≡ recordStart o a i
+  unfolding recordStart
+  start-front a b zero h = refl
+  start-front a b (suc i) h =
+      let e : getD (a ++ b) i 0 ≡ getD a i 0 = List·getD-append a b 0 i (omega arith) in
+      rw (start-front a b i (omega arith), e)
+
+  start-last : (a : List ℕ) (kind : ℕ) → recordStart o (a ++ (kind ∷ [])) (length (a ++ (kind ∷ []))) ≡ recordStart o a (length a) + recordWords kind
+  unfolding recordStart
+  start-last a kind =
+      let e : length (a ++ (kind ∷ [])) ≡ suc (length a) = rw length-append (omega arith) in
+      let g : getD (a ++ (kind ∷ [])) (length a) 0 ≡ kind = ap (λ (i : ℕ). getD (a ++ (kind ∷ [])) i 0) (sym (add-zero (length a))) ∙ getD-append-add a (kind ∷ []) 0 0 in
+      rw (e, start-front a (kind ∷ []) (length a) (omega arith), g)
+
+  start-record : (a : List ℕ) (r : Record) → recordStart o (a ++ kindsAt r) (length (a ++ kindsAt r)) ≡ recordStart o a (length a) + wordsOf r
+  unfolding kindsAt wordsOf recordWords
+  start-record a Empty = rw append-nil (omega arith)
+  start-record a (baseline b) = start-last a 1
+  start-record a (height h) = start-last a 2
+
+  start-below : (places : List Place) (k : ℕ) → recordStart o (kindsBelow places k) (length (kindsBelow places k)) ≡ o + sumN k (λ p. wordsOf (recordAt places p))
+  unfolding kindsBelow recordStart sumN
+  start-below places zero = omega arith
+  start-below places (suc k) = start-record (kindsBelow places k) (recordAt places k) ∙ rw (start-below places k) (omega arith)
+
+-- the words of the global test end the sheet's
+pub kinds-room : (net : Network) (places : List Place) → globalStart (net .count) (kindsOf places) + 3 ≡ room net places
+unfolding globalStart room
+kinds-room net places = let e = start-below (2 + net .count * 7) places 256 in omega arith
+
+record-room : (r : Record) → wordsOf r ≤ 7
+unfolding wordsOf
+record-room Empty = let h : 0 ≤ 7 = omega arith in h
+record-room (baseline b) = let h : 7 ≤ 7 = omega arith in h
+record-room (height l) = let h : 3 ≤ 7 = omega arith in h
+
+pub room-small : (net : Network) (places : List Place) → net .count ≤ 32 → room net places ≤ 2021
+unfolding room
+room-small net places h = omega (arith, sumN-const 256 {f = λ p. wordsOf (recordAt places p)} 7 (λ p l. record-room (recordAt places p)))
+
+-- ════ a check with a sheet of just the words it takes: w are the words before, r the answer
+module _ (b : Book) (x m w : List ℤ) (long : length w ≡ room (b .network) (b .places)) (r : Answer) (is : r ≡ checked b x m (hasRoom b w)) where
+  answered : checked b x m true ≡ r
+  answered =
+      let h : hasRoom b w ≡ true = le-leb _ _ (let k : room (b .network) (b .places) ≤ length w = omega arith in k) in
+      sym (is ∙ ap (checked b x m) h)
+
+  pub words-are : r ≡ Accepted → sheetAfter b x m w ≡ sheetWords (b .network) (b .places) x m
+  unfolding sheetAfter onAcceptance
+  words-are e =
+      let s = sheetWords (b .network) (b .places) x m in
+      rw (← is, e) (ap (λ (n : ℕ). s ++ drop n w) (sym long) ∙ ap (λ (l : List ℤ). s ++ l) (drop-length w) ∙ append-nil s)
+
+  pub says-sheet : (v : List ℤ) → r ≡ Accepted → v ≡ sheetAfter b x m w → sheetText v (b .network .count) (kindsOf (b .places)) ≡ checkSays b x m
+  unfolding checkSays answerSays
+  says-sheet v e q = rw (answered, e, q, words-are e)
+
+  pub says-refused : (k : ℕ) → r ≡ Refused k → refused k ≡ checkSays b x m
+  unfolding checkSays answerSays
+  says-refused k e = rw (answered, e)
+
+  pub says-untied : (k : ℕ) → r ≡ Untied k → refusedUnknown k ≡ checkSays b x m
+  unfolding checkSays answerSays
+  says-untied k e = rw (answered, e)
+
+-- ════ a proposal
+pub accepted-says : (b : Book) (x m : List ℤ) → checked b x m true ≡ Accepted → checkSays b x m ≡ offerSays b (pair x m)
+unfolding checkSays answerSays offerSays
+accepted-says b x m e = rw e

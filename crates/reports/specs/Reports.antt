@@ -1,0 +1,66 @@
+-- What a check prints, and what the engine's proposal prints. Assumes nothing.
+use Prim.Native.Nat.{ℕ, zero, suc, _≤_}
+use mathlib.Core.Path.{_≡_}
+use mathlib.Core.Bool.{true}
+use mathlib.Core.List.{List, [], _∷_, _++_}
+use lib.IntN.{ℤ}
+use Rattle.network.specs.Records.{recordAt}
+use Rattle.network.specs.declared.Place.{Place}
+use Rattle.network.specs.declared.Record.{Record}
+use Rattle.network.specs.declared.Record.the-variants.{Empty, Baseline as baseline, Height as height}
+use Rattle.acceptance.specs.declared.Answer.{Answer}
+use Rattle.acceptance.specs.declared.Answer.the-variants.{Accepted, Refused, Untied}
+use Rattle.book.specs.declared.Book.{Book}
+use Rattle.sheet.specs.Sheet.{sheetWords}
+use Rattle.checks.specs.Checks.{checked}
+use Rattle.text.specs.Writing as writing
+use Rattle.commands.specs.Messages.{refused, refusedUnknown, noProposal}
+use Rattle.commands.specs.Sheet.{sheetText}
+
+-- ════ the sheet
+-- the kinds of the records, by rising place: 1 a baseline, 2 a height difference
+unfoldable pub kindsAt : Record → List ℕ
+kindsAt Empty = []
+kindsAt (baseline b) = 1 ∷ []
+kindsAt (height h) = 2 ∷ []
+
+unfoldable pub kindsBelow : List Place → ℕ → List ℕ
+kindsBelow places zero = []
+kindsBelow places (suc k) = kindsBelow places k ++ kindsAt (recordAt places k)
+
+abbrev pub kindsOf : List Place → List ℕ
+kindsOf places = kindsBelow places 256
+
+-- the printed sheet of a pair
+abbrev pub sheetOf : Book → List ℤ → List ℤ → List ℕ
+sheetOf b x m = sheetText (sheetWords (b .network) (b .places) x m) (b .network .count) (kindsOf (b .places))
+
+-- ════ a check: "A refused … check prints `REFUSED no`, for 11 also the unknown, and ends"
+unfoldable pub answerSays : Answer → List ℕ → List ℕ
+answerSays Accepted sheet = sheet
+answerSays (Refused number) sheet = refused number
+answerSays (Untied unknown) sheet = refusedUnknown unknown
+
+unfoldable pub checkSays : Book → List ℤ → List ℤ → List ℕ
+checkSays b x m = answerSays (checked b x m true) (sheetOf b x m)
+
+-- ════ a proposal: "it is a pair the check accepts, or no proposal"
+pub data Offer : Type 0 where
+  none : Offer
+  pair : List ℤ → List ℤ → Offer
+
+pub data Offers (b : Book) : Offer → Type 0 where
+  no-pair : Offers b none
+  accepted : {x m : List ℤ} → checked b x m true ≡ Accepted → Offers b (pair x m)
+
+-- "Without a readable X or M line the engine proposes; with no proposal, `NO PROPOSAL`"
+unfoldable pub offerSays : Book → Offer → List ℕ
+offerSays b none = noProposal
+offerSays b (pair x m) = sheetOf b x m
+
+-- the engine's offer is named, and printed at the front of `before`, which leaves `after`
+pub record Reported (b : Book) (before : List ℕ) (next : ℕ) (after : List ℕ) : Type 0 where
+  pub offer : Offer
+  pub offers : Offers b offer
+  pub written : writing.Written before 0 (offerSays b offer) next after
+  pub small : next ≤ 32188

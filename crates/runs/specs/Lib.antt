@@ -1,0 +1,4 @@
+pub mod Runs
+pub mod States
+pub mod StateLaws
+pub mod Cut

@@ -1,0 +1,198 @@
+-- The run of an input, line by line: document 01's "The night print". Assumes nothing.
+use Prim.Native.Nat.{ℕ, suc}
+use mathlib.Core.Bool.{Bool, true, false, cond}
+use mathlib.Core.List.{List, [], _∷_, _++_}
+use lib.Dec.{eqb, leb}
+use lib.ListN.{length}
+use lib.IntN.{ℤ, pos}
+use Rattle.network.specs.StationWords.{stationWords}
+use Rattle.network.specs.declared.Station as station
+use Rattle.book.specs.declared.Book.{Book}
+use Rattle.book.specs.declared.Edited.{Edited}
+use Rattle.book.specs.Book.{opening, outcome}
+use Rattle.book.specs.Calls.{add, replace, strike, undo}
+use Rattle.text.specs.Fields.{restFields, Numbers, numbers, unreadable}
+use Rattle.text.specs.Lines.{Kept}
+use Rattle.commands.specs.declared.Command.{Command}
+use Rattle.commands.specs.declared.Command.the-variants.{Station, Add, Replace, Strike, Undo, Corrections, Matrix, Unreadable}
+use Rattle.commands.specs.Commands.{correctionsIn, matrixIn, isStationLine, keptCommand}
+use Rattle.commands.specs.Brings.{brings}
+use Rattle.commands.specs.Messages.{refusedLine, unreadableLine, refused}
+
+-- ════ the state of a run
+-- "S lines come first"; then a book, unless its opening was refused, which "ends"
+pub data Phase : Type 0 where
+  unopened : Phase
+  opened : Book → Phase
+  ended : Phase
+
+-- the numbers of the latest readable X line, or M line, where there was one
+pub data Given : Type 0 where
+  none : Given
+  given : List ℤ → Given
+
+pub record Run : Type 0 where
+  -- of the stations read so far, four each: kind, E, N, U
+  pub words : List ℤ
+  -- how many S lines were read
+  pub read : ℕ
+  -- how many lines there were
+  pub lines : ℕ
+  pub phase : Phase
+  pub corrections : Given
+  pub matrix : Given
+
+abbrev pub start : Run
+start = record { words = []; read = 0; lines = 0; phase = unopened; corrections = none; matrix = none }
+
+-- ════ stations
+-- the words of 33 stations are kept: more than 32 are refused, whatever they are (Cut, opening-cut)
+unfoldable pub noted : List ℤ → station.Station → List ℤ
+noted words s = cond (leb (length words) 128) (words ++ stationWords s) words
+
+-- ════ the opening
+abbrev pub phaseWith : Edited → Phase
+phaseWith e = cond (eqb (e .refusal) 0) (opened (e .book)) ended
+
+unfoldable pub phaseOpened : List ℤ → Phase → Phase
+phaseOpened words unopened = phaseWith (opening words)
+phaseOpened words (opened b) = opened b
+phaseOpened words ended = ended
+
+-- "A refused opening … prints `REFUSED no` … and ends"
+abbrev pub refusalSays : ℕ → List ℕ
+refusalSays number = cond (eqb number 0) [] (refused number)
+
+unfoldable pub openingSays : List ℤ → Phase → List ℕ
+openingSays words unopened = refusalSays (opening words .refusal)
+openingSays words (opened b) = []
+openingSays words ended = []
+
+abbrev pub openRun : Run → Run
+openRun r =
+    record {
+      words = r .words;
+      read = r .read;
+      lines = r .lines;
+      phase = phaseOpened (r .words) (r .phase);
+      corrections = r .corrections;
+      matrix = r .matrix;
+    }
+
+-- "the first line whose first field isn't S, or the end, opens": the run in which a line is read, and what is printed before it is
+unfoldable pub entered : Run → Kept → Run
+entered r k = cond (isStationLine (k .text)) r (openRun r)
+
+unfoldable pub enteringSays : Run → Kept → List ℕ
+enteringSays r k = cond (isStationLine (k .text)) [] (openingSays (r .words) (r .phase))
+
+-- ════ what a line asks, and what that leaves
+unfoldable pub isUnopened : Phase → Bool
+isUnopened unopened = true
+isUnopened (opened b) = false
+isUnopened ended = false
+
+abbrev pub asked : Run → Kept → Command
+asked r k = keptCommand (r .read) (isUnopened (r .phase)) k
+
+unfoldable pub wordsAfter : List ℤ → Command → List ℤ
+wordsAfter words (Station s) = noted words s
+wordsAfter words (Add p r) = words
+wordsAfter words (Replace p r) = words
+wordsAfter words (Strike p) = words
+wordsAfter words Undo = words
+wordsAfter words (Corrections n) = words
+wordsAfter words (Matrix n) = words
+wordsAfter words Unreadable = words
+
+unfoldable pub readAfter : ℕ → Command → ℕ
+readAfter n (Station s) = suc n
+readAfter n (Add p r) = n
+readAfter n (Replace p r) = n
+readAfter n (Strike p) = n
+readAfter n Undo = n
+readAfter n (Corrections k) = n
+readAfter n (Matrix k) = n
+readAfter n Unreadable = n
+
+-- "H or B adds …; R before H or B replaces; D and a place strikes; U undoes": the number of the refusal, or 0, and the book
+abbrev pub unedited : Book → Edited
+unedited b = record { refusal = 0; book = b }
+
+unfoldable pub edits : Book → Command → Edited
+edits b (Station s) = unedited b
+edits b (Add p r) = outcome b (add p r)
+edits b (Replace p r) = outcome b (replace p r)
+edits b (Strike p) = outcome b (strike p)
+edits b Undo = outcome b undo
+edits b (Corrections n) = unedited b
+edits b (Matrix n) = unedited b
+edits b Unreadable = unedited b
+
+unfoldable pub phaseAfter : Phase → Command → Phase
+phaseAfter unopened c = unopened
+phaseAfter (opened b) c = opened (edits b c .book)
+phaseAfter ended c = ended
+
+-- "X gives the corrections, M the matrix by rows; … a later one replaces an earlier"; an unreadable one changes nothing
+unfoldable pub givenBy : Numbers → Given
+givenBy unreadable = none
+givenBy (numbers vs) = given vs
+
+abbrev pub correctionsNext : Given → List (List ℕ) → Command → Given
+correctionsNext g fields c = cond (eqb (brings c) 1) (givenBy (correctionsIn fields)) g
+
+abbrev pub matrixNext : Given → List (List ℕ) → Command → Given
+matrixNext g fields c = cond (eqb (brings c) 2) (givenBy (matrixIn fields)) g
+
+-- ════ what a line prints
+-- "A refused edit prints `LINE k REFUSED no`, k from 1; any other line `LINE k UNREADABLE`"
+abbrev pub refusedSays : ℕ → ℕ → List ℕ
+refusedSays k number = cond (eqb number 0) [] (refusedLine k number)
+
+unfoldable pub commandSays : ℕ → ℕ → Command → List ℕ
+commandSays k number (Station s) = refusedSays k number
+commandSays k number (Add p r) = refusedSays k number
+commandSays k number (Replace p r) = refusedSays k number
+commandSays k number (Strike p) = refusedSays k number
+commandSays k number Undo = refusedSays k number
+commandSays k number (Corrections n) = refusedSays k number
+commandSays k number (Matrix n) = refusedSays k number
+commandSays k number Unreadable = unreadableLine k
+
+-- after a refused opening a line prints nothing
+unfoldable pub phaseSays : Phase → ℕ → Command → List ℕ
+phaseSays unopened k c = commandSays k 0 c
+phaseSays (opened b) k c = commandSays k (edits b c .refusal) c
+phaseSays ended k c = []
+
+-- ════ one line: what it leaves, and what it prints
+-- c is what the line asks
+abbrev pub obeyed : Run → Kept → Command → Run
+obeyed r k c =
+    record {
+      words = wordsAfter (r .words) c;
+      read = readAfter (r .read) c;
+      lines = suc (r .lines);
+      phase = phaseAfter (r .phase) c;
+      corrections = correctionsNext (r .corrections) (restFields (k .text)) c;
+      matrix = matrixNext (r .matrix) (restFields (k .text)) c;
+    }
+
+unfoldable pub next : Run → Kept → Run
+next r k = obeyed (entered r k) k (asked (entered r k) k)
+
+abbrev pub obeyedSays : Run → Command → List ℕ
+obeyedSays r c = phaseSays (r .phase) (suc (r .lines)) c
+
+unfoldable pub says : Run → Kept → List ℕ
+says r k = enteringSays r k ++ obeyedSays (entered r k) (asked (entered r k) k)
+
+-- ════ lines one after the other
+unfoldable pub runAfter : Run → List Kept → Run
+runAfter r [] = r
+runAfter r (k ∷ ks) = runAfter (next r k) ks
+
+unfoldable pub saysAll : Run → List Kept → List ℕ
+saysAll r [] = []
+saysAll r (k ∷ ks) = says r k ++ saysAll (next r k) ks
