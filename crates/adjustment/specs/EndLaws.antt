@@ -1,12 +1,11 @@
 -- The cases of the end of an input. Assumes nothing.
 use Prim.Native.Nat.{ℕ, _≤_}
-use mathlib.Core.Path.{_≡_, refl, sym, ap, _∙_}
-use mathlib.Core.Bool.{Bool, true, false, cond, _||_}
-use mathlib.Core.List.{List, [], _++_, append-nil}
+use mathlib.Core.Path.{_≡_, refl, sym, _∙_}
+use mathlib.Core.Bool.{true, false, _||_}
+use mathlib.Core.List.{List, append-nil}
 use native.Mathlib.Omega.{arith}
 use borrow.Author.Tests.{eq-eqb, ne-eqb}
-use lib.Dec.{eqb}
-use lib.ListN.{length, take}
+use lib.ListN.{take}
 use lib.IntN.{ℤ}
 use Rattle.book.specs.declared.Book.{Book}
 use Rattle.book.specs.declared.Edited.{Edited}
@@ -14,14 +13,14 @@ use Rattle.book.specs.Book as book
 use Rattle.text.specs.Writing.{Written, nothing}
 use Rattle.commands.specs.Messages.{refused}
 use Rattle.commands.specs.SheetLaws.{written-as}
-use Rattle.reports.specs.Reports.{checkSays, Offer, Offers, offerSays, no-pair}
+use Rattle.reports.specs.Reports.{checkSays, Offer, offerSays, no-pair}
 use Rattle.reports.specs.Reports as reports
 use Rattle.runs.specs.declared.Phase as code-phase
 use Rattle.runs.specs.declared.Phase.the-variants.{Unopened, Opened, Ended}
 use Rattle.runs.specs.declared.Given as code-given
 use Rattle.runs.specs.declared.Given.the-variants as code
 use Rattle.runs.specs.declared.State.{State}
-use Rattle.runs.specs.Runs.{Phase, unopened, opened, ended, phaseWith, phaseOpened, openingSays, openRun}
+use Rattle.runs.specs.Runs.{Phase, opened, ended, phaseWith, phaseOpened, openingSays}
 use Rattle.runs.specs.States.{phaseOf, givenOf, isGiven, countOf, runOf, openedPhase, endedPhase, Opens}
 use Rattle.adjustment.specs.Ends.{bookEnds, phaseEnds, endSays, BookEnds, Ends}
 

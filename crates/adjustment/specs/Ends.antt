@@ -2,7 +2,6 @@
 use Prim.Native.Nat.{ℕ, _≤_}
 use mathlib.Core.Path.{_≡_}
 use mathlib.Core.List.{List, [], _++_, map}
-use lib.IntN.{ℤ}
 use Rattle.book.specs.declared.Book.{Book}
 use Rattle.text.specs.Lines.{Kept, kept, linesOf}
 use Rattle.text.specs.Writing as writing

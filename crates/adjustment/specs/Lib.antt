@@ -3,3 +3,4 @@ pub mod ChunkLaws
 pub mod Ends
 pub mod EndLaws
 pub mod Whole
+pub mod Examples

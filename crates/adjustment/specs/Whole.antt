@@ -3,14 +3,12 @@ use Prim.Native.Nat.{ℕ, suc, _≤_}
 use mathlib.Core.Path.{_≡_, refl, sym, ap, _∙_}
 use mathlib.Core.Bool.{Bool, true, false, cond}
 use mathlib.Core.List.{List, [], _∷_, _++_, append-assoc, append-nil}
-use native.Mathlib.Omega.{arith}
 use lib.ListN.{length, take}
-use Rattle.book.specs.declared.Book.{Book}
 use Rattle.text.specs.Lines.{Kept, blank, came, cameAll, concat, isLine, lastKept}
 use Rattle.text.specs.LineLaws.{lines-of-chunks}
 use Rattle.commands.specs.Commands.{isStationLine}
-use Rattle.reports.specs.Reports.{Offer, none, Offers, no-pair}
-use Rattle.runs.specs.Runs.{Phase, opened, ended, Run, start, phaseOpened, openingSays, openRun, entered, enteringSays, asked, phaseAfter, phaseSays, next, says, runAfter, saysAll}
+use Rattle.reports.specs.Reports.{Offer, none, no-pair}
+use Rattle.runs.specs.Runs.{ended, Run, start, phaseOpened, openingSays, openRun, entered, enteringSays, asked, phaseAfter, phaseSays, next, says, runAfter, saysAll}
 use Rattle.adjustment.specs.Chunks.{Takes}
 use Rattle.adjustment.specs.Ends.{phaseEnds, endSays, OffersAt, Ends, keptLines, printed}
 use Rattle.runs.specs.StateLaws.{written-front}

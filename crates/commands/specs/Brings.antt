@@ -1,13 +1,13 @@
 -- What a line brings: corrections, a matrix, or neither; and that just these are stored. Assumes nothing.
-use Prim.Native.Nat.{ℕ, _+_, _≤_}
-use mathlib.Core.Path.{_≡_, refl, sym, ap, _∙_}
+use Prim.Native.Nat.{ℕ, _≤_}
+use mathlib.Core.Path.{_≡_, refl, sym}
 use mathlib.Core.Bool.{Bool, true, false, cond}
-use mathlib.Core.List.{List, [], _∷_, _++_}
+use mathlib.Core.List.{List, [], _∷_}
 use native.Mathlib.Omega.{arith}
 use borrow.Author.Tests.{eqb-true, ne-eqb, leb-true}
 use lib.Dec.{eqb, leb}
-use lib.ListN.{length, take, drop}
-use lib.Seq.{sets, sets-eq, take-at}
+use lib.ListN.{length}
+use lib.Seq.{sets}
 use lib.IntN.{ℤ}
 use Rattle.text.specs.Numbers.{numberOf}
 use Rattle.text.specs.Fields.{restFields, letterOf, Numbers, numbers, unreadable, numbersOf, atMost, storedIn}
@@ -16,7 +16,7 @@ use Rattle.commands.specs.declared.Entry.{Entry}
 use Rattle.commands.specs.declared.Entry.the-variants as entry
 use Rattle.commands.specs.declared.Command.{Command}
 use Rattle.commands.specs.declared.Command.the-variants.{Station, Add, Replace, Strike, Undo, Corrections, Matrix, Unreadable}
-use Rattle.commands.specs.Commands.{exactly, entryOf, added, replaced, replaceOf, strikeOf, undoOf, counted, correctionsIn, matrixIn, stationWith, kindOf, inTurn, stationOf, otherOf, fieldsCommand, letterIn, keptCommand, correctionsAfter, matrixAfter, Obeys}
+use Rattle.commands.specs.Commands.{exactly, entryOf, added, replaced, replaceOf, strikeOf, undoOf, counted, correctionsIn, matrixIn, kindOf, inTurn, stationOf, otherOf, fieldsCommand, letterIn, keptCommand, correctionsAfter, matrixAfter, Obeys}
 
 -- 1 corrections, 2 a matrix, 0 neither
 unfoldable pub brings : Command → ℕ

@@ -1,7 +1,7 @@
 // Commands: a line of the input to what it asks, and the printed lines. Document 01's "The night print".
 mod messages;
+mod printing;
 mod reading;
-mod sheet;
 
 pub use messages::write_no_proposal;
 pub use messages::write_refused;
@@ -10,14 +10,14 @@ pub use messages::write_refused_unknown;
 pub use messages::write_unreadable_line;
 use network::Record;
 use network::Station;
+pub use printing::write_baseline;
+pub use printing::write_global;
+pub use printing::write_head;
+pub use printing::write_height;
+pub use printing::write_sheet;
+pub use printing::write_station;
 pub use reading::is_station_line;
 pub use reading::read_command;
-pub use sheet::write_baseline;
-pub use sheet::write_global;
-pub use sheet::write_head;
-pub use sheet::write_height;
-pub use sheet::write_sheet;
-pub use sheet::write_station;
 
 // What a line asks.
 pub enum Command {

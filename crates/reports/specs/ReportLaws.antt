@@ -1,6 +1,6 @@
 -- Laws of reports: the words of a sheet are as many as its lines take, and the cases of a check. Assumes nothing.
-use Prim.Native.Nat.{ℕ, zero, suc, _+_, _-_, _*_, _≤_, _<_}
-use mathlib.Core.Path.{_≡_, refl, sym, ap, subst, _∙_}
+use Prim.Native.Nat.{ℕ, zero, suc, _+_, _-_, _*_, _≤_}
+use mathlib.Core.Path.{_≡_, refl, sym, ap, _∙_}
 use mathlib.Core.Bool.{true}
 use mathlib.Core.List.{List, [], _∷_, _++_, append-nil}
 use native.Mathlib.Omega.{arith}
@@ -8,7 +8,7 @@ use native.Mathlib.Numerals.{add-one}
 use native.Mathlib.Nat.{add-zero}
 use borrow.Author.Tests.{le-leb}
 use lib.ListN.{length, getD, take, drop, length-append, List·getD-append}
-use lib.Seq.{sets, sets-eq, take-at, getD-append-add, drop-length}
+use lib.Seq.{sets-eq, take-at, getD-append-add, drop-length}
 use lib.IntN.{ℤ}
 use Rattle.integers.specs.Sums.{sumN, sumN-const}
 use Rattle.network.specs.Records.{recordAt}
@@ -24,7 +24,7 @@ use Rattle.checks.specs.Checks.{checked, hasRoom, onAcceptance, sheetAfter}
 use Rattle.text.specs.Writing.{Written}
 use Rattle.commands.specs.Messages.{refused, refusedUnknown}
 use Rattle.commands.specs.Sheet.{recordWords, recordStart, globalStart, sheetText}
-use Rattle.reports.specs.Reports.{kindsAt, kindsBelow, kindsOf, sheetOf, answerSays, checkSays, pair, offerSays}
+use Rattle.reports.specs.Reports.{kindsAt, kindsBelow, kindsOf, answerSays, checkSays, pair, offerSays}
 
 -- ════ what was written stands at the front
 pub front : {l : List ℕ} {t : List ℕ} {n : ℕ} {after : List ℕ} → Written l 0 t n after → length t ≤ length l → take n after ≡ t

@@ -1,19 +1,18 @@
 -- That the words of 33 stations are kept, and no more, changes no opening: more than 32 are refused, whatever they are. Assumes nothing.
-use Prim.Native.Nat.{ℕ, suc, _+_, _*_, _/_, _%_, _≤_, _<_}
+use Prim.Native.Nat.{ℕ, suc, _+_, _*_, _/_, _≤_}
 use mathlib.Core.Path.{_≡_, refl, sym, ap, _∙_}
-use mathlib.Core.Bool.{Bool, true, false, cond, _&&_, and-false}
+use mathlib.Core.Bool.{false, cond, and-false}
 use mathlib.Core.List.{List, [], _∷_, _++_, append-nil, append-assoc}
 use native.Mathlib.Omega.{arith}
 use native.Mathlib.Decide.{decLe}
-use native.Mathlib.Nat.{div-lt-iff-lt-mul, le-div-iff-mul-le}
 use borrow.Author.Tests.{le-leb, lt-leb}
 use lib.Dec.{leb}
 use lib.ListN.{length, take, length-append}
 use lib.Seq.{take-all, take-append-le, length-take-le}
 use lib.IntN.{ℤ}
 use Rattle.network.specs.declared.Station.{Station}
-use Rattle.network.specs.Stations.{wholeStations, countFits, kindsFit, coordinatesFit, unknownsFit, networkOf, opens}
-use Rattle.book.specs.Book.{openedBook, opening}
+use Rattle.network.specs.Stations.{opens}
+use Rattle.book.specs.Book.{opening}
 use Rattle.network.specs.StationWords.{stationWords, flat}
 use Rattle.runs.specs.Runs.{noted}
 use Rattle.runs.specs.StateLaws.{four}

@@ -1,12 +1,11 @@
 -- The steps of a line as the code takes them: the state after each is what the run's definitions say. Assumes nothing.
-use Prim.Native.Nat.{ℕ, zero, suc, _+_, _-_, _≤_, _<_}
+use Prim.Native.Nat.{ℕ, suc, _+_, _-_, _≤_, _<_}
 use mathlib.Core.Path.{_≡_, refl, sym, ap, _∙_}
 use mathlib.Core.Bool.{Bool, true, false, cond, not, _&&_}
-use mathlib.Core.List.{List, [], _∷_, _++_, append-nil, append-assoc}
+use mathlib.Core.List.{List, [], _++_}
 use native.Mathlib.Omega.{arith}
-use native.Mathlib.Numerals.{add-one}
 use borrow.Author.Tests.{le-leb, lt-leb, eqb-true, not-true}
-use lib.Dec.{eqb, leb}
+use lib.Dec.{eqb}
 use lib.ListN.{length, take, drop, set, length-append}
 use lib.Seq.{sets, sets-eq, take-at, drop-at, length-take-le, drop-drop}
 use lib.IntN.{ℤ}
@@ -16,22 +15,21 @@ use Rattle.network.specs.declared.Station as station
 use Rattle.book.specs.declared.Book.{Book}
 use Rattle.book.specs.declared.Edited.{Edited}
 use Rattle.book.specs.Book as book
-use Rattle.text.specs.Fields.{restFields, Numbers, numbers, unreadable}
+use Rattle.text.specs.Fields.{Numbers}
 use Rattle.text.specs.Lines.{Kept}
 use Rattle.text.specs.Writing.{Written}
 use Rattle.commands.specs.declared.Command.{Command}
 use Rattle.commands.specs.declared.Command.the-variants.{Station, Add, Replace, Strike, Undo, Corrections, Matrix, Unreadable}
-use Rattle.commands.specs.Commands.{isStationLine, keptCommand, correctionsIn, matrixIn, Obeys}
-use Rattle.commands.specs.Brings.{brings, howMany, Brought, other, these, corrections-brought, matrix-brought}
+use Rattle.commands.specs.Commands.{isStationLine, Obeys}
+use Rattle.commands.specs.Brings.{brings, Brought, other, these}
 use Rattle.runs.specs.declared.Phase as code-phase
 use Rattle.runs.specs.declared.Phase.the-variants.{Unopened, Opened, Ended}
 use Rattle.runs.specs.declared.Given as code-given
-use Rattle.runs.specs.declared.Given.the-variants as code
 use Rattle.runs.specs.declared.State.{State}
 use Rattle.runs.specs.declared.Asked.{Asked}
 use Rattle.network.specs.StationWords.{kindWord, stationWords}
-use Rattle.runs.specs.Runs.{Phase, unopened, opened, ended, Given, none, given, Run, noted, phaseWith, phaseOpened, refusalSays, openingSays, openRun, entered, enteringSays, isUnopened, asked, wordsAfter, readAfter, unedited, edits, phaseAfter, givenBy, correctionsNext, matrixNext, commandSays, phaseSays, obeyed, next, obeyedSays, says}
-use Rattle.runs.specs.States.{phaseOf, givenOf, runOf, unopenedPhase, openedPhase, endedPhase, phaseAt, countOf, Ready, openedWith, Opens, Noted, WordsNoted, givenCount, Reads}
+use Rattle.runs.specs.Runs.{Phase, unopened, opened, ended, Given, given, noted, phaseWith, phaseOpened, refusalSays, openingSays, openRun, entered, enteringSays, isUnopened, asked, readAfter, unedited, edits, phaseAfter, givenBy, commandSays, phaseSays, obeyed, obeyedSays}
+use Rattle.runs.specs.States.{phaseOf, givenOf, runOf, unopenedPhase, openedPhase, endedPhase, phaseAt, countOf, Ready, openedWith, Opens, Noted, givenCount, Reads}
 
 -- ════ text written after the front of a buffer
 module _ {l t m : List ℕ} {p q : ℕ} (w : Written l p t q m) (room : q ≤ length l) where

@@ -92,7 +92,7 @@ pub record Opens (words : List ℤ) (e : edited.Edited) : Type 0 where
   pub is : e ≡ book.opening words
   pub sound : e .refusal ≡ 0 → book.sound (e .book) ≡ true
 
--- ════ a line noted
+-- ════ a line noted: the words at the front of the list, up to r
 pub record Noted (list : List ℤ) (words : ℕ) (s : station.Station) (r : ℕ) (after : List ℤ) : Type 0 where
   pub leaves : take r after ≡ noted (take words list) s
   pub few : r ≤ 132

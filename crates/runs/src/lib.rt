@@ -9,7 +9,6 @@ pub use editing::edit_opened;
 pub use editing::write_message;
 pub use opening::is_ended;
 pub use opening::is_opened;
-pub use opening::is_unopened;
 pub use opening::open_list;
 pub use opening::opened;
 pub use opening::opens_at;

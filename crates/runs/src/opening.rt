@@ -33,7 +33,7 @@ fn put_station(list: &mut [i64], at: usize, s: Station)
 }
 
 // The words of a station after those at the front of the list, where there is room; how many there are then.
-pub fn note_station(list: &mut [i64], words: usize, s: Station) -> usize
+pub(crate) fn note_station(list: &mut [i64], words: usize, s: Station) -> usize
     requires { ⌜ (132 ≤ length (now list)) × (words ≤ 132) ⌝ }
     ensures { λ r. ⌜ Noted (now (list .entry)) words s r (now (list .exit)) ⌝ }
 {
@@ -44,7 +44,7 @@ pub fn note_station(list: &mut [i64], words: usize, s: Station) -> usize
     words
 }
 
-pub fn is_unopened(state: State) -> bool
+pub(crate) fn is_unopened(state: State) -> bool
     ensures { λ r. ⌜ r ≡ unopenedPhase (state .phase) ⌝ }
 {
     let phase = state.phase;

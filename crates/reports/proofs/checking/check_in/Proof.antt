@@ -9,12 +9,6 @@ use Rattle.reports.specs.ReportLaws.{kinds-room, says-sheet, says-refuse
 use borrow.Author.Needs.{needs}
 use Rattle.reports.proofs.checking.check_in.Statement.{statement}
 use Rattle.reports.proofs.checking.check_in.Tie as tie
-use Rattle.reports.proofs.checking.check_in.Reads as reads
-use Rattle.reports.proofs.checking.check_in.Lts as lts
-use Rattle.checks.proofs.check_sheet.Reads as check-sheet-reads
-use Rattle.commands.proofs.write_refused.Reads as write-refused-reads
-use Rattle.commands.proofs.write_refused_unknown.Reads as write-refused-unknown-reads
-use Rattle.reports.proofs.checking.write_words.Reads as write-words-reads
 
 sound-book : (s : tie.Start) → Sound (s .args .book)
 sound-book s = sound-parts (s .args .book) (record { places = search (needs, length-mapped); entries = search (needs, length-mapped); matrix = search needs; right = search needs }) (s .pre .0)

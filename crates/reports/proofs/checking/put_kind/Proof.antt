@@ -5,9 +5,6 @@ use Rattle.reports.specs.Reports.{kindsAt}
 use borrow.Author.Needs.{needs}
 use Rattle.reports.proofs.checking.put_kind.Statement.{statement}
 use Rattle.reports.proofs.checking.put_kind.Tie as tie
-use Rattle.reports.proofs.checking.put_kind.Reads as reads
-use Rattle.reports.proofs.checking.put_kind.Lts as lts
-use Rattle.text.proofs.write_byte.Reads as write-byte-reads
 
 enum-told : tie.Need-enum-told
 enum-told c = search needs

@@ -1,7 +1,6 @@
 -- `checking::put_kinds` meets its contract. Assumes nothing.
-use Prim.Native.Nat.{ℕ, _-_, _≤_}
+use Prim.Native.Nat.{_-_, _≤_}
 use mathlib.Core.Path.{_≡_, refl, sym, ap}
-use mathlib.Core.List.{List}
 use native.Mathlib.Omega.{arith}
 use lib.ListN.{length}
 use Rattle.text.specs.Writing.{Written, nothing, _then_}
@@ -11,9 +10,6 @@ use Rattle.commands.specs.SheetLaws.{written-as}
 use borrow.Author.Needs.{needs}
 use Rattle.reports.proofs.checking.put_kinds.Statement.{statement}
 use Rattle.reports.proofs.checking.put_kinds.Tie as tie
-use Rattle.reports.proofs.checking.put_kinds.Reads as reads
-use Rattle.reports.proofs.checking.put_kinds.Lts as lts
-use Rattle.reports.proofs.checking.put_kind.Reads as put-kind-reads
 
 abbrev Inv-loop : tie.InvT-loop
 Inv-loop kinds₀ places n₀ p₀ kinds n p = (p ≤ 256) × (length kinds ≡ length kinds₀) × (n ≤ p) × Written kinds₀ 0 (kindsBelow places p) n kinds

@@ -7,11 +7,6 @@ use Rattle.reports.specs.ReportLaws.{room-small}
 use borrow.Author.Needs.{needs}
 use Rattle.reports.proofs.checking.write_check.Statement.{statement}
 use Rattle.reports.proofs.checking.write_check.Tie as tie
-use Rattle.reports.proofs.checking.write_check.Reads as reads
-use Rattle.reports.proofs.checking.write_check.Lts as lts
-use Rattle.reports.proofs.checking.check_in.Reads as check-in-reads
-use Rattle.reports.proofs.checking.no_words.Reads as no-words-reads
-use Rattle.sheet.proofs.room_of.Reads as room-of-reads
 
 sound-book : (s : tie.Start) → Sound (s .args .book)
 sound-book s = sound-parts (s .args .book) (record { places = search (needs, length-mapped); entries = search (needs, length-mapped); matrix = search needs; right = search needs }) (s .pre .0)

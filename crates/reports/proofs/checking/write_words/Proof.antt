@@ -6,11 +6,6 @@ use Rattle.reports.specs.ReportLaws.{kinds-front, kinds-few}
 use borrow.Author.Needs.{needs}
 use Rattle.reports.proofs.checking.write_words.Statement.{statement}
 use Rattle.reports.proofs.checking.write_words.Tie as tie
-use Rattle.reports.proofs.checking.write_words.Reads as reads
-use Rattle.reports.proofs.checking.write_words.Lts as lts
-use Rattle.commands.proofs.write_sheet.Reads as write-sheet-reads
-use Rattle.reports.proofs.checking.no_kinds.Reads as no-kinds-reads
-use Rattle.reports.proofs.checking.put_kinds.Reads as put-kinds-reads
 
 no-kinds-requires : tie.Need-no-kinds-requires
 no-kinds-requires c κs = search needs

@@ -13,11 +13,6 @@ use Rattle.reports.specs.ReportLaws.{accepted-says}
 use borrow.Author.Needs.{needs}
 use Rattle.reports.proofs.proposing.propose_in.Statement.{statement}
 use Rattle.reports.proofs.proposing.propose_in.Tie as tie
-use Rattle.reports.proofs.proposing.propose_in.Reads as reads
-use Rattle.reports.proofs.proposing.propose_in.Lts as lts
-use Rattle.commands.proofs.write_no_proposal.Reads as write-no-proposal-reads
-use Rattle.engine.proofs.propose.Reads as propose-reads
-use Rattle.reports.proofs.checking.write_check.Reads as write-check-reads
 
 propose-requires : tie.Need-propose-requires
 propose-requires c κs = search needs

@@ -7,14 +7,6 @@ use Rattle.book.specs.Sound.{Sound, sound-parts}
 use borrow.Author.Needs.{needs}
 use Rattle.reports.proofs.proposing.write_proposal.Statement.{statement}
 use Rattle.reports.proofs.proposing.write_proposal.Tie as tie
-use Rattle.reports.proofs.proposing.write_proposal.Reads as reads
-use Rattle.reports.proofs.proposing.write_proposal.Lts as lts
-use Rattle.network.proofs.number_of.Reads as number-of-reads
-use Rattle.reports.proofs.proposing.no_corrections.Reads as no-corrections-reads
-use Rattle.reports.proofs.proposing.no_matrix.Reads as no-matrix-reads
-use Rattle.reports.proofs.proposing.no_work.Reads as no-work-reads
-use Rattle.reports.proofs.proposing.propose_in.Reads as propose-in-reads
-use Rattle.reports.proofs.proposing.square.Reads as square-reads
 
 sound-book : (s : tie.Start) → Sound (s .args .book)
 sound-book s = sound-parts (s .args .book) (record { places = search (needs, length-mapped); entries = search (needs, length-mapped); matrix = search needs; right = search needs }) (s .pre .0)

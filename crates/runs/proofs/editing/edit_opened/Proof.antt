@@ -1,5 +1,4 @@
 -- `editing::edit_opened` meets its contract. Assumes nothing.
-use borrow.Author.Needs.{needs}
 use Rattle.runs.proofs.editing.edit_opened.Statement.{statement}
 use Rattle.runs.proofs.editing.edit_opened.Tie as tie
 

@@ -1,5 +1,4 @@
 -- `opening::phase_at` meets its contract. Assumes nothing.
-use borrow.Author.Needs.{needs}
 use borrow.Author.Tests.{eq-eqb, ne-eqb}
 use Rattle.runs.proofs.opening.phase_at.Statement.{statement}
 use Rattle.runs.proofs.opening.phase_at.Tie as tie

@@ -1,11 +1,11 @@
--- `commands::sheet::write_global` meets its contract. Assumes nothing.
+-- `commands::printing::write_global` meets its contract. Assumes nothing.
 use Rattle.commands.specs.SheetLaws.{written-as, by-bits}
 use Rattle.commands.specs.Sheet.{globalLine, verdict}
 use Rattle.text.specs.Writing.{_then_}
 use borrow.Author.Needs.{sfits-of, needs}
 use native.Mathlib.Omega.{arith}
-use Rattle.commands.proofs.sheet.write_global.Statement.{statement}
-use Rattle.commands.proofs.sheet.write_global.Tie as tie
+use Rattle.commands.proofs.printing.write_global.Statement.{statement}
+use Rattle.commands.proofs.printing.write_global.Tie as tie
 
 slice-aggregate-write-text : tie.Need-slice-aggregate-write-text
 slice-aggregate-write-text c = search needs

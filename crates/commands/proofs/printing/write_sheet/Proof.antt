@@ -1,12 +1,12 @@
--- `commands::sheet::write_sheet` meets its contract. Assumes nothing.
+-- `commands::printing::write_sheet` meets its contract. Assumes nothing.
 use Rattle.commands.specs.SheetLaws.{written-as, global-after, global-is}
 use Rattle.commands.specs.Sheet.{sheetText, globalLine}
 use Rattle.text.specs.Writing.{_then_}
 use native.Mathlib.Omega.{arith}
 use mathlib.Core.Path.{sym, ap, _∙_}
 use borrow.Author.Needs.{needs}
-use Rattle.commands.proofs.sheet.write_sheet.Statement.{statement}
-use Rattle.commands.proofs.sheet.write_sheet.Tie as tie
+use Rattle.commands.proofs.printing.write_sheet.Statement.{statement}
+use Rattle.commands.proofs.printing.write_sheet.Tie as tie
 
 write-head-requires : tie.Need-write-head-requires
 write-head-requires c κs = search needs

@@ -1,4 +1,4 @@
--- `commands::sheet::write_records` meets its contract. Assumes nothing.
+-- `commands::printing::write_records` meets its contract. Assumes nothing.
 use mathlib.Core.List.{_++_}
 use Prim.Native.Nat.{ℕ, _≤_, _-_, _+_, _*_}
 use Rattle.commands.specs.Sheet.{recordWords, recordLine, recordLines, recordStart}
@@ -8,8 +8,8 @@ use Rattle.commands.specs.SheetLaws.{written-as, records-start, start-ze
 use Rattle.text.specs.Writing.{Written, _then_}
 use native.Mathlib.Omega.{arith}
 use borrow.Author.Needs.{needs}
-use Rattle.commands.proofs.sheet.write_records.Statement.{statement}
-use Rattle.commands.proofs.sheet.write_records.Tie as tie
+use Rattle.commands.proofs.printing.write_records.Statement.{statement}
+use Rattle.commands.proofs.printing.write_records.Tie as tie
 
 abbrev Inv-loop : tie.InvT-loop
 Inv-loop out₀ at w o kinds p₀ q₀ i₀ out p q i = (i ≤ length kinds) × (length out ≡ length out₀) × (p ≤ at + i * 106) × (q ≡ recordStart o kinds i) × Written out₀ at (recordLines w o kinds i) p out

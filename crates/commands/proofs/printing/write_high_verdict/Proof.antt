@@ -1,4 +1,4 @@
--- `commands::sheet::write_high_verdict` meets its contract. Assumes nothing.
+-- `commands::printing::write_high_verdict` meets its contract. Assumes nothing.
 use Rattle.commands.specs.SheetLaws.{written-as, is-low, is-above, is-none}
 use Rattle.words.specs.Signed.{eqZ}
 use mir.Facts.{toZ-ofZ}
@@ -7,8 +7,8 @@ use lib.IntN.{ℤ, pos}
 use native.Mathlib.Omega.{arith}
 use mathlib.Core.Path.{_≡_, sym, ap, _∙_}
 use borrow.Author.Needs.{needs}
-use Rattle.commands.proofs.sheet.write_high_verdict.Statement.{statement}
-use Rattle.commands.proofs.sheet.write_high_verdict.Tie as tie
+use Rattle.commands.proofs.printing.write_high_verdict.Statement.{statement}
+use Rattle.commands.proofs.printing.write_high_verdict.Tie as tie
 
 same-requires : tie.Need-same-requires
 same-requires c κs = search needs

@@ -1,12 +1,12 @@
--- `commands::sheet::write_station` meets its contract. Assumes nothing.
+-- `commands::printing::write_station` meets its contract. Assumes nothing.
 use Rattle.commands.specs.SheetLaws.{written-as, by-bits}
 use Rattle.commands.specs.Sheet.{stationLine}
 use Rattle.text.specs.Writing.{_then_}
 use Rattle.text.specs.Numbers.{decimal}
 use borrow.Author.Needs.{sfits-of, needs}
 use native.Mathlib.Omega.{arith}
-use Rattle.commands.proofs.sheet.write_station.Statement.{statement}
-use Rattle.commands.proofs.sheet.write_station.Tie as tie
+use Rattle.commands.proofs.printing.write_station.Statement.{statement}
+use Rattle.commands.proofs.printing.write_station.Tie as tie
 
 write-fields-requires : tie.Need-write-fields-requires
 write-fields-requires c κs = search needs

@@ -1,11 +1,11 @@
--- `commands::sheet::write_height` meets its contract. Assumes nothing.
+-- `commands::printing::write_height` meets its contract. Assumes nothing.
 use Rattle.commands.specs.SheetLaws.{written-as, by-bits}
 use Rattle.commands.specs.Sheet.{heightLine, verdict}
 use Rattle.text.specs.Writing.{_then_}
 use borrow.Author.Needs.{sfits-of, needs}
 use native.Mathlib.Omega.{arith}
-use Rattle.commands.proofs.sheet.write_height.Statement.{statement}
-use Rattle.commands.proofs.sheet.write_height.Tie as tie
+use Rattle.commands.proofs.printing.write_height.Statement.{statement}
+use Rattle.commands.proofs.printing.write_height.Tie as tie
 
 write-fields-requires : tie.Need-write-fields-requires
 write-fields-requires c κs = search needs

@@ -1,8 +1,8 @@
--- `commands::sheet::record_words` meets its contract. Assumes nothing.
+-- `commands::printing::record_words` meets its contract. Assumes nothing.
 use Rattle.commands.specs.SheetLaws.{seven-words, three-words}
 use mathlib.Core.Path.{sym}
-use Rattle.commands.proofs.sheet.record_words.Statement.{statement}
-use Rattle.commands.proofs.sheet.record_words.Tie as tie
+use Rattle.commands.proofs.printing.record_words.Statement.{statement}
+use Rattle.commands.proofs.printing.record_words.Tie as tie
 
 returns : tie.Need-returns
 returns c = sym (seven-words _ (c .if1 .taken))

@@ -1,4 +1,4 @@
--- `commands::sheet::write_fields` meets its contract. Assumes nothing.
+-- `commands::printing::write_fields` meets its contract. Assumes nothing.
 use mathlib.Core.Path.{ap, _≡_, refl}
 use Rattle.commands.specs.SheetLaws.{written-as, by-bits, fields-start, fields-more}
 use Rattle.text.specs.Writing.{_then_, Written}
@@ -8,8 +8,8 @@ use native.Mathlib.Omega.{arith}
 use Rattle.commands.specs.Sheet.{fields}
 use lib.ListN.{length}
 use Prim.Native.Nat.{_≤_, _-_, _+_, _*_}
-use Rattle.commands.proofs.sheet.write_fields.Statement.{statement}
-use Rattle.commands.proofs.sheet.write_fields.Tie as tie
+use Rattle.commands.proofs.printing.write_fields.Statement.{statement}
+use Rattle.commands.proofs.printing.write_fields.Tie as tie
 
 abbrev Inv-loop : tie.InvT-loop
 Inv-loop out₀ at w o n p₀ i₀ out p i = (i ≤ n) × (length out ≡ length out₀) × (p ≤ at + i * 22) × Written out₀ at (fields w o i) p out

@@ -1,9 +1,9 @@
--- `commands::sheet::write_record` meets its contract. Assumes nothing.
+-- `commands::printing::write_record` meets its contract. Assumes nothing.
 use Rattle.commands.specs.SheetLaws.{written-as, a-baseline, a-height, seven-words, three-words}
 use native.Mathlib.Omega.{arith}
 use borrow.Author.Needs.{needs}
-use Rattle.commands.proofs.sheet.write_record.Statement.{statement}
-use Rattle.commands.proofs.sheet.write_record.Tie as tie
+use Rattle.commands.proofs.printing.write_record.Statement.{statement}
+use Rattle.commands.proofs.printing.write_record.Tie as tie
 
 write-baseline-requires : tie.Need-write-baseline-requires
 write-baseline-requires c κs =

@@ -1,4 +1,4 @@
--- `commands::sheet::write_stations` meets its contract. Assumes nothing.
+-- `commands::printing::write_stations` meets its contract. Assumes nothing.
 use Rattle.commands.specs.SheetLaws.{written-as, stations-start, stations-more}
 use Rattle.commands.specs.Sheet.{stationLines}
 use Rattle.text.specs.Writing.{Written, _then_}
@@ -7,8 +7,8 @@ use native.Mathlib.Omega.{arith}
 use Prim.Native.Nat.{_≤_, _-_, _+_, _*_}
 use mathlib.Core.Path.{_≡_, refl, ap}
 use borrow.Author.Needs.{needs}
-use Rattle.commands.proofs.sheet.write_stations.Statement.{statement}
-use Rattle.commands.proofs.sheet.write_stations.Tie as tie
+use Rattle.commands.proofs.printing.write_stations.Statement.{statement}
+use Rattle.commands.proofs.printing.write_stations.Tie as tie
 
 abbrev Inv-loop : tie.InvT-loop
 Inv-loop out₀ at w n p₀ i₀ out p i = (i ≤ n) × (length out ≡ length out₀) × (p ≤ at + i * 154) × Written out₀ at (stationLines w i) p out

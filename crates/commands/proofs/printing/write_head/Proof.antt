@@ -1,12 +1,12 @@
--- `commands::sheet::write_head` meets its contract. Assumes nothing.
+-- `commands::printing::write_head` meets its contract. Assumes nothing.
 use Rattle.commands.specs.SheetLaws.{written-as, by-bits}
 use Rattle.commands.specs.Sheet.{headLine}
 use Rattle.text.specs.Writing.{_then_}
 use Rattle.text.specs.Numbers.{decimal}
 use borrow.Author.Needs.{sfits-of, needs}
 use native.Mathlib.Omega.{arith}
-use Rattle.commands.proofs.sheet.write_head.Statement.{statement}
-use Rattle.commands.proofs.sheet.write_head.Tie as tie
+use Rattle.commands.proofs.printing.write_head.Statement.{statement}
+use Rattle.commands.proofs.printing.write_head.Tie as tie
 
 slice-aggregate-write-text : tie.Need-slice-aggregate-write-text
 slice-aggregate-write-text c = search needs

@@ -1,0 +1,28 @@
+-- The definitions at a few texts: what they print where no engine is asked. `10` is an LF, `32` a blank, `85` a `U`. Assumes nothing.
+use mathlib.Core.Path.{_≡_, refl}
+use mathlib.Core.List.{List, [], _∷_, map}
+use Prim.Native.Nat.{ℕ}
+use Rattle.network.specs.Stations.{wholeStations, opens}
+use Rattle.text.specs.Numbers.{decimalIn}
+use Rattle.text.specs.Before.{before}
+use Rattle.text.specs.Fields.{letterOf}
+use Rattle.text.specs.Lines.{linesAfter}
+use Rattle.commands.specs.Messages.{refused, unreadableLine}
+use Rattle.commands.specs.Commands.{keptCommand, fieldsCommand, stationOf}
+use Rattle.reports.specs.Reports.{none}
+use Rattle.runs.specs.Runs.{phaseOpened, openingSays, entered, enteringSays, isUnopened, wordsAfter, readAfter, phaseAfter, commandSays, phaseSays, next, says, runAfter, saysAll}
+use Rattle.adjustment.specs.Ends.{phaseEnds, endSays, printed}
+
+-- `REFUSED 1`
+REFUSED-1 : List ℕ
+REFUSED-1 = 82 ∷ 69 ∷ 70 ∷ 85 ∷ 83 ∷ 69 ∷ 68 ∷ 32 ∷ 49 ∷ 10 ∷ []
+
+-- no lines: the end opens, on no stations
+empty-text : printed [] none ≡ REFUSED-1
+unfolding REFUSED-1 printed linesAfter saysAll runAfter endSays openingSays phaseOpened phaseEnds opens wholeStations refused decimalIn
+empty-text = refl
+
+-- an empty line is no S line, so it opens; the refusal ends the run, and neither it nor the `U` after it gets a message
+blank-line : printed (10 ∷ 85 ∷ 10 ∷ []) none ≡ REFUSED-1
+unfolding REFUSED-1 printed linesAfter saysAll says runAfter next entered enteringSays endSays openingSays phaseOpened phaseEnds phaseSays phaseAfter opens wholeStations refused decimalIn letterOf before
+blank-line = refl
