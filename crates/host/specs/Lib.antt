@@ -3,5 +3,4 @@ pub mod Calls
 pub mod Demand
 pub mod DemandHolds
 pub mod CheckCalls
-pub mod CheckLaws
 pub mod Proposal

@@ -1,59 +1,5 @@
 // The C call for a proposal.
-use super::checking;
-use book::Book;
-use engine::Proposal;
-ghost use mathlib.Core.Path.{_≡_};
-ghost use mathlib.Core.Bool.{true};
-ghost use Prim.Native.Nat.{_*_};
-ghost use lib.ListN.{length};
-ghost use Rattle.book.specs.Book.{sound};
-ghost use Rattle.host.specs.Proposal.{Offers, Proposes};
-
-// What the engine works in.
-fn work_room() -> [f64; 4608]
-    ensures { λ r. ⌜ 4608 ≡ length r ⌝ }
-{
-    [0.0; 4608]
-}
-
-// A proposal for x and m of whole words, as many as xs and ms hold.
-fn propose_words(
-    b: Book,
-    x: &mut [u8],
-    m: &mut [u8],
-    xs: &mut [i64],
-    ms: &mut [i64],
-    work: &mut [f64],
-) -> i64
-    requires { ⌜ (sound b ≡ true) × (8 * length (now xs) ≡ length (now x)) × (8 * length (now ms) ≡ length (now m)) ⌝ }
-    ensures { λ r. ⌜ Offers b r (now (x .entry)) (now (m .entry)) (now (x .exit)) (now (m .exit)) ⌝ }
-{
-    let p = engine::propose(b, xs, ms, work);
-    match p {
-        Proposal::Made => {
-            words::write_words(x, 0, xs);
-            words::write_words(m, 0, ms);
-            0
-        }
-        Proposal::Nothing => -1,
-    }
-}
-
-// No proposal where a size does not fit.
-fn propose_lent(b: Book, x: &mut [u8], m: &mut [u8]) -> i64
-    requires { ⌜ sound b ≡ true ⌝ }
-    ensures { λ r. ⌜ Offers b r (now (x .entry)) (now (m .entry)) (now (x .exit)) (now (m .exit)) ⌝ }
-{
-    if !checking::sizes_fit(x, m) {
-        return -1;
-    }
-    let i = x.len() / 8;
-    let j = m.len() / 8;
-    let mut xs = checking::corrections();
-    let mut ms = checking::inverse();
-    let mut work = work_room();
-    propose_words(b, x, m, &mut xs[0..i], &mut ms[0..j], &mut work)
-}
+ghost use Rattle.host.specs.Proposal.{Proposes};
 
 // Proposes a pair that the check accepts.
 #[no_mangle]
@@ -67,5 +13,5 @@ pub extern "C" fn dombrelat_propose(book: &[u8], x: &mut [u8], m: &mut [u8]) -> 
         return 25;
     }
     let b = layout::book_in(book);
-    propose_lent(b, x, m)
+    lent_checks::propose_lent(b, x, m)
 }

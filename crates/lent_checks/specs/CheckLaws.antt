@@ -37,7 +37,7 @@ use Rattle.acceptance.specs.declared.Answer.the-variants.{Accepted, Refused, Un
 use Rattle.book.specs.declared.Book.{Book}
 use Rattle.book.specs.Sound.{Sound}
 use Rattle.checks.specs.Checks.{checked, thenNine, sizesFit, hasRoom, onAcceptance, sheetAfter}
-use Rattle.host.specs.CheckCalls.{allWords, isWhole, checkedLent, onAccepted}
+use Rattle.lent_checks.specs.LentChecks.{allWords, isWhole, checkedLent, onAccepted}
 
 -- ════ how large an answer is
 pub record Small (a : Answer) : Type 0 where

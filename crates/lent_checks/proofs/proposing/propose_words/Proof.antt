@@ -12,15 +12,11 @@ use Rattle.checks.specs.CheckLaws.{checked-is}
 use Rattle.book.specs.Sound.{Sound, sound-parts}
 use Rattle.engine.specs.declared.Proposal.{Proposal}
 use Rattle.engine.specs.Proposals.{Proposed}
-use Rattle.host.specs.CheckCalls.{checkedLent}
-use Rattle.host.proofs.Offered.{made}
+use Rattle.lent_checks.specs.LentChecks.{checkedLent}
+use Rattle.lent_checks.proofs.Offered.{made}
 use borrow.Author.Needs.{needs}
-use Rattle.host.proofs.proposing.propose_words.Statement.{statement}
-use Rattle.host.proofs.proposing.propose_words.Tie as tie
-use Rattle.host.proofs.proposing.propose_words.Reads as reads
-use Rattle.host.proofs.proposing.propose_words.Lts as lts
-use Rattle.engine.proofs.propose.Reads as propose-reads
-use Rattle.words.proofs.write_words.Reads as write-words-reads
+use Rattle.lent_checks.proofs.proposing.propose_words.Statement.{statement}
+use Rattle.lent_checks.proofs.proposing.propose_words.Tie as tie
 
 sound-book : (s : tie.Start) → Sound (s .args .b)
 sound-book s =

@@ -1,10 +1,7 @@
-use Rattle.host.proofs.Answers.{deliver-accepted, deliver-refused, deliver-untied}
+use Rattle.lent_checks.proofs.Answers.{deliver-accepted, deliver-refused, deliver-untied}
 use borrow.Author.Needs.{needs}
-use Rattle.host.proofs.checking.deliver.Statement.{statement}
-use Rattle.host.proofs.checking.deliver.Tie as tie
-use Rattle.host.proofs.checking.deliver.Reads as reads
-use Rattle.host.proofs.checking.deliver.Lts as lts
-use Rattle.words.proofs.write_words.Reads as write-words-reads
+use Rattle.lent_checks.proofs.checking.deliver.Statement.{statement}
+use Rattle.lent_checks.proofs.checking.deliver.Tie as tie
 
 enum-told : tie.Need-enum-told
 enum-told c = search needs

@@ -1,11 +1,6 @@
 use borrow.Author.Needs.{needs}
-use Rattle.host.proofs.checking.sheet_words.Statement.{statement}
-use Rattle.host.proofs.checking.sheet_words.Tie as tie
-use Rattle.host.proofs.checking.sheet_words.Reads as reads
-use Rattle.host.proofs.checking.sheet_words.Lts as lts
-use Rattle.checks.proofs.check_sheet.Reads as check-sheet-reads
-use Rattle.host.proofs.checking.deliver.Reads as deliver-reads
-use Rattle.words.proofs.read_words.Reads as read-words-reads
+use Rattle.lent_checks.proofs.checking.sheet_words.Statement.{statement}
+use Rattle.lent_checks.proofs.checking.sheet_words.Tie as tie
 
 read-words-requires : tie.Need-read-words-requires
 read-words-requires c κs = search needs

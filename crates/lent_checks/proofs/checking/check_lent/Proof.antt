@@ -9,23 +9,17 @@ use Rattle.words.specs.Runs.{wordsAt}
 use Rattle.acceptance.specs.Judge.{numberOf, unknownOf}
 use Rattle.acceptance.specs.declared.Answer.{Answer}
 use Rattle.checks.specs.Checks.{checked}
-use Rattle.host.specs.CheckCalls.{isWhole}
+use Rattle.lent_checks.specs.LentChecks.{isWhole}
 use native.Mathlib.Omega.{arith}
 use borrow.Author.Tests.{not-true, not-false}
 use denote.Ref.{now}
 use Rattle.network.specs.Filling.{length-mapped}
 use Rattle.book.specs.Sound.{Sound, sound-parts}
-use Rattle.host.specs.CheckLaws.{lent-fit, lent-unfit, lent-small}
-use Rattle.host.proofs.Answers.{lengths-fit}
+use Rattle.lent_checks.specs.CheckLaws.{lent-fit, lent-unfit, lent-small}
+use Rattle.lent_checks.proofs.Answers.{lengths-fit}
 use borrow.Author.Needs.{needs}
-use Rattle.host.proofs.checking.check_lent.Statement.{statement}
-use Rattle.host.proofs.checking.check_lent.Tie as tie
-use Rattle.host.proofs.checking.check_lent.Reads as reads
-use Rattle.host.proofs.checking.check_lent.Lts as lts
-use Rattle.host.proofs.checking.check_words.Reads as check-words-reads
-use Rattle.host.proofs.checking.corrections.Reads as corrections-reads
-use Rattle.host.proofs.checking.inverse.Reads as inverse-reads
-use Rattle.host.proofs.checking.sizes_fit.Reads as sizes-fit-reads
+use Rattle.lent_checks.proofs.checking.check_lent.Statement.{statement}
+use Rattle.lent_checks.proofs.checking.check_lent.Tie as tie
 
 sound-book : (s : tie.Start) → Sound (s .args .b)
 sound-book s =

@@ -8,18 +8,11 @@ use denote.Ref.{now}
 use lib.Dec.{leb}
 use lib.ListN.{length}
 use lib.Seq.{length-take-le}
-use Rattle.host.specs.CheckCalls.{isWhole}
-use Rattle.host.proofs.Answers.{lengths-fit, wholes}
+use Rattle.lent_checks.specs.LentChecks.{isWhole}
+use Rattle.lent_checks.proofs.Answers.{lengths-fit, wholes}
 use borrow.Author.Needs.{needs}
-use Rattle.host.proofs.proposing.propose_lent.Statement.{statement}
-use Rattle.host.proofs.proposing.propose_lent.Tie as tie
-use Rattle.host.proofs.proposing.propose_lent.Reads as reads
-use Rattle.host.proofs.proposing.propose_lent.Lts as lts
-use Rattle.host.proofs.checking.corrections.Reads as corrections-reads
-use Rattle.host.proofs.checking.inverse.Reads as inverse-reads
-use Rattle.host.proofs.checking.sizes_fit.Reads as sizes-fit-reads
-use Rattle.host.proofs.proposing.propose_words.Reads as propose-words-reads
-use Rattle.host.proofs.proposing.work_room.Reads as work-room-reads
+use Rattle.lent_checks.proofs.proposing.propose_lent.Statement.{statement}
+use Rattle.lent_checks.proofs.proposing.propose_lent.Tie as tie
 
 sizes-fit-requires : tie.Need-sizes-fit-requires
 sizes-fit-requires c κs = search needs

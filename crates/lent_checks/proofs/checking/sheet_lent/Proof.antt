@@ -6,23 +6,17 @@ use lib.Seq.{length-take-le}
 use Rattle.words.specs.Runs.{wordsAt, putWords}
 use Rattle.sheet.specs.Sheet.{room}
 use Rattle.checks.specs.Checks.{checked, hasRoom, sheetAfter}
-use Rattle.host.specs.CheckCalls.{allWords, onAccepted}
+use Rattle.lent_checks.specs.LentChecks.{allWords, onAccepted}
 use native.Mathlib.Omega.{arith}
 use denote.Ref.{now}
 use Rattle.network.specs.Filling.{length-mapped}
 use Rattle.network.specs.RuleLaws.{network-few}
 use Rattle.book.specs.Sound.{Sound, sound-parts}
-use Rattle.host.specs.CheckLaws.{room-small, sheet-done}
-use Rattle.host.proofs.Answers.{lengths-fit}
+use Rattle.lent_checks.specs.CheckLaws.{room-small, sheet-done}
+use Rattle.lent_checks.proofs.Answers.{lengths-fit}
 use borrow.Author.Needs.{needs}
-use Rattle.host.proofs.checking.sheet_lent.Statement.{statement}
-use Rattle.host.proofs.checking.sheet_lent.Tie as tie
-use Rattle.host.proofs.checking.sheet_lent.Reads as reads
-use Rattle.host.proofs.checking.sheet_lent.Lts as lts
-use Rattle.host.proofs.checking.corrections.Reads as corrections-reads
-use Rattle.host.proofs.checking.inverse.Reads as inverse-reads
-use Rattle.host.proofs.checking.sheet_room.Reads as sheet-room-reads
-use Rattle.host.proofs.checking.sheet_words.Reads as sheet-words-reads
+use Rattle.lent_checks.proofs.checking.sheet_lent.Statement.{statement}
+use Rattle.lent_checks.proofs.checking.sheet_lent.Tie as tie
 
 sound-book : (s : tie.Start) → Sound (s .args .b)
 sound-book s =

@@ -1,10 +1,6 @@
 use borrow.Author.Needs.{needs}
-use Rattle.host.proofs.checking.check_words.Statement.{statement}
-use Rattle.host.proofs.checking.check_words.Tie as tie
-use Rattle.host.proofs.checking.check_words.Reads as reads
-use Rattle.host.proofs.checking.check_words.Lts as lts
-use Rattle.checks.proofs.check.Reads as check-reads
-use Rattle.words.proofs.read_words.Reads as read-words-reads
+use Rattle.lent_checks.proofs.checking.check_words.Statement.{statement}
+use Rattle.lent_checks.proofs.checking.check_words.Tie as tie
 
 read-words-requires : tie.Need-read-words-requires
 read-words-requires c κs = search needs

@@ -10,18 +10,12 @@ use denote.Ref.{now}
 use Rattle.network.specs.Filling.{length-mapped}
 use Rattle.network.specs.RuleLaws.{network-few}
 use Rattle.book.specs.Sound.{Sound, sound-parts}
-use Rattle.host.specs.CheckCalls.{allWords, sheetFits, onAccepted}
-use Rattle.host.specs.CheckLaws.{lent-fit, lent-unfit, lent-roomless, lent-small}
-use Rattle.host.proofs.Answers.{sheet-test, sheet-long}
+use Rattle.lent_checks.specs.LentChecks.{allWords, sheetFits, onAccepted}
+use Rattle.lent_checks.specs.CheckLaws.{lent-fit, lent-unfit, lent-roomless, lent-small}
+use Rattle.lent_checks.proofs.Answers.{sheet-test, sheet-long}
 use borrow.Author.Needs.{needs}
-use Rattle.host.proofs.checking.check_sheet_lent.Statement.{statement}
-use Rattle.host.proofs.checking.check_sheet_lent.Tie as tie
-use Rattle.host.proofs.checking.check_sheet_lent.Reads as reads
-use Rattle.host.proofs.checking.check_sheet_lent.Lts as lts
-use Rattle.host.proofs.checking.room_fits.Reads as room-fits-reads
-use Rattle.host.proofs.checking.sheet_lent.Reads as sheet-lent-reads
-use Rattle.host.proofs.checking.sizes_fit.Reads as sizes-fit-reads
-use Rattle.sheet.proofs.room_of.Reads as room-of-reads
+use Rattle.lent_checks.proofs.checking.check_sheet_lent.Statement.{statement}
+use Rattle.lent_checks.proofs.checking.check_sheet_lent.Tie as tie
 
 sound-book : (s : tie.Start) → Sound (s .args .b)
 sound-book s =

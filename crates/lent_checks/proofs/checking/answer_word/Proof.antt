@@ -4,12 +4,10 @@ use native.Mathlib.Omega.{arith}
 use lib.IntN.{pos}
 use mir.Syntax.{w64}
 use mir.Facts.{toZ-ofZ}
-use Rattle.host.proofs.Answers.{refused-below, untied-below, accepted-word, refused-word, untied-word}
+use Rattle.lent_checks.proofs.Answers.{refused-below, untied-below, accepted-word, refused-word, untied-word}
 use borrow.Author.Needs.{needs}
-use Rattle.host.proofs.checking.answer_word.Statement.{statement}
-use Rattle.host.proofs.checking.answer_word.Tie as tie
-use Rattle.host.proofs.checking.answer_word.Reads as reads
-use Rattle.host.proofs.checking.answer_word.Lts as lts
+use Rattle.lent_checks.proofs.checking.answer_word.Statement.{statement}
+use Rattle.lent_checks.proofs.checking.answer_word.Tie as tie
 
 enum-told : tie.Need-enum-told
 enum-told c = search needs

@@ -1,0 +1,8 @@
+// Checks and proposals for a book, with x, M and the sheet in lent bytes: words of 8 bytes, little-endian. Nothing here knows the layout of a book.
+mod checking;
+mod proposing;
+
+pub use checking::answer_word;
+pub use checking::check_lent;
+pub use checking::check_sheet_lent;
+pub use proposing::propose_lent;
