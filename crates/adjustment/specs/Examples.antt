@@ -1,16 +1,15 @@
 -- The definitions at a few texts: what they print where no engine is asked. `10` is an LF, `32` a blank, `85` a `U`. Assumes nothing.
 use mathlib.Core.Path.{_≡_, refl}
-use mathlib.Core.List.{List, [], _∷_, map}
+use mathlib.Core.List.{List, [], _∷_}
 use Prim.Native.Nat.{ℕ}
 use Rattle.network.specs.Stations.{wholeStations, opens}
 use Rattle.text.specs.Numbers.{decimalIn}
 use Rattle.text.specs.Before.{before}
 use Rattle.text.specs.Fields.{letterOf}
 use Rattle.text.specs.Lines.{linesAfter}
-use Rattle.commands.specs.Messages.{refused, unreadableLine}
-use Rattle.commands.specs.Commands.{keptCommand, fieldsCommand, stationOf}
+use Rattle.commands.specs.Messages.{refused}
 use Rattle.reports.specs.Reports.{none}
-use Rattle.runs.specs.Runs.{phaseOpened, openingSays, entered, enteringSays, isUnopened, wordsAfter, readAfter, phaseAfter, commandSays, phaseSays, next, says, runAfter, saysAll}
+use Rattle.runs.specs.Runs.{phaseOpened, openingSays, entered, enteringSays, phaseAfter, phaseSays, next, says, runAfter, saysAll}
 use Rattle.adjustment.specs.Ends.{phaseEnds, endSays, printed}
 
 -- `REFUSED 1`
