@@ -1,9 +1,8 @@
 -- What an edit or an undo has done to bytes that hold a book, in the words of its contract. Assumes nothing.
-use Prim.Native.Nat.{ℕ, zero, suc, _+_, _-_, _%_, _<_, _≤_, min}
+use Prim.Native.Nat.{ℕ, zero, suc, _+_, _-_, _%_, _≤_, min}
 use mathlib.Core.Path.{_≡_, refl, sym, ap, _∙_, subst}
 use mathlib.Core.Bool.{true}
 use mathlib.Core.List.{List}
-use native.Mathlib.Omega.{arith}
 use lib.ListN.{getD, set}
 use lib.IntN.{ℤ, pos}
 use Rattle.network.specs.Records.{recordAt}

@@ -1,25 +1,25 @@
 -- Lent bytes: refused with 25, called through, and written back. Assumes nothing.
-use Prim.Native.Nat.{ℕ, zero, suc, _<_, _≤_}
-use mathlib.Core.Path.{_≡_, refl, sym, ap, _∙_, subst}
+use Prim.Native.Nat.{ℕ, _<_}
+use mathlib.Core.Path.{_≡_, sym, ap, _∙_}
 use mathlib.Core.Bool.{Bool, true, false, cond, _&&_}
 use mathlib.Core.List.{List}
-use borrow.Author.Tests.{lt-leb, le-leb}
+use borrow.Author.Tests.{lt-leb}
 use lib.Dec.{leb}
 use lib.ListN.{length}
-use lib.IntN.{ℤ, pos}
+use lib.IntN.{ℤ}
 use mir.Syntax.{w64}
 use mir.Val.{SFits, toZ, ofZ}
 use mir.Facts.{toZ-ofZ}
-use Rattle.words.specs.Bools.{and-no-left, and-no-right}
+use Rattle.words.specs.Bools.{and-no-left}
 use Rattle.book.specs.declared.Book.{Book}
 use Rattle.book.specs.declared.Edited.{Edited}
 use Rattle.network.specs.declared.Record.{Record}
-use Rattle.book.specs.Calls.{Call, add, replace, strike, undo, unless}
+use Rattle.book.specs.Calls.{Call, add, replace, strike, undo}
 use Rattle.book.specs.Book.{sound}
-use Rattle.layout.specs.Bytes.{bookOf, putBook, laidOut, bytesFit}
+use Rattle.layout.specs.Bytes.{bookOf, laidOut, bytesFit}
 use Rattle.host.specs.declared.Request.{Request}
 use Rattle.host.specs.declared.Request.the-variants.{Add, Replace, Strike, Undo}
-use Rattle.host.specs.Calls.{Returned, refused, settled, through, edit, callOf}
+use Rattle.host.specs.Calls.{refused, settled, through, edit, callOf}
 
 -- ════ a call through the book
 pub short-unfit : (s : List ℕ) → length s < 56224 → bytesFit s ≡ false

@@ -18,7 +18,7 @@ use Rattle.book.specs.declared.Book.{Book}
 use Rattle.book.specs.declared.Edited.{Edited}
 use Rattle.book.specs.Calls.{Call, add, replace, strike, undo, unless}
 use Rattle.book.specs.CallLaws.{unless-either}
-use Rattle.book.specs.Book.{openedBook, opening, bookAccepts, bookSays, bookNext, outcome}
+use Rattle.book.specs.Book.{openedBook, bookAccepts, bookSays, bookNext, outcome}
 use Rattle.book.specs.Sound.{Sound}
 use Rattle.book.specs.SoundLaws.{sound-next}
 use Rattle.book.specs.Opened.{sound-opened}
@@ -28,7 +28,7 @@ use Rattle.book.specs.DemandHolds.{demanded}
 use Rattle.layout.specs.Bytes.{bookOf, putBook, bytesFit}
 use Rattle.layout.specs.CodecLaws.{read-stations, fits-room, fits-sound, writes-reads, writes-fit, writes-beyond}
 use Rattle.host.specs.Calls.{Returned, refused, settled, through, opens}
-use Rattle.host.specs.Demand.{bytesNext, bytesSays, bytesAfter, bytesAnswers, Demand, Demand3}
+use Rattle.host.specs.Demand.{bytesNext, bytesSays, bytesAfter, bytesAnswers, Demand3}
 
 -- ════ rows that are calls
 rows-answers : (b : Book) (cs : List Call) → answers bookNext (λ x c. pos (bookSays x c)) b cs ≡ answers (rowNext bookNext) (rowSays bookSays) b (map names cs)

@@ -2,25 +2,22 @@
 use Prim.Native.Nat.{ℕ, zero, suc, _+_, _-_, _*_, _<_, _≤_}
 use mathlib.Core.Path.{_≡_, refl, sym, ap, ap₂, _∙_}
 use mathlib.Core.List.{List, [], _∷_, _++_, append-assoc, append-nil}
-use native.Mathlib.Decide.{ℕ-discrete}
 use native.Mathlib.Omega.{arith}
 use lib.ListN.{length, getD, set, length-set, length-append}
 use lib.Seq.{getD-set-same, getD-set-other}
-use lib.IntN.{ℤ, pos}
+use lib.IntN.{ℤ}
 use Rattle.words.specs.Signed.{signed}
 use Rattle.words.specs.Runs.{putWords}
 use Rattle.network.specs.Records.{vacant, recordAt}
 use Rattle.network.specs.declared.Place.{Place}
 use Rattle.network.specs.declared.Record.{Record}
-use Rattle.normals.specs.declared.Normals.{Normals}
 use Rattle.book.specs.declared.Reversal.{Reversal}
-use Rattle.book.specs.declared.Journal.{Journal}
 use Rattle.book.specs.declared.Book.{Book}
 use Rattle.book.specs.Journal.{free}
 use Rattle.book.specs.Sound.{Sized}
-use Rattle.layout.specs.Chunks.{chunks, chunks-more, length-chunks}
-use Rattle.layout.specs.Layout.{stationPart, recordWords, reversalWords, countsPart, entriesPart, placesPart, bookWords}
-use Rattle.layout.specs.BookWords.{length-record, length-reversal, tail, toStations, toPlaces, toCounts, toEntries, length-toStations, length-toPlaces, length-toCounts, length-toEntries, length-toMatrix, at-places, at-counts, at-entries, at-matrix, at-right, length-book}
+use Rattle.layout.specs.Chunks.{chunks, length-chunks}
+use Rattle.layout.specs.Layout.{recordWords, reversalWords, countsPart, entriesPart}
+use Rattle.layout.specs.BookWords.{length-record, length-reversal, tail, toStations, toPlaces, toCounts, toEntries, length-toStations, length-toPlaces, length-toCounts, length-toEntries, at-places, at-counts, at-entries, at-matrix, at-right, length-book}
 use Rattle.layout.specs.Bytes.{putBook}
 use Rattle.layout.specs.RunPatches.{patch}
 

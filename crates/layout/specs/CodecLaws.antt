@@ -1,15 +1,15 @@
 -- The two laws of the layout: the bytes of a sound book read back as that book and pass what 25 tests; and bytes that pass are those that writing the book
 -- in them gives. Bytes beyond a book stay. Assumes nothing.
 use Prim.Native.Nat.{ℕ, _-_, _<_, _≤_}
-use mathlib.Core.Path.{_≡_, refl, sym, ap, _∙_, subst}
+use mathlib.Core.Path.{_≡_, sym, ap, _∙_, subst}
 use mathlib.Core.Logic.{inr}
-use mathlib.Core.Bool.{Bool, true, _&&_}
+use mathlib.Core.Bool.{true, _&&_}
 use mathlib.Core.List.{List}
 use native.Mathlib.Omega.{arith}
 use borrow.Author.Tests.{le-leb, leb-true}
 use lib.Dec.{leb}
-use lib.ListN.{length, getD, drop, length-drop}
-use lib.Seq.{ext-getD, length-take-le}
+use lib.ListN.{length, getD}
+use lib.Seq.{ext-getD}
 use lib.IntN.{ℤ, pos}
 use Rattle.words.specs.Bools.{and-left, and-right, and-both}
 use Rattle.words.specs.Words.{Bytes}
@@ -17,7 +17,6 @@ use Rattle.words.specs.SignedLaws.{eqZ-true, eq-eqZ}
 use Rattle.words.specs.Runs.{wordsAt, putWords}
 use Rattle.words.specs.RunLaws.{length-words, length-run, run-out, run-back, run-kept}
 use Rattle.network.specs.All.{all-at, all-by}
-use Rattle.normals.specs.Same.{sameEntries}
 use Rattle.book.specs.declared.Book.{Book}
 use Rattle.book.specs.Book.{sound}
 use Rattle.book.specs.Sound.{Sound, Sized, sound-parts, parts-sound}

@@ -1,18 +1,18 @@
 -- The layout test, part by part: words are those that writing the book read from them gives exactly where the first is the layout's number and the words of each
 -- station and record are. Counters, N and u are read and written as they stand. Assumes nothing.
-use Prim.Native.Nat.{ℕ, zero, suc, _+_, _-_, _*_, _/_, _%_, _<_, _≤_}
-use mathlib.Core.Path.{_≡_, refl, sym, ap, ap₂, _∙_, subst}
+use Prim.Native.Nat.{ℕ, suc, _+_, _-_, _*_, _/_, _%_, _<_}
+use mathlib.Core.Path.{_≡_, refl, sym, ap, _∙_, subst}
 use mathlib.Core.Bool.{Bool, true, false, _&&_}
 use mathlib.Core.List.{List}
 use native.Mathlib.Decide.{decLt}
 use native.Mathlib.Omega.{arith}
-use lib.ListN.{length, getD, take, drop, length-drop}
+use lib.ListN.{length, getD, drop, length-drop}
 use lib.Seq.{length-take-le, getD-take, getD-drop}
 use lib.IntN.{ℤ, pos}
 use mir.Syntax.{w64}
 use mir.Val.{SFits}
 use Rattle.integers.specs.Tables.{length-tabulate, getD-tabulate}
-use Rattle.words.specs.Bools.{clash, and-left, and-right, and-both}
+use Rattle.words.specs.Bools.{and-left, and-right, and-both}
 use Rattle.words.specs.Signed.{signed, unsigned, eqZ}
 use Rattle.words.specs.SignedLaws.{eqZ-true, eq-eqZ, signed-unsigned}
 use Rattle.network.specs.All.{allBelow, all-at, all-by}
@@ -22,10 +22,9 @@ use Rattle.network.specs.declared.Place.{Place}
 use Rattle.network.specs.declared.Record.{Record}
 use Rattle.normals.specs.Same.{sameEntries}
 use Rattle.book.specs.declared.Reversal.{Reversal}
-use Rattle.book.specs.declared.Book.{Book}
 use Rattle.book.specs.Journal.{free}
 use Rattle.book.specs.Sound.{Sized}
-use Rattle.layout.specs.Layout.{stationPart, recordWords, reversalWords, bookWords, reversalIn, networkIn, placeIn, placesIn, entriesIn, bookIn}
+use Rattle.layout.specs.Layout.{stationPart, recordWords, reversalWords, bookWords, reversalIn, networkIn, placeIn, bookIn}
 use Rattle.layout.specs.BookWords.{head-word, count-word, station-word, place-word, next-word, held-word, slot-word, matrix-word, right-word}
 
 -- the 14 words from index k on are those of the record that they give

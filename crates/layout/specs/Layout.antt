@@ -1,12 +1,12 @@
 -- The layout of a book: its 7,028 words in order, and the book that 7,028 words give. docs/BOOK.md has each word's index and name. Assumes nothing.
-use Prim.Native.Nat.{ℕ, zero, suc, _+_, _*_}
+use Prim.Native.Nat.{ℕ, _+_, _*_}
 use mathlib.Core.Bool.{cond}
 use mathlib.Core.List.{List, [], _∷_, _++_}
 use lib.Dec.{ltb}
 use lib.ListN.{getD, take, drop}
 use lib.IntN.{ℤ, pos}
 use Rattle.integers.specs.Tables.{tabulate}
-use Rattle.words.specs.Signed.{indexIn, signed, unsigned}
+use Rattle.words.specs.Signed.{signed, unsigned}
 use Rattle.network.specs.Stations.{stationAt, stationIn}
 use Rattle.network.specs.StationWords.{stationWords}
 use Rattle.network.specs.Records.{recordAt}

@@ -1,21 +1,21 @@
 -- A sound book's words read back as that book. Assumes nothing.
-use Prim.Native.Nat.{ℕ, zero, suc, _+_, _-_, _*_, _/_, _%_, _<_, _≤_, _^_}
+use Prim.Native.Nat.{ℕ, zero, suc, _+_, _-_, _*_, _%_, _<_, _≤_, _^_}
 use mathlib.Core.Path.{_≡_, refl, sym, ap, _∙_, subst}
 use mathlib.Core.Bool.{Bool, true, false, cond, _&&_, _||_}
-use mathlib.Core.List.{List, [], _∷_, _++_, append-assoc}
+use mathlib.Core.List.{List, [], _∷_, _++_}
 use native.Mathlib.Nat.{add-zero}
 use native.Mathlib.Decide.{ℕ-discrete, decLt}
 use native.Mathlib.Omega.{arith}
 use borrow.Author.Tests.{eqb-true}
 use lib.Dec.{ltb, eqb}
-use lib.ListN.{length, getD, take, drop, length-append}
-use lib.Seq.{take-at, drop-at, take-all, getD-append-add}
+use lib.ListN.{length, getD, take, drop}
+use lib.Seq.{take-at, drop-at, take-all}
 use lib.IntN.{ℤ, pos}
 use Rattle.integers.specs.Tables.{tabulate, is-tabulate, length-tabulate}
-use Rattle.words.specs.Bools.{true-or-false, and-left, and-right}
+use Rattle.words.specs.Bools.{and-left, and-right}
 use Rattle.words.specs.Signed.{indexIn, signed, unsigned, eqZ}
 use Rattle.words.specs.SignedLaws.{eqZ-true, unsigned-signed}
-use Rattle.network.specs.All.{allBelow, all-at}
+use Rattle.network.specs.All.{all-at}
 use Rattle.network.specs.Stations.{blank, stationAt, kindAt, kindOf, stationIn, countFits, coordinatesFit, unknownsFit, isKnown, isBlank, blankBeyond, networkFits}
 use Rattle.network.specs.Records.{vacant, recordAt}
 use Rattle.network.specs.RecordWords.{recordOf, recordIn}
@@ -25,7 +25,6 @@ use Rattle.network.specs.declared.Kind.{Kind}
 use Rattle.network.specs.declared.Kind.the-variants.{Known, Free, Height}
 use Rattle.network.specs.declared.Station.{Station}
 use Rattle.network.specs.declared.Network.{Network}
-use Rattle.network.specs.declared.Place.{Place}
 use Rattle.network.specs.declared.Record.{Record}
 use Rattle.network.specs.declared.Record.the-variants.{Empty, Baseline as baseline, Height as height}
 use Rattle.normals.specs.declared.Normals.{Normals}
@@ -36,8 +35,8 @@ use Rattle.book.specs.Book.{undoable}
 use Rattle.book.specs.Sound.{Sized, Sound, Undoes, undoable-first}
 use Rattle.layout.specs.Chunks.{chunk-at}
 use Rattle.layout.specs.BookWords.{tail, length-station, length-stations, toEntries, length-toEntries, length-toMatrix, at-matrix, at-right, place-word, next-word, held-word, slot-word}
-use Rattle.network.specs.StationWords.{kindWord, stationWords, kind-back}
-use Rattle.layout.specs.Layout.{stationPart, recordWords, reversalWords, headWords, stationsPart, placesPart, countsPart, entriesPart, bookWords, reversalIn, networkIn, placeIn, placesIn, entriesIn, journalIn, normalsIn, bookIn}
+use Rattle.network.specs.StationWords.{stationWords, kind-back}
+use Rattle.layout.specs.Layout.{stationPart, recordWords, reversalWords, stationsPart, placesPart, bookWords, reversalIn, networkIn, placeIn, placesIn, entriesIn, journalIn, normalsIn, bookIn}
 
 -- ════ a record
 pub record-back : (w : List ℤ) (at : ℕ) (r : Record) → ((j : ℕ) → j < 14 → getD w (at + j) (pos 0) ≡ getD (recordWords r) j (pos 0)) → recordIn w at ≡ r

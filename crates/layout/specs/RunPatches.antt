@@ -1,11 +1,11 @@
 -- Runs of words cut in parts: a part of a run that is read, a run written part by part, and one part of a run written anew. Assumes nothing.
 use Prim.Native.Nat.{ℕ, zero, suc, _+_, _*_, _/_, _%_, _<_, _≤_}
-use mathlib.Core.Path.{_≡_, refl, sym, ap, _∙_}
+use mathlib.Core.Path.{_≡_, sym, ap, _∙_}
 use mathlib.Core.Logic.{_⊎_, inl, inr}
 use mathlib.Core.List.{List, [], _∷_, _++_}
 use native.Mathlib.Decide.{decLt, ℕ-discrete}
 use native.Mathlib.Omega.{arith}
-use lib.ListN.{length, getD, take, drop, set, length-set, length-append, length-drop}
+use lib.ListN.{length, getD, take, drop, set, length-set, length-drop}
 use lib.Seq.{ext-getD, length-take-le, getD-take, getD-drop, getD-set-same, getD-set-other, set-out}
 use lib.IntN.{ℤ, pos}
 use Rattle.words.specs.Signed.{unsigned}

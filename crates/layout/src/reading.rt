@@ -14,7 +14,7 @@ ghost use Rattle.words.specs.Runs.{wordsAt};
 ghost use Rattle.network.specs.Records.{recordAt};
 ghost use Rattle.network.specs.RecordWords as words;
 ghost use Rattle.book.specs.Journal.{free};
-ghost use Rattle.layout.specs.Layout.{countIn, reversalIn, networkIn, placesIn, entriesIn, journalIn};
+ghost use Rattle.layout.specs.Layout.{countIn, placesIn, entriesIn, journalIn};
 ghost use Rattle.layout.specs.Bytes.{wordsOf, bookOf};
 
 // Word k.

@@ -1,10 +1,9 @@
-use mathlib.Core.Path.{_≡_, refl, ap, _∙_}
+use mathlib.Core.Path.{_≡_, refl, _∙_}
 use mir.Syntax.{w64}
-use mir.Val.{toZ, ofZ}
 use mir.Facts.{toZ-ofZ}
-use Rattle.book.specs.Calls.{add, replace, strike, undo}
-use Rattle.host.specs.declared.Request.the-variants.{Add, Replace, Strike, Undo}
-use Rattle.host.specs.Calls.{baselineOf, heightOf, callOf}
+use Rattle.book.specs.Calls.{undo}
+use Rattle.host.specs.declared.Request.the-variants.{Undo}
+use Rattle.host.specs.Calls.{callOf}
 use Rattle.host.proofs.Lent.{answers-as}
 use borrow.Author.Needs.{needs, sfits-of}
 use Rattle.host.proofs.edits.dombrelat_undo.Statement.{statement}

@@ -1,10 +1,9 @@
 -- `stations_laid` tests the words of the stations. The loop's invariant: those passed are laid out. Assumes nothing.
-use Prim.Native.Nat.{ℕ, _+_, _*_, _-_, _<_, _≤_}
+use Prim.Native.Nat.{_+_, _*_, _-_, _≤_}
 use mathlib.Core.Path.{_≡_, refl, sym, _∙_}
 use mathlib.Core.Bool.{true}
 use native.Mathlib.Omega.{arith}
 use borrow.Author.Tests.{not-true, not-false}
-use lib.ListN.{length}
 use Rattle.network.specs.All.{allBelow, all-none, all-more, all-done, all-fails}
 use Rattle.layout.specs.Laid.{stationLaid}
 use Rattle.layout.specs.Bytes.{wordsOf}

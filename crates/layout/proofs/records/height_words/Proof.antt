@@ -1,5 +1,4 @@
 use Rattle.layout.specs.Layout.{recordWords}
-use mathlib.Core.Path.{_≡_, refl, sym, ap, _∙_}
 use mathlib.Core.List.{[], _∷_}
 use lib.IntN.{pos}
 use mir.Syntax.{w64}
@@ -7,8 +6,6 @@ use mir.Facts.{toZ-ofZ}
 use borrow.Author.Needs.{needs}
 use Rattle.layout.proofs.records.height_words.Statement.{statement}
 use Rattle.layout.proofs.records.height_words.Tie as tie
-use Rattle.layout.proofs.records.height_words.Reads as reads
-use Rattle.layout.proofs.records.height_words.Lts as lts
 
 returns : tie.Need-returns
 unfolding recordWords

@@ -3,10 +3,6 @@ use Rattle.layout.specs.Layout.{recordWords}
 use borrow.Author.Needs.{needs}
 use Rattle.layout.proofs.records.record_words.Statement.{statement}
 use Rattle.layout.proofs.records.record_words.Tie as tie
-use Rattle.layout.proofs.records.record_words.Reads as reads
-use Rattle.layout.proofs.records.record_words.Lts as lts
-use Rattle.layout.proofs.records.baseline_words.Reads as baseline-words-reads
-use Rattle.layout.proofs.records.height_words.Reads as height-words-reads
 
 enum-told : tie.Need-enum-told
 enum-told c = search needs

@@ -5,7 +5,6 @@ use native.Mathlib.Omega.{arith}
 use lib.ListN.{length}
 use Rattle.words.specs.Runs.{putWords}
 use Rattle.layout.specs.Chunks.{chunks}
-use Rattle.network.specs.declared.Network.{Network}
 use Rattle.layout.specs.Layout.{stationPart}
 use Rattle.layout.specs.BookWords.{length-station}
 use Rattle.layout.proofs.Parts.{parts-none, parts-more}
