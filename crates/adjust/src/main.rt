@@ -4,7 +4,7 @@ use adjustment::Taken;
 ghost use mathlib.Core.Path.{_≡_};
 ghost use Prim.Native.Nat.{_+_, _≤_, _<_};
 ghost use lib.ListN.{length};
-ghost use Rattle.runs.specs.States.{Ready};
+ghost use Rattle.input_lines.specs.States.{Ready};
 
 // A chunk taken: the run afterwards, how many bytes were read (0 at the end of the input), and whether the program ends here: its output is closed, or the
 // opening was refused.
@@ -47,7 +47,7 @@ fn turn(
     let printed = next.printed;
     let written = io::write_all(1, &out[0..printed]);
     let state = next.state;
-    let quit = !written | runs::is_ended(state);
+    let quit = !written | input_lines::is_ended(state);
     Step {
         taken: next,
         got: n,

@@ -14,11 +14,11 @@ use Rattle.text.specs.Lines.{Kept, blank, inFront, came, holds, Feeds}
 use Rattle.text.specs.LineLaws.{fed-fits, fed-on, fed-line, fed-part}
 use Rattle.text.specs.Writing.{Written}
 use Rattle.commands.specs.Commands.{isStationLine}
-use Rattle.runs.specs.declared.State.{State}
-use Rattle.runs.specs.declared.Asked.{Asked}
-use Rattle.runs.specs.Runs.{Run, refusalSays, entered, enteringSays, asked, unedited, edits, commandSays, obeyed, next, obeyedSays, says, runAfter, saysAll}
-use Rattle.runs.specs.States.{runOf, unopenedPhase, openedPhase, endedPhase, Ready, openedWith, Opens, Reads}
-use Rattle.runs.specs.StateLaws.{written-front, written-beyond, drop-further, enter-open, enter-says, enter-stay, enter-silent, obeyed-is, said-is, ready-next, ready-open}
+use Rattle.input_lines.specs.declared.State.{State}
+use Rattle.input_lines.specs.declared.Asked.{Asked}
+use Rattle.input_lines.specs.Runs.{Run, refusalSays, entered, enteringSays, asked, unedited, edits, commandSays, obeyed, next, obeyedSays, says, runAfter, saysAll}
+use Rattle.input_lines.specs.States.{runOf, unopenedPhase, openedPhase, endedPhase, Ready, openedWith, Opens, Reads}
+use Rattle.input_lines.specs.StateLaws.{written-front, written-beyond, drop-further, enter-open, enter-says, enter-stay, enter-silent, obeyed-is, said-is, ready-next, ready-open}
 use Rattle.adjustment.specs.Chunks.{Takes, Ahead}
 
 -- ════ the lines of a chunk

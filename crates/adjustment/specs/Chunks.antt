@@ -6,8 +6,8 @@ use lib.ListN.{length, take, drop}
 use lib.IntN.{ℤ}
 use Rattle.text.specs.Lines as lines
 use Rattle.text.specs.Lines.{Kept, came, holds}
-use Rattle.runs.specs.Runs.{Run, start, runAfter, saysAll}
-use Rattle.runs.specs.States.{runOf, Ready}
+use Rattle.input_lines.specs.Runs.{Run, start, runAfter, saysAll}
+use Rattle.input_lines.specs.States.{runOf, Ready}
 use Rattle.adjustment.specs.declared.Taken.{Taken}
 
 -- ════ a chunk taken, with the run r₀ and what was held of a line, k₀, before it: the lines that end in it are obeyed, what they print is the

@@ -15,13 +15,13 @@ use Rattle.commands.specs.Messages.{refused}
 use Rattle.commands.specs.SheetLaws.{written-as}
 use Rattle.reports.specs.Reports.{checkSays, Offer, offerSays, no-pair}
 use Rattle.reports.specs.Reports as reports
-use Rattle.runs.specs.declared.Phase as code-phase
-use Rattle.runs.specs.declared.Phase.the-variants.{Unopened, Opened, Ended}
-use Rattle.runs.specs.declared.Given as code-given
-use Rattle.runs.specs.declared.Given.the-variants as code
-use Rattle.runs.specs.declared.State.{State}
-use Rattle.runs.specs.Runs.{Phase, opened, ended, phaseWith, phaseOpened, openingSays}
-use Rattle.runs.specs.States.{phaseOf, givenOf, isGiven, countOf, runOf, openedPhase, endedPhase, Opens}
+use Rattle.input_lines.specs.declared.Phase as code-phase
+use Rattle.input_lines.specs.declared.Phase.the-variants.{Unopened, Opened, Ended}
+use Rattle.input_lines.specs.declared.Given as code-given
+use Rattle.input_lines.specs.declared.Given.the-variants as code
+use Rattle.input_lines.specs.declared.State.{State}
+use Rattle.input_lines.specs.Runs.{Phase, opened, ended, phaseWith, phaseOpened, openingSays}
+use Rattle.input_lines.specs.States.{phaseOf, givenOf, isGiven, countOf, runOf, openedPhase, endedPhase, Opens}
 use Rattle.adjustment.specs.Ends.{bookEnds, phaseEnds, endSays, BookEnds, Ends}
 
 -- ════ a book

@@ -6,7 +6,7 @@ use Rattle.book.specs.declared.Book.{Book}
 use Rattle.text.specs.Lines.{Kept, kept, linesOf}
 use Rattle.text.specs.Writing as writing
 use Rattle.reports.specs.Reports.{checkSays, Offer, Offers, offerSays}
-use Rattle.runs.specs.Runs.{Phase, unopened, opened, ended, Given, none, given, Run, start, openingSays, openRun, runAfter, saysAll}
+use Rattle.input_lines.specs.Runs.{Phase, unopened, opened, ended, Given, none, given, Run, start, openingSays, openRun, runAfter, saysAll}
 
 -- ════ the end
 -- "test 1 judges their counts …, and where only one is given the other is empty"; "Without a readable X or M line the engine proposes"

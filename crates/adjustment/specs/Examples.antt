@@ -9,7 +9,7 @@ use Rattle.text.specs.Fields.{letterOf}
 use Rattle.text.specs.Lines.{linesAfter}
 use Rattle.commands.specs.Messages.{refused}
 use Rattle.reports.specs.Reports.{none}
-use Rattle.runs.specs.Runs.{phaseOpened, openingSays, entered, enteringSays, phaseAfter, phaseSays, next, says, runAfter, saysAll}
+use Rattle.input_lines.specs.Runs.{phaseOpened, openingSays, entered, enteringSays, phaseAfter, phaseSays, next, says, runAfter, saysAll}
 use Rattle.adjustment.specs.Ends.{phaseEnds, endSays, printed}
 
 -- `REFUSED 1`

@@ -8,10 +8,10 @@ use Rattle.text.specs.Lines.{Kept, blank, came, cameAll, concat, isLine, lastKe
 use Rattle.text.specs.LineLaws.{lines-of-chunks}
 use Rattle.commands.specs.Commands.{isStationLine}
 use Rattle.reports.specs.Reports.{Offer, none, no-pair}
-use Rattle.runs.specs.Runs.{ended, Run, start, phaseOpened, openingSays, openRun, entered, enteringSays, asked, phaseAfter, phaseSays, next, says, runAfter, saysAll}
+use Rattle.input_lines.specs.Runs.{ended, Run, start, phaseOpened, openingSays, openRun, entered, enteringSays, asked, phaseAfter, phaseSays, next, says, runAfter, saysAll}
 use Rattle.adjustment.specs.Chunks.{Takes}
 use Rattle.adjustment.specs.Ends.{phaseEnds, endSays, OffersAt, Ends, keptLines, printed}
-use Rattle.runs.specs.StateLaws.{written-front}
+use Rattle.input_lines.specs.StateLaws.{written-front}
 
 -- ════ the statement
 -- chunks ss taken one after the other from the run r, with k held of a line: they print t, and leave the run r′ with k′ held

@@ -2,14 +2,14 @@
 use super::Taken;
 use book::Book;
 use book::Edited;
-use runs::Given;
-use runs::Phase;
-use runs::State;
+use input_lines::Given;
+use input_lines::Phase;
+use input_lines::State;
 ghost use Prim.Native.Nat.{_+_, _*_, _≤_, _<_};
 ghost use mathlib.Core.Path.{_≡_};
 ghost use lib.ListN.{length};
 ghost use Rattle.text.specs.Lines.{holds};
-ghost use Rattle.runs.specs.States.{runOf, Ready};
+ghost use Rattle.input_lines.specs.States.{runOf, Ready};
 ghost use Rattle.adjustment.specs.Chunks.{Takes, Begun};
 
 // A run before its first byte.
@@ -77,17 +77,24 @@ pub fn take_chunk(
                 printed: p,
             };
         }
-        if runs::opens_at(s, &line[0..len]) {
-            held = runs::open_list(list, s.words);
+        if input_lines::opens_at(s, &line[0..len]) {
+            held = input_lines::open_list(list, s.words);
             let refusal = held.refusal;
-            p = runs::write_opening(out, p, refusal);
-            s = runs::opened(s, refusal);
+            p = input_lines::write_opening(out, p, refusal);
+            s = input_lines::opened(s, refusal);
         }
-        let asked = runs::read_line(s, &line[0..len], over, list, x, m);
+        let asked = input_lines::read_line(s, &line[0..len], over, list, x, m);
         let command = asked.command;
-        held = runs::edit_opened(held.book, runs::is_opened(s), command);
+        held = input_lines::edit_opened(held.book, input_lines::is_opened(s), command);
         let next = asked.state;
-        p = runs::write_message(out, p, runs::is_ended(s), next.lines, command, held.refusal);
+        p = input_lines::write_message(
+            out,
+            p,
+            input_lines::is_ended(s),
+            next.lines,
+            command,
+            held.refusal,
+        );
         s = next;
         len = 0;
         over = false;

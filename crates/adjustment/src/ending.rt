@@ -1,13 +1,13 @@
 // The end of the input: the check of what X and M gave, or of what the engine proposes.
 use book::Book;
-use runs::Given;
-use runs::State;
+use input_lines::Given;
+use input_lines::State;
 ghost use mathlib.Core.Path.{_≡_};
 ghost use mathlib.Core.Bool.{true};
 ghost use Prim.Native.Nat.{_≤_};
 ghost use lib.ListN.{length};
 ghost use Rattle.book.specs.Book.{sound};
-ghost use Rattle.runs.specs.States.{countOf, givenOf, isGiven, runOf, Ready};
+ghost use Rattle.input_lines.specs.States.{countOf, givenOf, isGiven, runOf, Ready};
 ghost use Rattle.adjustment.specs.Ends.{BookEnds, Ends};
 
 fn count(given: Given) -> usize
@@ -55,13 +55,13 @@ pub fn finish(state: State, book: Book, list: &[i64], x: &[i64], m: &[i64], out:
 {
     let corrections = state.corrections;
     let matrix = state.matrix;
-    if runs::is_ended(state) {
+    if input_lines::is_ended(state) {
         return 0;
     }
-    if runs::is_opened(state) {
+    if input_lines::is_opened(state) {
         return conclude(out, book, corrections, matrix, x, m);
     }
-    let e = runs::open_list(list, state.words);
+    let e = input_lines::open_list(list, state.words);
     let refusal = e.refusal;
     if refusal != 0 {
         return commands::write_refused(out, 0, refusal);

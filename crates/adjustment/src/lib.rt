@@ -6,7 +6,7 @@ use book::Book;
 pub use chunks::begin;
 pub use chunks::take_chunk;
 pub use ending::finish;
-use runs::State;
+use input_lines::State;
 
 // A run between two chunks of its input: its state and book, how many bytes are held of the line that goes on and whether it had more, and how
 // many bytes were printed.

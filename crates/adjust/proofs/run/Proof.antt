@@ -4,7 +4,7 @@ use Prim.Native.Nat.{_+_, _≤_}
 use mathlib.Core.Path.{_≡_, refl, _∙_}
 use native.Mathlib.Omega.{arith}
 use lib.ListN.{length}
-use Rattle.runs.specs.States.{Ready}
+use Rattle.input_lines.specs.States.{Ready}
 use Rattle.adjust.proofs.run.Statement.{statement}
 use Rattle.adjust.proofs.run.Tie as tie
 

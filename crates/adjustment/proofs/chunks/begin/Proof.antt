@@ -3,7 +3,7 @@ use borrow.Author.Needs.{needs}
 use mathlib.Core.Path.{_≡_, refl}
 use mathlib.Core.Bool.{true, false}
 use native.Mathlib.Omega.{arith}
-use Rattle.runs.specs.States.{phaseOf, givenOf, openedPhase, countOf}
+use Rattle.input_lines.specs.States.{phaseOf, givenOf, openedPhase, countOf}
 use Rattle.adjustment.proofs.chunks.begin.Statement.{statement}
 use Rattle.adjustment.proofs.chunks.begin.Tie as tie
 

@@ -12,7 +12,7 @@ use lib.ListN.{length, take}
 use Rattle.text.specs.Lines.{holds}
 use Rattle.text.specs.LineLaws.{fed-fits, fed-on}
 use Rattle.commands.specs.SheetLaws.{written-as}
-use Rattle.runs.specs.Runs.{unedited, edits, commandSays}
+use Rattle.input_lines.specs.Runs.{unedited, edits, commandSays}
 use Rattle.adjustment.specs.ChunkLaws.{Entered, entered-open, entered-stay, Middle, middle-start, middle-line, middle-part, middle-end}
 use Rattle.adjustment.proofs.chunks.take_chunk.Statement.{statement}
 use Rattle.adjustment.proofs.chunks.take_chunk.Tie as tie

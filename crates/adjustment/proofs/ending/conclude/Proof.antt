@@ -8,7 +8,7 @@ use lib.ListN.{take}
 use denote.Ref.{now}
 use Rattle.commands.specs.SheetLaws.{written-as}
 use Rattle.reports.specs.Reports.{checkSays, none, no-pair}
-use Rattle.runs.specs.States.{isGiven}
+use Rattle.input_lines.specs.States.{isGiven}
 use Rattle.adjustment.specs.EndLaws.{ends-check, ends-offer}
 use Rattle.adjustment.proofs.ending.conclude.Statement.{statement}
 use Rattle.adjustment.proofs.ending.conclude.Tie as tie

@@ -1,6 +1,6 @@
 -- `ending::count` meets its contract. Assumes nothing.
 use borrow.Author.Needs.{needs}
-use Rattle.runs.specs.States.{countOf}
+use Rattle.input_lines.specs.States.{countOf}
 use Rattle.adjustment.proofs.ending.count.Statement.{statement}
 use Rattle.adjustment.proofs.ending.count.Tie as tie
 

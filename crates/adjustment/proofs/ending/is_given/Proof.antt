@@ -1,6 +1,6 @@
 -- `ending::is_given` meets its contract. Assumes nothing.
 use borrow.Author.Needs.{needs}
-use Rattle.runs.specs.States.{isGiven}
+use Rattle.input_lines.specs.States.{isGiven}
 use Rattle.adjustment.proofs.ending.is_given.Statement.{statement}
 use Rattle.adjustment.proofs.ending.is_given.Tie as tie
 

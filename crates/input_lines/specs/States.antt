@@ -1,0 +1,119 @@
+-- A run as the code holds it: a small state, a book, and lent lists of words, corrections and matrix entries, each from its front. Assumes nothing.
+use Prim.Native.Nat.{ℕ, suc, _≤_}
+use mathlib.Core.Path.{_≡_}
+use mathlib.Core.Bool.{Bool, true, false, cond}
+use mathlib.Core.List.{List}
+use lib.Dec.{eqb}
+use lib.ListN.{length, take}
+use lib.IntN.{ℤ}
+use Rattle.network.specs.declared.Station as station
+use Rattle.book.specs.declared.Book.{Book}
+use Rattle.book.specs.declared.Edited as edited
+use Rattle.book.specs.Book as book
+use Rattle.text.specs.Fields.{restFields}
+use Rattle.text.specs.Lines.{Kept}
+use Rattle.commands.specs.Commands.{keptCommand}
+use Rattle.commands.specs.Brings.{brings, howMany}
+use Rattle.commands.specs.declared.Command.{Command}
+use Rattle.input_lines.specs.declared.Phase as code-phase
+use Rattle.input_lines.specs.declared.Phase.the-variants.{Unopened, Opened, Ended}
+use Rattle.input_lines.specs.declared.Given as code-given
+use Rattle.input_lines.specs.declared.Given.the-variants.{Nothing, Numbers}
+use Rattle.input_lines.specs.declared.State.{State}
+use Rattle.input_lines.specs.declared.Asked.{Asked}
+use Rattle.input_lines.specs.Runs.{Phase, unopened, opened, ended, Given, none, given, Run, noted, wordsAfter, readAfter, correctionsNext, matrixNext}
+
+-- ════ what it stands for
+unfoldable pub phaseOf : code-phase.Phase → Book → Phase
+phaseOf Unopened b = unopened
+phaseOf Opened b = opened b
+phaseOf Ended b = ended
+
+unfoldable pub givenOf : code-given.Given → List ℤ → Given
+givenOf Nothing l = none
+givenOf (Numbers n) l = given (take n l)
+
+abbrev pub runOf : State → Book → List ℤ → List ℤ → List ℤ → Run
+runOf s b list x m =
+    record {
+      words = take (s .words) list;
+      read = s .read;
+      lines = s .lines;
+      phase = phaseOf (s .phase) b;
+      corrections = givenOf (s .corrections) x;
+      matrix = givenOf (s .matrix) m;
+    }
+
+-- ════ its phase, in tests
+unfoldable pub unopenedPhase : code-phase.Phase → Bool
+unopenedPhase Unopened = true
+unopenedPhase Opened = false
+unopenedPhase Ended = false
+
+unfoldable pub openedPhase : code-phase.Phase → Bool
+openedPhase Unopened = false
+openedPhase Opened = true
+openedPhase Ended = false
+
+unfoldable pub endedPhase : code-phase.Phase → Bool
+endedPhase Unopened = false
+endedPhase Opened = false
+endedPhase Ended = true
+
+-- the phase after an opening with that refusal
+abbrev pub phaseAt : ℕ → code-phase.Phase
+phaseAt refusal = cond (eqb refusal 0) Opened Ended
+
+-- ════ what the code keeps up
+unfoldable pub countOf : code-given.Given → ℕ
+countOf Nothing = 0
+countOf (Numbers n) = n
+
+unfoldable pub isGiven : code-given.Given → Bool
+isGiven Nothing = false
+isGiven (Numbers n) = true
+
+pub record Ready (s : State) (b : Book) (list x m : List ℤ) : Type 0 where
+  pub room-list : 132 ≤ length list
+  pub room-x : 48 ≤ length x
+  pub room-m : 2304 ≤ length m
+  pub words : s .words ≤ 132
+  pub corrections : countOf (s .corrections) ≤ 48
+  pub matrix : countOf (s .matrix) ≤ 2304
+  pub read : s .read ≤ s .lines
+  pub sound : openedPhase (s .phase) ≡ true → book.sound b ≡ true
+
+-- ════ the opening
+abbrev pub openedWith : State → ℕ → State
+openedWith s refusal =
+    record { lines = s .lines; read = s .read; words = s .words; phase = phaseAt refusal; corrections = s .corrections; matrix = s .matrix }
+
+pub record Opens (words : List ℤ) (e : edited.Edited) : Type 0 where
+  pub is : e ≡ book.opening words
+  pub sound : e .refusal ≡ 0 → book.sound (e .book) ≡ true
+
+-- ════ a line noted: the words at the front of the list, up to r
+pub record Noted (list : List ℤ) (words : ℕ) (s : station.Station) (r : ℕ) (after : List ℤ) : Type 0 where
+  pub leaves : take r after ≡ noted (take words list) s
+  pub few : r ≤ 132
+
+pub record WordsNoted (list : List ℤ) (words : ℕ) (c : Command) (r : ℕ) (after : List ℤ) : Type 0 where
+  pub leaves : take r after ≡ wordsAfter (take words list) c
+  pub few : r ≤ 132
+
+-- how many numbers were given last, of the list that a line brings as `kind`
+abbrev pub givenCount : ℕ → code-given.Given → Command → code-given.Given
+givenCount kind g c = cond (eqb (brings c) kind) (Numbers (howMany c)) g
+
+-- what a line asks, and what it leaves of the state and the lent lists
+pub record Reads (s : State) (k : Kept) (list x m : List ℤ) (a : Asked) (list′ x′ m′ : List ℤ) : Type 0 where
+  pub command : a .command ≡ keptCommand (s .read) (unopenedPhase (s .phase)) k
+  pub words : take (a .state .words) list′ ≡ wordsAfter (take (s .words) list) (a .command)
+  pub read : a .state .read ≡ readAfter (s .read) (a .command)
+  pub lines : a .state .lines ≡ suc (s .lines)
+  pub phase : a .state .phase ≡ s .phase
+  pub corrections : givenOf (a .state .corrections) x′ ≡ correctionsNext (givenOf (s .corrections) x) (restFields (k .text)) (a .command)
+  pub matrix : givenOf (a .state .matrix) m′ ≡ matrixNext (givenOf (s .matrix) m) (restFields (k .text)) (a .command)
+  pub few-words : a .state .words ≤ 132
+  pub few-corrections : countOf (a .state .corrections) ≤ 48
+  pub few-matrix : countOf (a .state .matrix) ≤ 2304

@@ -1,0 +1,86 @@
+// A line read: what it asks, and the state with its station, corrections or matrix noted.
+use super::Asked;
+use super::Given;
+use super::State;
+use super::opening;
+use commands::Command;
+ghost use mathlib.Core.Path.{_≡_};
+ghost use Prim.Native.Nat.{_+_, _≤_, _<_};
+ghost use lib.ListN.{length};
+ghost use Rattle.input_lines.specs.Runs.{readAfter};
+ghost use Rattle.input_lines.specs.States.{countOf, givenCount, WordsNoted, Reads};
+
+// The station of an S line, after those in the list.
+fn note_words(list: &mut [i64], words: usize, command: Command) -> usize
+    requires { ⌜ (132 ≤ length (now list)) × (words ≤ 132) ⌝ }
+    ensures { λ r. ⌜ WordsNoted (now (list .entry)) words command r (now (list .exit)) ⌝ }
+{
+    match command {
+        Command::Station(s) => opening::note_station(list, words, s),
+        _ => words,
+    }
+}
+
+fn read_after(read: u64, command: Command) -> u64
+    requires { ⌜ read < 18446744073709551615 ⌝ }
+    ensures { λ r. ⌜ r ≡ readAfter read command ⌝ }
+{
+    match command {
+        Command::Station(_) => read + 1,
+        _ => read,
+    }
+}
+
+fn corrections_after(given: Given, command: Command) -> Given
+    ensures { λ r. ⌜ r ≡ givenCount 1 given command ⌝ }
+{
+    match command {
+        Command::Corrections(n) => Given::Numbers(n),
+        _ => given,
+    }
+}
+
+fn matrix_after(given: Given, command: Command) -> Given
+    ensures { λ r. ⌜ r ≡ givenCount 2 given command ⌝ }
+{
+    match command {
+        Command::Matrix(n) => Given::Numbers(n),
+        _ => given,
+    }
+}
+
+// What a line asks in this state, and what it leaves of the state and the lent lists.
+pub fn read_line(
+    state: State,
+    line: &[u8],
+    over: bool,
+    list: &mut [i64],
+    x: &mut [i64],
+    m: &mut [i64],
+) -> Asked
+    requires { ⌜ (132 ≤ length (now list)) × (48 ≤ length (now x)) × (2304 ≤ length (now m)) ⌝ }
+    requires { ⌜ (state .words ≤ 132) × (countOf (state .corrections) ≤ 48) × (countOf (state .matrix) ≤ 2304) ⌝ }
+    requires { ⌜ (state .read ≤ state .lines) × (state .lines < 18446744073709551615) ⌝ }
+    ensures { λ a. ⌜ Reads state (record { text = now (line .entry); over = over }) (now (list .entry)) (now (x .entry)) (now (m .entry)) a (now (list .exit)) (now (x .exit)) (now (m .exit)) ⌝ }
+{
+    let command = commands::read_command(line, over, state.read, opening::is_unopened(state), x, m);
+    let words = note_words(list, state.words, command);
+    let read = read_after(state.read, command);
+    let given = state.corrections;
+    let corrections = corrections_after(given, command);
+    let before = state.matrix;
+    let matrix = matrix_after(before, command);
+    let phase = state.phase;
+    let lines = state.lines + 1;
+    Asked {
+        state: State {
+            lines,
+            read,
+            words,
+            phase,
+            corrections,
+            matrix,
+        },
+        command,
+    }
+}
