@@ -11,14 +11,7 @@ ghost use Rattle.acceptance.specs.Tests.{byRows, defect, defectSmall};
 ghost use Rattle.acceptance.specs.Loops.{Pair};
 
 // The size of the entry of S·I − MN in row i and column j; the row of M starts at `row`.
-fn defect_size(
-    m: &[i64],
-    row: usize,
-    normal: &[i64; Normals::ENTRIES],
-    i: usize,
-    j: usize,
-    n: usize,
-) -> u64
+fn defect_size(m: &[i64], row: usize, normal: &[i64], i: usize, j: usize, n: usize) -> u64
     requires { ⌜ Pair n (now m) (now normal) ⌝ }
     requires { ⌜ (row ≡ i * n) × ((i < n) × (j < n)) ⌝ }
     ensures { λ r. ⌜ r ≡ natAbs (defect n (byRows 48 (now (normal .entry))) (byRows n (now (m .entry))) i j) ⌝ }
@@ -32,7 +25,7 @@ fn defect_size(
 }
 
 // Whether the sizes in row i add up to at most 2^26; it stops where they pass it.
-fn row_near(m: &[i64], row: usize, normal: &[i64; Normals::ENTRIES], i: usize, n: usize) -> bool
+fn row_near(m: &[i64], row: usize, normal: &[i64], i: usize, n: usize) -> bool
     requires { ⌜ Pair n (now m) (now normal) ⌝ }
     requires { ⌜ (row ≡ i * n) × (i < n) ⌝ }
     ensures { λ r. ⌜ r ≡ leb (sumN n (λ j. natAbs (defect n (byRows 48 (now (normal .entry))) (byRows n (now (m .entry))) i j))) (2 ^ 26) ⌝ }
@@ -50,7 +43,7 @@ fn row_near(m: &[i64], row: usize, normal: &[i64; Normals::ENTRIES], i: usize, n
 }
 
 // Whether every row of M is near the inverse.
-pub fn rows_near(m: &[i64], normal: &[i64; Normals::ENTRIES], n: usize) -> bool
+pub fn rows_near(m: &[i64], normal: &[i64], n: usize) -> bool
     requires { ⌜ Pair n (now m) (now normal) ⌝ }
     ensures { λ r. ⌜ r ≡ defectSmall n (byRows 48 (now (normal .entry))) (byRows n (now (m .entry))) ⌝ }
 {

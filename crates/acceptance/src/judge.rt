@@ -54,7 +54,7 @@ fn lengths_fit(x: usize, m: usize, n: usize, room: bool) -> bool
 
 // Tests 3 to 7.
 fn judge_numbers(
-    normal: &[i64; Normals::ENTRIES],
+    normal: &[i64],
     right: &[i64; Normals::ROW],
     x: &[i64],
     m: &[i64],
@@ -86,7 +86,7 @@ fn judge_numbers(
 pub fn accept(
     net: Network,
     places: [Place; Unit::PLACES],
-    normal: &[i64; Normals::ENTRIES],
+    normal: &[i64],
     right: &[i64; Normals::ROW],
     x: &[i64],
     m: &[i64],

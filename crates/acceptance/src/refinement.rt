@@ -13,7 +13,7 @@ ghost use Rattle.acceptance.specs.Loops.{Normal, Residuals, Small};
 
 // r = u − Nx; 0 beyond the n-th entry.
 pub fn normal_residual(
-    normal: &[i64; Normals::ENTRIES],
+    normal: &[i64],
     right: &[i64; Normals::ROW],
     x: &[i64],
     n: usize,

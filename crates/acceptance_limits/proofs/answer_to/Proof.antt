@@ -33,6 +33,9 @@ returns-2 c = search needs
 of-requires : tie.Need-of-requires
 of-requires c κs = sound c
 
+slice-aggregate-accept : tie.Need-slice-aggregate-accept
+slice-aggregate-accept c = search needs
+
 accept-requires : tie.Need-accept-requires
 accept-requires c κs =
     rw (c .before .before .before .before .of .ensures) (fit-of _ _ (sound (c .before .before .before .before .before)))
@@ -49,5 +52,6 @@ answer-to-spec =
     all-fit-requires
     returns-2
     of-requires
+    slice-aggregate-accept
     accept-requires
     returns-3)

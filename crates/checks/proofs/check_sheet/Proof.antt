@@ -36,6 +36,9 @@ room-of-requires c κs = let s = c .before .before .before .before .before in ne
 has-room-requires : tie.Need-has-room-requires
 has-room-requires c κs = search needs
 
+slice-aggregate-accept : tie.Need-slice-aggregate-accept
+slice-aggregate-accept c = search needs
+
 accept-requires : tie.Need-accept-requires
 accept-requires c κs = let s = c .before .before .before .before .before .before .before .before .before in fit (s .args .book) (sound-book s)
 
@@ -77,6 +80,7 @@ check-sheet-spec =
     (tie.spec
     room-of-requires
     has-room-requires
+    slice-aggregate-accept
     accept-requires
     enum-told
     write-sheet-requires

@@ -10,11 +10,11 @@ use Rattle.acceptance.proofs.inverse.defect_size.Tie as tie
 
 dot-requires : tie.Need-dot-requires
 dot-requires c κs =
-    let s = c .before in pair-factors (s .pre .0) _ (s .args .i) (s .args .j) (s .pre .1 .0) (s .pre .1 .1 .0) (s .pre .1 .1 .1)
+    let s = c in pair-factors (s .pre .0) _ (s .args .i) (s .args .j) (s .pre .1 .0) (s .pre .1 .1 .0) (s .pre .1 .1 .1)
 
 small : (c : tie.After-dot) → natAbs (c .dot .result) ≤ 48 * 2 ^ 57
 small c =
-    let s = c .before .before in
+    let s = c .before in
     rw (c .dot .ensures) (dot-small (pair-factors (s .pre .0) _ (s .args .i) (s .args .j) (s .pre .1 .0) (s .pre .1 .1 .0) (s .pre .1 .1 .1)))
 
 one : (c : tie.Then1) → Difference (pos 1073741824) (c .before .dot .result)
@@ -31,7 +31,7 @@ size-requires c κs = tt
 
 returns : tie.Need-returns
 returns c =
-    let s = c .before .before .before .before in
+    let s = c .before .before .before in
     let e = c .size .ensures ∙ ap natAbs (one (c .before) .is) in
     let b = one (c .before) .small in (
       rw (eq-eqb _ _ (c .before .if1 .taken), ← (pair-dot (s .args .n) (s .args .m .now) (s .args .normal .now) (s .args .row) (s .args .i) (s .args .j) (s .pre .1 .0)), ← (c .before .before .dot .ensures)) e,
@@ -46,7 +46,7 @@ size-requires-2 c κs = tt
 
 returns-2 : tie.Need-returns-2
 returns-2 c =
-    let s = c .before .before .before .before in
+    let s = c .before .before .before in
     let e = c .size2 .ensures ∙ ap natAbs (nil (c .before) .is) in
     let b = nil (c .before) .small in (
       rw (ne-eqb _ _ (c .before .if1 .left), ← (pair-dot (s .args .n) (s .args .m .now) (s .args .normal .now) (s .args .row) (s .args .i) (s .args .j) (s .pre .1 .0)), ← (c .before .before .dot .ensures)) e,

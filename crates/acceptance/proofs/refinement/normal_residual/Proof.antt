@@ -21,23 +21,23 @@ loop-holds : tie.Need-loop-holds Inv-loop μ-loop
 loop-holds c = (omega arith, starts (pos 0) 48 _ _ (search needs))
 
 mul-dot : tie.Need-mul-dot Inv-loop μ-loop
-mul-dot c = let f = c .before .before .before .pre .few in omega arith
+mul-dot c = let f = c .before .before .pre .few in omega arith
 
 dot-requires : tie.Need-dot-requires Inv-loop μ-loop
-dot-requires c κs = normal-factors (c .before .before .before .pre) (c .before .before .loop .i) (c .before .loop-test .taken)
+dot-requires c κs = normal-factors (c .before .before .pre) (c .before .loop .i) (c .loop-test .taken)
 
 small : (c : tie.After-dot Inv-loop μ-loop) → natAbs (c .dot .result) ≤ 48 * 2 ^ 57
 small c =
-    rw (c .dot .ensures) (dot-small (normal-factors (c .before .before .before .before .pre) (c .before .before .before .loop .i) (c .before .before .loop-test .taken)))
+    rw (c .dot .ensures) (dot-small (normal-factors (c .before .before .before .pre) (c .before .before .loop .i) (c .before .loop-test .taken)))
 
-less : (c : tie.After-dot Inv-loop μ-loop) → Difference (at (c .before .before .before .before .args .right .now) (c .before .before .before .loop .i)) (c .dot .result)
-less c = let b = c .before .before .before .before .pre .absolute .bound (c .before .before .before .loop .i) in difference _ _ (omega (arith, small c))
+less : (c : tie.After-dot Inv-loop μ-loop) → Difference (at (c .before .before .before .args .right .now) (c .before .before .loop .i)) (c .dot .result)
+less c = let b = c .before .before .before .pre .absolute .bound (c .before .before .loop .i) in difference _ _ (omega (arith, small c))
 
 mul-r : tie.Need-mul-r Inv-loop μ-loop
 mul-r c = search needs
 
 element-copy-out-r : tie.Need-element-copy-out-r Inv-loop μ-loop
-element-copy-out-r c = let f = c .before .before .before .before .pre .few in search needs
+element-copy-out-r c = let f = c .before .before .before .pre .few in search needs
 
 sub-r : tie.Need-sub-r Inv-loop μ-loop
 sub-r c = less (c .before) .fits
@@ -46,7 +46,7 @@ mul-out : tie.Need-mul-out Inv-loop μ-loop
 mul-out c = search needs
 
 array-set-from-out : tie.Need-array-set-from-out Inv-loop μ-loop
-array-set-from-out c = let f = c .before .before .before .before .before .pre .few in omega arith
+array-set-from-out c = let f = c .before .before .before .before .pre .few in omega arith
 
 add-i : tie.Need-add-i Inv-loop μ-loop
 add-i c = search needs
@@ -56,7 +56,7 @@ loop-less c = search needs
 
 loop-again : tie.Need-loop-again Inv-loop μ-loop
 loop-again c =
-    let t = c .before .before .before .before in
+    let t = c .before .before .before in
     let s = t .before in
     let f = s .pre .few in (
       omega arith,
