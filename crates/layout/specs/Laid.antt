@@ -12,7 +12,7 @@ use lib.IntN.{ℤ, pos}
 use mir.Syntax.{w64}
 use mir.Val.{SFits}
 use Rattle.integers.specs.Tables.{length-tabulate, getD-tabulate}
-use Rattle.words.specs.Bools.{and-left, and-right, and-both}
+use Rattle.words.specs.Bools.{same-test, and-left, and-right, and-both}
 use Rattle.words.specs.Signed.{signed, unsigned, eqZ}
 use Rattle.words.specs.SignedLaws.{eqZ-true, eq-eqZ, signed-unsigned}
 use Rattle.network.specs.All.{allBelow, all-at, all-by}
@@ -41,11 +41,6 @@ partsLaid w =
     && allBelow 32 (stationLaid w)
     && allBelow 256 (λ p. recordLaid w (130 + p * 14))
     && allBelow 64 (λ k. recordLaid w (3717 + k * 15))
-
-both-ways : (a b : Bool) → (a ≡ true → b ≡ true) → (b ≡ true → a ≡ true) → a ≡ b
-both-ways true b f g = sym (f refl)
-both-ways false true f g = g refl
-both-ways false false f g = refl
 
 -- ════ the book that words give
 module _ (w : List ℤ) (long : length w ≡ 7028) where
@@ -180,4 +175,4 @@ module _ (w : List ℤ) (long : length w ≡ 7028) where
             go (no a) (no b) (no c) (no d) (no e) (no f) (no g) (no i) = moved (6980 + (k - 6980)) (omega arith) (right-kept (k - 6980) (omega arith))
 
     pub laid-parts : sameEntries 7028 w (bookWords (bookIn w)) ≡ partsLaid w
-    laid-parts = both-ways Same (partsLaid w) forth back
+    laid-parts = same-test Same (partsLaid w) forth back
