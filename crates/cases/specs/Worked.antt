@@ -10,13 +10,13 @@ use Rattle.integers.specs.Sums.{sum, sumN}
 use Rattle.words.specs.Signed.{indexIn}
 use Rattle.network.specs.All.{allBelow}
 use Rattle.network.specs.Stations.{blank, networkOf, stationIn, kindAt, opens, wholeStations, kindsFit, coordinatesFit, unknownsFit, unknown, unknownIn, number, coordinate, coordinateIn}
-use Rattle.network.specs.Records.{fromOf, toOf, joins, weights, misclosures, misclosureAt}
+use Rattle.network.specs.Records.{acts, fromOf, toOf, joins, weights, misclosures, misclosureAt}
 use Rattle.network.specs.Rules.{endsFit, baselineInRange, heightInRange, minorsPositive, adjugateFits, matrixFits, misclosureFits, recordNoOver, recordNo, isEmpty}
 use Rattle.network.specs.declared.Kind.the-variants.{Known, Height}
 use Rattle.network.specs.declared.Network.{Network}
 use Rattle.network.specs.declared.Place.{Place}
 use Rattle.normals.specs.Formulas.{entryN, entryU, shareN, shareU, A, isUnknown}
-use Rattle.chains.specs.Chains.{allTied, isTied, tiedSet, edge, acts, firstUntied}
+use Rattle.chains.specs.Chains.{allTied, isTied, tiedSet, edge, firstUntied}
 use Rattle.chains.specs.Search.{search, pass, join}
 use Rattle.chains.specs.Bits.{setOf, setBit, digit, workedOut}
 use Rattle.chains.specs.Scans.{firstFailing}

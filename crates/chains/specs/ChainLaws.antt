@@ -14,7 +14,7 @@ use Rattle.words.specs.Bools.{clash, true-or-false, same-test}
 use Rattle.network.specs.All.{allBelow, all-at, all-by}
 use Rattle.network.specs.Stations.{unknownIn, stationAt, unknown, number}
 use Rattle.network.specs.StationLaws.{bit-cases, number-mono}
-use Rattle.network.specs.Records.{recordAt, fromOf, toOf}
+use Rattle.network.specs.Records.{recordAt, acts, fromOf, toOf}
 use Rattle.network.specs.declared.Station.{Station}
 use Rattle.network.specs.declared.Network.{Network}
 use Rattle.network.specs.declared.Record.{Record}
@@ -22,7 +22,7 @@ use Rattle.network.specs.declared.Place.{Place}
 use Rattle.chains.specs.Bits.{bit, setOf-sound, setOf-whole, setOf-fits}
 use Rattle.chains.specs.Scans.{firstFailing, first-fails, first-none}
 use Rattle.chains.specs.Search.{Joined, start, along as forth, back as return, Found, search-finds}
-use Rattle.chains.specs.Chains.{acts, Tied, held, along, back, edge, edges, fromEnd, toEnd, isHeld, heldSet, tiedSet, isTied, allTied, firstUntied}
+use Rattle.chains.specs.Chains.{Tied, held, along, back, edge, edges, fromEnd, toEnd, isHeld, heldSet, tiedSet, isTied, allTied, firstUntied}
 
 -- what the search asks of the book: at most 32 stations, and ends among them
 pub record EndsLow (places : List Place) : Type 0 where

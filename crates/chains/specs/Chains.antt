@@ -3,28 +3,21 @@
 -- station list is component q % 3 of station q / 3. Assumes nothing.
 use Prim.Native.Nat.{ℕ, _+_, _*_, _/_, _%_, _<_, _^_}
 use mathlib.Core.Path.{_≡_}
-use mathlib.Core.Bool.{Bool, true, false, cond}
+use mathlib.Core.Bool.{Bool, true, cond}
 use mathlib.Core.List.{List}
 use lib.Dec.{eqb}
 use lib.ListN.{getD}
 use Rattle.integers.specs.Tables.{tabulate}
 use Rattle.network.specs.All.{allBelow}
 use Rattle.network.specs.Stations.{unknown, number}
-use Rattle.network.specs.Records.{recordAt, fromOf, toOf}
+use Rattle.network.specs.Records.{recordAt, acts, fromOf, toOf}
 use Rattle.network.specs.declared.Station.{Station}
 use Rattle.network.specs.declared.Network.{Network}
 use Rattle.network.specs.declared.Record.{Record}
-use Rattle.network.specs.declared.Record.the-variants.{Empty, Baseline as baseline, Height as height}
 use Rattle.network.specs.declared.Place.{Place}
 use Rattle.chains.specs.Bits.{bit, setOf}
 use Rattle.chains.specs.Scans.{firstFailing}
 use Rattle.chains.specs.Search.{search}
-
--- "baselines act in E, N, U; height differences in U only"
-unfoldable pub acts : ℕ → Record → Bool
-acts c Empty = false
-acts c (baseline b) = true
-acts c (height h) = eqb c 2
 
 -- "joined, by a chain of records acting in it, to a station held in it": station s, in component c
 pub data Tied (net : Network) (places : List Place) (c : ℕ) : ℕ → Type 0 where

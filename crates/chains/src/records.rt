@@ -13,10 +13,10 @@ ghost use mathlib.Core.Bool.{true, cond};
 ghost use Prim.Native.Nat.{_<_, _≤_};
 ghost use lib.Dec.{eqb};
 ghost use Rattle.network.specs.Stations.{unknownIn};
-ghost use Rattle.network.specs.Records.{fromOf, toOf};
+ghost use Rattle.network.specs.Records.{acts, fromOf, toOf};
 ghost use Rattle.chains.specs.Bits.{bit, setBit, setOf};
 ghost use Rattle.chains.specs.Scans.{firstFailing};
-ghost use Rattle.chains.specs.Chains.{acts, edge, edges, isHeld, isTied};
+ghost use Rattle.chains.specs.Chains.{edge, edges, isHeld, isTied};
 ghost use Rattle.chains.specs.ChainLaws.{EndsLow, Ends, SameSet, heldOrIn};
 
 // Whether a record acts in component c: baselines in all three, height differences in U only.

@@ -1,7 +1,9 @@
--- Records: what a place holds, with its ends, weights, observed values and misclosures. Assumes nothing.
+-- Records: what a place holds, with the components it acts in, its ends, weights, observed values and misclosures. Assumes nothing.
 use Prim.Native.Nat.{ℕ, _+_, _*_, _≤_}
+use mathlib.Core.Bool.{Bool, true, false}
 use mathlib.Core.List.{List, [], _∷_}
 use native.Mathlib.Omega.{arith}
+use lib.Dec.{eqb}
 use lib.ListN.{getD}
 use lib.IntN.{ℤ, pos, natAbs, _-ℤ_}
 use Rattle.words.specs.Signed.{indexIn}
@@ -18,6 +20,12 @@ vacant = record { entry = Empty }
 abbrev pub recordAt : List Place → ℕ → Record
 recordAt places p = getD places p vacant .entry
 
+-- ════ the components a record acts in: "baselines act in E, N, U; height differences in U only". Components are 0 E, 1 N, 2 U
+unfoldable pub acts : ℕ → Record → Bool
+acts c Empty = false
+acts c (baseline b) = true
+acts c (height h) = eqb c 2
+
 -- ════ the stations a record joins, counted from 0; 32 where the number is none of 1 to 32
 unfoldable pub fromOf : Record → ℕ
 fromOf Empty = 0
@@ -29,7 +37,7 @@ toOf Empty = 0
 toOf (baseline b) = indexIn (b .to) 32
 toOf (height h) = indexIn (h .to) 32
 
--- 1 where the record has a from end: the size of the coefficient there
+-- 1 where the record has a from end, so that A has −1 there: a baseline and a height difference have one, an empty place has none
 unfoldable pub joins : Record → ℤ
 joins Empty = pos 0
 joins (baseline b) = pos 1

@@ -1,6 +1,6 @@
 -- `acts_in` is `acts`, case by case. Assumes nothing.
 use borrow.Author.Needs.{needs}
-use Rattle.chains.specs.Chains.{acts}
+use Rattle.network.specs.Records.{acts}
 use Rattle.chains.proofs.records.acts_in.Statement.{statement}
 use Rattle.chains.proofs.records.acts_in.Tie as tie
 
