@@ -1,21 +1,24 @@
 -- Entries of N and u beyond the unknowns are 0. Assumes nothing.
 use Prim.Native.Nat.{ℕ, _+_, _*_, _<_, _≤_}
 use mathlib.Core.Path.{_≡_, ap, ap₂, _∙_}
+use mathlib.Core.Bool.{true, false}
 use mathlib.Core.List.{List, [], _∷_}
 use mathlib.Core.Logic.{_⊎_, inl, inr}
 use native.Mathlib.Omega.{arith}
 use lib.IntN.{ℤ, pos, _-ℤ_, _*ℤ_, zero-*ℤ, *ℤ-zero}
 use Rattle.integers.specs.Solvers.{ring, shapes}
 use Rattle.integers.specs.Sums.{sum, sum-ext, sum-0, δ, δ-other}
+use Rattle.words.specs.Bools.{true-or-false}
 use Rattle.network.specs.Stations.{unknown, number, unknownCount}
 use Rattle.network.specs.StationLaws.{bit-cases, number-below}
-use Rattle.network.specs.Records.{fromOf, toOf, joins, l, recordAt}
+use Rattle.network.specs.Records.{acts, fromOf, toOf, joins, l, recordAt}
 use Rattle.network.specs.RuleLaws.{SoundRecord}
 use Rattle.network.specs.declared.Network.{Network}
 use Rattle.network.specs.declared.Station.{Station}
 use Rattle.network.specs.declared.Place.{Place}
 use Rattle.network.specs.declared.Record.{Record}
 use Rattle.normals.specs.Formulas.{P, isUnknown, A, shareN, shareU, entryN, entryU}
+use Rattle.normals.specs.Acting.{A-acting, A-not-acting}
 use Rattle.normals.specs.Sound.{Sound, record-sound}
 use Rattle.normals.specs.Symmetry.{N-sym}
 
@@ -36,12 +39,16 @@ module _ (st : List Station) (i : ℕ) (h : unknownCount st ≤ i) where
 
   module _ (r : Record) (g : SoundRecord st r) where
     A-beyond : (a : ℕ) → a < 3 → A st r a i ≡ pos 0
-    unfolding A
-    A-beyond a o =
-        let f = g .from in
-        let t = g .to in
-        ap₂ (λ (x y : ℤ). x -ℤ joins r *ℤ y) (not-unknown (toOf r * 3 + a) (omega arith)) (not-unknown (fromOf r * 3 + a) (omega arith))
-        ∙ ring (joins r ∷ []) (search shapes) tt
+    A-beyond a o = go (true-or-false (acts a r))
+      where
+        go : (acts a r ≡ true) ⊎ (acts a r ≡ false) → A st r a i ≡ pos 0
+        go (inl e) =
+            let f = g .from in
+            let t = g .to in
+            A-acting st r a i e
+            ∙ ap₂ (λ (x y : ℤ). x -ℤ joins r *ℤ y) (not-unknown (toOf r * 3 + a) (omega arith)) (not-unknown (fromOf r * 3 + a) (omega arith))
+            ∙ ring (joins r ∷ []) (search shapes) tt
+        go (inr e) = A-not-acting st r a i e
 
     -- any Σ_a Σ_b A_a i · P a b · y b
     nothing : (y : ℕ → ℤ) → sum 3 (λ a. sum 3 (λ b. A st r a i *ℤ P r a b *ℤ y b)) ≡ pos 0

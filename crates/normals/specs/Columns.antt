@@ -1,17 +1,18 @@
 -- Few coefficients: a column of a record's A has at most one entry, ±1, and all of it at most six. So the sizes of N and u stay small. Assumes nothing.
-use Prim.Native.Nat.{ℕ, zero, suc, _+_, _*_, _<_, _≤_}
+use Prim.Native.Nat.{ℕ, zero, suc, _+_, _*_, _<_, _≤_, zero-le}
 use mathlib.Core.Path.{_≡_, refl, sym, ap, _∙_, subst}
+use mathlib.Core.Bool.{Bool, true, false, cond}
 use mathlib.Core.List.{List}
 use mathlib.Core.Logic.{_⊎_, inl, inr}
 use native.Mathlib.Omega.{arith}
 use native.Mathlib.Decide.{ℕ-discrete, decLt}
 use native.Mathlib.Nat.{le-trans, le-refl, mul-le-mul}
-use lib.IntN.{ℤ, pos, natAbs, _*ℤ_, zero-*ℤ}
+use lib.IntN.{ℤ, pos, natAbs, _-ℤ_, _*ℤ_, zero-*ℤ}
 use Rattle.integers.specs.Bounds.{abs--, abs-*}
 use Rattle.integers.specs.Sums.{sumN, sumN-mono, sumN-first, sumN-const, sumN-+, sumN-swap, δ, δ-other}
 use Rattle.network.specs.Stations.{unknown, number}
 use Rattle.network.specs.StationLaws.{bit, bit-cases, number-suc}
-use Rattle.network.specs.Records.{joins, joins-one, fromOf, toOf}
+use Rattle.network.specs.Records.{acts, joins, joins-one, fromOf, toOf}
 use Rattle.network.specs.declared.Station.{Station}
 use Rattle.network.specs.declared.Record.{Record}
 use Rattle.normals.specs.Formulas.{isUnknown, A}
@@ -74,11 +75,24 @@ module _ (st : List Station) where
       omega (arith, sumN-first (s * 3 + 3) (t * 3) (hit i) (omega arith), three (hit i) (s * 3), three (hit i) (t * 3), once i (t * 3 + 3) .0)
 
   -- an entry of A
-  A-hit : (r : Record) (a i : ℕ) → natAbs (A st r a i) ≤ hit i (toOf r * 3 + a) + hit i (fromOf r * 3 + a)
+  A-size : (r : Record) (a i : ℕ) → natAbs (A st r a i) ≤ hit i (toOf r * 3 + a) + natAbs (joins r *ℤ isUnknown st (fromOf r * 3 + a) i)
   unfolding A
+  A-size r a i = go (acts a r)
+    where
+      t : ℤ
+      t = isUnknown st (toOf r * 3 + a) i
+
+      f : ℤ
+      f = joins r *ℤ isUnknown st (fromOf r * 3 + a) i
+
+      go : (b : Bool) → natAbs (cond b (t -ℤ f) (pos 0)) ≤ natAbs t + natAbs f
+      go true = abs-- t f
+      go false = zero-le
+
+  A-hit : (r : Record) (a i : ℕ) → natAbs (A st r a i) ≤ hit i (toOf r * 3 + a) + hit i (fromOf r * 3 + a)
   A-hit r a i =
       let x = isUnknown st (fromOf r * 3 + a) i in
-      omega (arith, abs-- (isUnknown st (toOf r * 3 + a) i) (joins r *ℤ x), abs-* (joins r) x, mul-le-mul (joins-one r) (le-refl (natAbs x)))
+      omega (arith, A-size r a i, abs-* (joins r) x, mul-le-mul (joins-one r) (le-refl (natAbs x)))
 
   module _ (r : Record) where
     column-hit : (i : ℕ) → column st r i ≤ sumN 3 (λ a. hit i (toOf r * 3 + a)) + sumN 3 (λ a. hit i (fromOf r * 3 + a))
@@ -87,12 +101,11 @@ module _ (st : List Station) where
         (sumN-mono 3 (λ a h. A-hit r a i))
 
     column-to : (i : ℕ) → joins r ≡ pos 0 → column st r i ≤ sumN 3 (λ a. hit i (toOf r * 3 + a))
-    unfolding A
     column-to i e =
         sumN-mono 3 (λ a h.
         let x = isUnknown st (fromOf r * 3 + a) i in
         let z : natAbs (joins r *ℤ x) ≡ 0 = ap natAbs (ap (λ (y : ℤ). y *ℤ x) e ∙ zero-*ℤ x) in
-        omega (arith, abs-- (isUnknown st (toOf r * 3 + a) i) (joins r *ℤ x)))
+        omega (arith, A-size r a i))
 
     -- a column of A has at most one entry, ±1
     pub column-one : (joins r ≡ pos 0) ⊎ (fromOf r ≡ toOf r → ⊥) → (i : ℕ) → column st r i ≤ 1

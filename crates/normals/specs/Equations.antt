@@ -55,6 +55,7 @@ blockU q k = sum 6 (λ e. coefOf q e *ℤ weighted q (e % 3) *ℤ δ (atOf q e) 
 abbrev pub ends : List ℕ → ℕ → ℕ → List ℕ
 ends at f t = getD at (f * 3) 0 ∷ getD at (f * 3 + 1) 0 ∷ getD at (f * 3 + 2) 0 ∷ getD at (t * 3) 0 ∷ getD at (t * 3 + 1) 0 ∷ getD at (t * 3 + 2) 0 ∷ []
 
+-- ±1 at the unknowns of all three components: in one in which the record does not act its weights are 0, so that nothing is added (Shares)
 abbrev pub coefs : List ℤ → ℤ → ℕ → ℕ → List ℤ
 coefs un g f t =
     (pos 0 -ℤ g *ℤ getD un (f * 3) (pos 0)) ∷ (pos 0 -ℤ g *ℤ getD un (f * 3 + 1) (pos 0)) ∷ (pos 0 -ℤ g *ℤ getD un (f * 3 + 2) (pos 0))

@@ -1,7 +1,7 @@
 -- N and u of the records: "With A the coefficients (−1 at from, +1 at to, only for unknowns), P the weights and l the misclosures:
 -- N = AᵀPA, u = AᵀPl. All are whole numbers." (document 01, "Records"). Unknowns are numbered from 0 here. Assumes nothing.
 use Prim.Native.Nat.{ℕ, _+_, _*_, _/_, _%_, _^_}
-use mathlib.Core.Bool.{Bool, _&&_}
+use mathlib.Core.Bool.{Bool, cond, _&&_}
 use mathlib.Core.List.{List}
 use lib.Dec.{leb}
 use lib.ListN.{getD}
@@ -10,7 +10,7 @@ use Rattle.integers.specs.Sums.{sum, δ}
 use Rattle.integers.specs.Tables.{tabulate}
 use Rattle.network.specs.All.{allBelow}
 use Rattle.network.specs.Stations.{unknown, number}
-use Rattle.network.specs.Records.{fromOf, toOf, joins, weights, l, recordAt}
+use Rattle.network.specs.Records.{acts, fromOf, toOf, joins, weights, l, recordAt}
 use Rattle.network.specs.declared.Station.{Station}
 use Rattle.network.specs.declared.Record.{Record}
 use Rattle.network.specs.declared.Place.{Place}
@@ -21,9 +21,9 @@ use Rattle.normals.specs.declared.Normals.{Normals}
 unfoldable pub isUnknown : List Station → ℕ → ℕ → ℤ
 isUnknown stations q i = pos (unknown stations q) *ℤ δ (number stations q) i
 
--- "A the coefficients (−1 at from, +1 at to, only for unknowns)"; joins is 1 where the record has a from end
+-- "A the coefficients (−1 at from, +1 at to, only for unknowns)": row a of record r, 0 in a component in which it does not act; joins is 1 where it has a from end
 unfoldable pub A : List Station → Record → ℕ → ℕ → ℤ
-A stations r a i = isUnknown stations (toOf r * 3 + a) i -ℤ joins r *ℤ isUnknown stations (fromOf r * 3 + a) i
+A stations r a i = cond (acts a r) (isUnknown stations (toOf r * 3 + a) i -ℤ joins r *ℤ isUnknown stations (fromOf r * 3 + a) i) (pos 0)
 
 -- "P the weights"
 abbrev pub P : Record → ℕ → ℕ → ℤ

@@ -4,6 +4,7 @@ pub mod Sound
 -- Laws of N and u, for the crates above.
 pub mod WholeMatrices
 pub mod Symmetry
+pub mod Acting
 pub mod Beyond
 pub mod Columns
 pub mod ShareSizes

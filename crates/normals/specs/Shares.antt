@@ -1,6 +1,7 @@
 -- What the code adds for a record is the record's share of AᵀPA and AᵀPl, and its equations fit the code. Assumes nothing.
 use Prim.Native.Nat.{ℕ, zero, suc, _+_, _*_, _/_, _%_, _<_, _≤_}
 use mathlib.Core.Path.{_≡_, refl, sym, ap, ap₂, _∙_}
+use mathlib.Core.Bool.{true}
 use mathlib.Core.List.{List, [], _∷_}
 use mathlib.Core.Logic.{_⊎_, inl, inr}
 use native.Mathlib.Omega.{arith}
@@ -13,13 +14,14 @@ use Rattle.integers.specs.Sums.{sum, sum-ext, sum-*r, δ, δ-same, δ-other}
 use Rattle.integers.specs.Tables.{tabulate, getD-tabulate, Within, within-tabulate}
 use Rattle.network.specs.Stations.{unknown, number, place, coordinates}
 use Rattle.network.specs.StationLaws.{bit, bit-cases, number-below}
-use Rattle.network.specs.Records.{joins, joins-one, fromOf, toOf}
+use Rattle.network.specs.Records.{acts, joins, joins-one, fromOf, toOf}
 use Rattle.network.specs.RecordLaws.{Observed}
 use Rattle.network.specs.RuleLaws.{SoundRecord, SoundStations}
 use Rattle.network.specs.declared.Station.{Station}
 use Rattle.network.specs.declared.Record.{Record}
 use Rattle.normals.specs.declared.Equation.{Equation}
 use Rattle.normals.specs.Formulas.{isUnknown, A, shareN, shareU}
+use Rattle.normals.specs.Acting.{A-acting, acting-only}
 use Rattle.normals.specs.Equations.{Fit, atOf, coefOf, weightOf, misclosureOf, pairN, rowN, blockN, weighted, blockU, equationOf}
 
 -- a sum over six ends, by components
@@ -53,9 +55,12 @@ pub equation-by : {at : List ℕ} {un co : List ℤ} {q : Equation} (st : List S
     → q ≡ equationOf at un co r → q ≡ equation st r
 equation-by st r a b c e = e ∙ (λ i. equationOf (a i) (b i) (c i) r)
 
--- the coefficient of end e at the unknown i
-abbrev pub endAt : Equation → ℕ → ℕ → ℤ
+-- the coefficient of end e at the unknown i, and of both ends of component a
+abbrev endAt : Equation → ℕ → ℕ → ℤ
 endAt q i e = coefOf q e *ℤ δ (atOf q e) i
+
+abbrev rowAt : Equation → ℕ → ℕ → ℤ
+rowAt q i a = endAt q i a +ℤ endAt q i (a + 3)
 
 module _ (st : List Station) where
   -- a held component has the coefficient 0, so its place may be 0 too
@@ -82,17 +87,12 @@ module _ (st : List Station) where
       ∙ ap₂ _-ℤ_ (table-at p′ q′ i e′ h′) (ap (λ (z : ℤ). g *ℤ z) (table-at p q i e h))
 
   module _ (r : Record) (hf : fromOf r < 32) (ht : toOf r < 32) where
-    -- the two ends of component a are row a of A
-    pub ends-A : (i a : ℕ) → a < 3 → endAt (equation st r) i a +ℤ endAt (equation st r) i (a + 3) ≡ A st r a i
-    unfolding A
-    ends-A i zero h = two-ends (joins r) (fromOf r * 3) (fromOf r * 3 + 0) (toOf r * 3) (toOf r * 3 + 0) i (omega arith) (omega arith) (omega arith) (omega arith)
-    ends-A i (suc zero) h = two-ends (joins r) (fromOf r * 3 + 1) (fromOf r * 3 + 1) (toOf r * 3 + 1) (toOf r * 3 + 1) i refl (omega arith) refl (omega arith)
-    ends-A i (suc (suc zero)) h = two-ends (joins r) (fromOf r * 3 + 2) (fromOf r * 3 + 2) (toOf r * 3 + 2) (toOf r * 3 + 2) i refl (omega arith) refl (omega arith)
-    ends-A i (suc (suc (suc a))) h = absurd (omega arith)
-
-    -- a sum over the six ends is one over the rows of A
-    by-A : (w : ℕ → ℤ) (i : ℕ) → sum 6 (λ e. w (e % 3) *ℤ endAt (equation st r) i e) ≡ sum 3 (λ a. w a *ℤ A st r a i)
-    by-A w i = by-components w (endAt (equation st r) i) ∙ sum-ext 3 (λ a h. ap (λ (z : ℤ). w a *ℤ z) (ends-A i a h))
+    -- the two ends of component a are row a of A, where the record acts
+    ends-A : (i a : ℕ) → a < 3 → acts a r ≡ true → rowAt (equation st r) i a ≡ A st r a i
+    ends-A i zero h e = two-ends (joins r) (fromOf r * 3) (fromOf r * 3 + 0) (toOf r * 3) (toOf r * 3 + 0) i (omega arith) (omega arith) (omega arith) (omega arith) ∙ sym (A-acting st r 0 i e)
+    ends-A i (suc zero) h e = two-ends (joins r) (fromOf r * 3 + 1) (fromOf r * 3 + 1) (toOf r * 3 + 1) (toOf r * 3 + 1) i refl (omega arith) refl (omega arith) ∙ sym (A-acting st r 1 i e)
+    ends-A i (suc (suc zero)) h e = two-ends (joins r) (fromOf r * 3 + 2) (fromOf r * 3 + 2) (toOf r * 3 + 2) (toOf r * 3 + 2) i refl (omega arith) refl (omega arith) ∙ sym (A-acting st r 2 i e)
+    ends-A i (suc (suc (suc a))) h e = absurd (omega arith)
 
     -- the share of N
     pub block-share : Fit (equation st r) → (k : ℕ) → blockN (equation st r) k ≡ shareN st r (k / 48) (k % 48)
@@ -103,10 +103,11 @@ module _ (st : List Station) where
         ap (λ (z : ℤ). pairN q e f *ℤ z) (δ-pair (atOf q e) (atOf q f) k (g .ends f))
         ∙ ring (coefOf q e ∷ weightOf q (e % 3) (f % 3) ∷ coefOf q f ∷ δ (atOf q e) i ∷ δ (atOf q f) j ∷ []) (search shapes depth 8) tt)
         ∙ sum-*r 6 (endAt q i e) (λ f. weightOf q (e % 3) (f % 3) *ℤ endAt q j f)
-        ∙ ap (λ (z : ℤ). z *ℤ endAt q i e) (by-A (weightOf q (e % 3)) j))
-        ∙ by-A (λ a. sum 3 (λ b. weightOf q a b *ℤ A st r b j)) i
-        ∙ sum-ext 3 (λ a p. sym (sum-*r 3 (A st r a i) (λ b. weightOf q a b *ℤ A st r b j))
-        ∙ sum-ext 3 (λ b o. ring (weightOf q a b ∷ A st r b j ∷ A st r a i ∷ []) (search shapes) tt))
+        ∙ ap (λ (z : ℤ). z *ℤ endAt q i e) (by-components (weightOf q (e % 3)) (endAt q j)))
+        ∙ by-components (λ a. sum 3 (λ b. weightOf q a b *ℤ rowAt q j b)) (endAt q i)
+        ∙ sum-ext 3 (λ a p. sym (sum-*r 3 (rowAt q i a) (λ b. weightOf q a b *ℤ rowAt q j b))
+        ∙ sum-ext 3 (λ b o. ring (weightOf q a b ∷ rowAt q j b ∷ rowAt q i a ∷ []) (search shapes) tt))
+        ∙ acting-only r (rowAt q i) (λ a. A st r a i) (rowAt q j) (λ b. A st r b j) (ends-A i) (ends-A j)
       where
         q : Equation
         q = equation st r
@@ -122,9 +123,10 @@ module _ (st : List Station) where
     unfolding blockU weighted shareU
     block-right k =
         sum-ext 6 (λ e p. ring (coefOf q e ∷ weighted q (e % 3) ∷ δ (atOf q e) k ∷ []) (search shapes) tt)
-        ∙ by-A (weighted q) k
-        ∙ sum-ext 3 (λ a p. sym (sum-*r 3 (A st r a k) (λ b. weightOf q a b *ℤ misclosureOf q b))
-        ∙ sum-ext 3 (λ b o. ring (weightOf q a b ∷ misclosureOf q b ∷ A st r a k ∷ []) (search shapes) tt))
+        ∙ by-components (weighted q) (endAt q k)
+        ∙ sum-ext 3 (λ a p. sym (sum-*r 3 (rowAt q k a) (λ b. weightOf q a b *ℤ misclosureOf q b))
+        ∙ sum-ext 3 (λ b o. ring (weightOf q a b ∷ misclosureOf q b ∷ rowAt q k a ∷ []) (search shapes) tt))
+        ∙ acting-only r (rowAt q k) (λ a. A st r a k) (misclosureOf q) (misclosureOf q) (ends-A k) (λ b h e. refl)
       where
         q : Equation
         q = equation st r

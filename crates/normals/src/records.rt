@@ -19,7 +19,7 @@ fn ends_of(at: &[usize; Unit::COMPONENTS], f: usize, t: usize) -> [usize; 6]
     [at[i], at[i + 1], at[i + 2], at[j], at[j + 1], at[j + 2]]
 }
 
-// Their coefficients in A; g is 1 where there is a from end.
+// Their coefficients, -1 at from and 1 at to, in all three components: where the record does not act its weights are 0. g is 1 where there is a from end.
 fn coefs_of(unknown: &[i64; Unit::COMPONENTS], g: i64, f: usize, t: usize) -> [i64; 6]
     requires { ⌜ (f < 32) × (t < 32) × Within 96 1 (now unknown) × (natAbs g ≤ 1) ⌝ }
     ensures { λ r. ⌜ r ≡ coefs (now (unknown .entry)) g f t ⌝ }
