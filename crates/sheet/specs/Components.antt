@@ -2,6 +2,7 @@
 -- Each is what Residuals says of the station list. Assumes nothing.
 use Prim.Native.Nat.{ℕ, _+_, _*_, _<_, _≤_, _^_}
 use mathlib.Core.Path.{_≡_, refl, sym, ap, ap₂, _∙_, subst}
+use mathlib.Core.Bool.{true}
 use mathlib.Core.Logic.{_⊎_, inl, inr}
 use mathlib.Core.List.{List, [], _∷_}
 use native.Mathlib.Omega.{arith}
@@ -14,11 +15,12 @@ use Rattle.integers.specs.Sums.{sum, sum-ext, sum--, sum-*l, sum-δ, δ}
 use Rattle.integers.specs.Tables.{tabulate, getD-tabulate, Within, within-tabulate}
 use Rattle.network.specs.Stations.{unknown, number, place, unknownCount, coordinates}
 use Rattle.network.specs.StationLaws.{bit, bit-cases, number-below}
-use Rattle.network.specs.Records.{fromOf, toOf, joins, joins-one, misclosures, l}
+use Rattle.network.specs.Records.{acts, fromOf, toOf, joins, joins-one, misclosures, l}
 use Rattle.network.specs.RecordLaws.{Observed}
 use Rattle.network.specs.declared.Station.{Station}
 use Rattle.network.specs.declared.Record.{Record}
 use Rattle.normals.specs.Formulas.{A, isUnknown}
+use Rattle.normals.specs.Acting.{A-acting}
 use Rattle.sheet.specs.Residuals.{correction, covariance, residual, differenceVariance}
 
 -- ════ the tables
@@ -63,7 +65,7 @@ module _ (stations : List Station) where
   correction-in x q h =
       rw (getD-tabulate 96 (λ i. pos (unknown stations i)) q (pos 0) h, getD-tabulate 96 (place stations) q 0 h) (correction-place x q)
 
-  -- ════ Ax: the correction at the to end less that at the from end
+  -- ════ Ax where the record acts: the correction at the to end less that at the from end
   end-sum : (x : List ℤ) (q : ℕ) → q < 96 → sum (unknownCount stations) (λ i. isUnknown stations q i *ℤ getD x i (pos 0)) ≡ correction stations x q
   unfolding isUnknown correction
   end-sum x q h =
@@ -85,12 +87,12 @@ module _ (stations : List Station) where
       go (inl e) = rw e (zero-*ℤ (sum n (λ i. δ (number stations q) i *ℤ at i)) ∙ sym (zero-*ℤ (at (number stations q))))
       go (inr e) = ap (λ (z : ℤ). pos (unknown stations q) *ℤ z) (sum-δ n (number stations q) at (number-below stations q 96 h e))
 
-  pub Ax : (x : List ℤ) (r : Record) (a : ℕ) → fromOf r * 3 + a < 96 → toOf r * 3 + a < 96
+  pub Ax : (x : List ℤ) (r : Record) (a : ℕ) → acts a r ≡ true → fromOf r * 3 + a < 96 → toOf r * 3 + a < 96
       → sum (unknownCount stations) (λ i. A stations r a i *ℤ getD x i (pos 0))
       ≡ correction stations x (toOf r * 3 + a) -ℤ joins r *ℤ correction stations x (fromOf r * 3 + a)
-  unfolding A
-  Ax x r a f t =
-      sum-ext n (λ i o. ring (at (toOf r * 3 + a) i ∷ at (fromOf r * 3 + a) i ∷ joins r ∷ getD x i (pos 0) ∷ []) (search shapes) tt)
+  Ax x r a e f t =
+      sum-ext n (λ i o. ap (λ (z : ℤ). z *ℤ getD x i (pos 0)) (A-acting stations r a i e)
+      ∙ ring (at (toOf r * 3 + a) i ∷ at (fromOf r * 3 + a) i ∷ joins r ∷ getD x i (pos 0) ∷ []) (search shapes) tt)
       ∙ sum-- n (λ i. at (toOf r * 3 + a) i *ℤ getD x i (pos 0)) (λ i. joins r *ℤ (at (fromOf r * 3 + a) i *ℤ getD x i (pos 0)))
       ∙ ap₂ _-ℤ_ (end-sum x (toOf r * 3 + a) t) (sum-*l n (joins r) (λ i. at (fromOf r * 3 + a) i *ℤ getD x i (pos 0)) ∙ ap (λ (z : ℤ). joins r *ℤ z) (end-sum x (fromOf r * 3 + a) f))
     where
@@ -100,7 +102,7 @@ module _ (stations : List Station) where
       at : ℕ → ℕ → ℤ
       at q i = isUnknown stations q i
 
--- ════ residuals over the tables
+-- ════ residuals over the tables: what Residuals says where the record acts; where it does not, its weights are 0 and no line has its residual
 unfoldable pub residualIn : List ℤ → List ℤ → Record → ℕ → ℤ
 residualIn coordinate corrections r a =
     getD (misclosures coordinate r) a (pos 0)
@@ -110,14 +112,14 @@ abbrev pub residualsIn : List ℤ → List ℤ → Record → List ℤ
 residualsIn coordinate corrections r =
     residualIn coordinate corrections r 0 ∷ residualIn coordinate corrections r 1 ∷ residualIn coordinate corrections r 2 ∷ []
 
-pub residual-in : (stations : List Station) (x : List ℤ) (r : Record) → fromOf r < 32 → toOf r < 32 → (a : ℕ) → a < 3
+pub residual-in : (stations : List Station) (x : List ℤ) (r : Record) → fromOf r < 32 → toOf r < 32 → (a : ℕ) → a < 3 → acts a r ≡ true
     → residualIn (coordinates stations) (correctionsOf stations x) r a ≡ residual stations x r a
 unfolding residualIn residual
-residual-in stations x r f t a h =
+residual-in stations x r f t a h e =
     let p : toOf r * 3 + a < 96 = omega arith in
     let q : fromOf r * 3 + a < 96 = omega arith in
     rw (getD-tabulate 96 (correction stations x) (toOf r * 3 + a) (pos 0) p, getD-tabulate 96 (correction stations x) (fromOf r * 3 + a) (pos 0) q)
-    (ap (λ (z : ℤ). l stations r a -ℤ z) (sym (Ax stations x r a q p)))
+    (ap (λ (z : ℤ). l stations r a -ℤ z) (sym (Ax stations x r a e q p)))
 
 -- what the code asks of a record and of the tables
 pub record Closes (coordinate corrections : List ℤ) (r : Record) : Type 0 where

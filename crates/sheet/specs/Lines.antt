@@ -10,7 +10,7 @@ use lib.IntN.{ℤ, pos, _+ℤ_, _-ℤ_}
 use Rattle.integers.specs.Sums.{sumN, sumN-suc, sumN-ext, sumN-first}
 use Rattle.integers.specs.Tables.{getD-tabulate}
 use Rattle.network.specs.Stations.{unknownCount, coordinate, coordinates}
-use Rattle.network.specs.Records.{fromOf, toOf, joins, recordAt}
+use Rattle.network.specs.Records.{acts, fromOf, toOf, joins, recordAt}
 use Rattle.network.specs.declared.Station.{Station}
 use Rattle.network.specs.declared.Place.{Place}
 use Rattle.network.specs.declared.Record.{Record}
@@ -174,18 +174,18 @@ module _ (stations : List Station) (x m : List ℤ) where
   record-in : (p : ℕ) (r : Record) → fromOf r < 32 → toOf r < 32
       → recordWordsIn (numbersOf stations) (unknownsOf stations) m (unknownCount stations) p r (residualsIn (coordinates stations) (correctionsOf stations x) r)
       ≡ recordWords stations x m p r
-  unfolding recordWordsIn recordWords
+  unfolding recordWordsIn recordWords acts
   record-in p Empty f t = refl
   record-in p (baseline b) f t =
       rw (
-        residual-in stations x (baseline b) f t 0 (lit< tt),
-        residual-in stations x (baseline b) f t 1 (lit< tt),
-        residual-in stations x (baseline b) f t 2 (lit< tt),
+        residual-in stations x (baseline b) f t 0 (lit< tt) refl,
+        residual-in stations x (baseline b) f t 1 (lit< tt) refl,
+        residual-in stations x (baseline b) f t 2 (lit< tt) refl,
         verdict-in (baseline b) f t 0 (lit< tt),
         verdict-in (baseline b) f t 1 (lit< tt),
         verdict-in (baseline b) f t 2 (lit< tt),
       )
-  record-in p (height h) f t = rw (residual-in stations x (height h) f t 2 (lit< tt), verdict-in (height h) f t 2 (lit< tt))
+  record-in p (height h) f t = rw (residual-in stations x (height h) f t 2 (lit< tt) refl, verdict-in (height h) f t 2 (lit< tt))
 
   station-lines : (k : ℕ) → stationLines stations x m k ≡ lines k (stationWords stations x m)
   unfolding stationLines lines

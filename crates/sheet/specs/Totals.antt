@@ -21,6 +21,7 @@ use Rattle.network.specs.declared.Place.{Place}
 use Rattle.network.specs.declared.Record.{Record}
 use Rattle.network.specs.declared.Record.the-variants.{Empty, Baseline as baseline, Height as height}
 use Rattle.normals.specs.Formulas.{P}
+use Rattle.normals.specs.Acting.{acting-only}
 use Rattle.sheet.specs.declared.totals.Counts.{Counts}
 use Rattle.sheet.specs.Residuals.{residual, shareT, T, D, isRecord, observations, recordCount}
 use Rattle.sheet.specs.Sheet.{wordsOf}
@@ -143,8 +144,8 @@ unfolding shareIn shareT
 share-in {net} {places} {x} g p h =
     let r = recordAt places p in
     let s = sound-at g p h in
-    sum-ext 3 (λ a k. sum-ext 3 (λ b l.
-    ap₂ (λ (v w : ℤ). v *ℤ P r a b *ℤ w) (residual-in (net .stations) x r (s .from) (s .to) a k) (residual-in (net .stations) x r (s .from) (s .to) b l)))
+    let v = residual-in (net .stations) x r (s .from) (s .to) in
+    acting-only r _ (residual (net .stations) x r) _ (residual (net .stations) x r) v v
 
 pub T-in : {net : Network} {places : List Place} {x : List ℤ} → Solved net places x
     → sum 256 (λ p. shareIn (coordinates (net .stations)) (correctionsOf (net .stations) x) (recordAt places p)) ≡ T (net .stations) places x

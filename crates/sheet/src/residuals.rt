@@ -38,7 +38,7 @@ fn residual(l: i64, correction: &[i64; 96], t: usize, f: usize, a: usize, j: i64
     l - (correction[to] - j * correction[from])
 }
 
-// The residuals of a record in E, N, U.
+// The residuals of a record in E, N, U where it acts; where it does not, its weights are 0 and no line has them.
 pub fn residuals_of(coordinate: &[i64; 96], correction: &[i64; 96], r: Record) -> [i64; 3]
     requires { ⌜ Closes (now coordinate) (now correction) r ⌝ }
     ensures { λ s. ⌜ s ≡ residualsIn (now (coordinate .entry)) (now (correction .entry)) r ⌝ }
