@@ -1,7 +1,7 @@
 -- Corrections, residuals and variances over tables of the 96 components, as the code holds them: numbers and unknowns of the station list, its coordinates, the corrections.
 -- Each is what Residuals says of the station list. Assumes nothing.
 use Prim.Native.Nat.{ℕ, _+_, _*_, _<_, _≤_, _^_}
-use mathlib.Core.Path.{_≡_, refl, sym, ap, ap₂, _∙_, subst}
+use mathlib.Core.Path.{_≡_, refl, sym, ap, ap₂, _∙_}
 use mathlib.Core.Bool.{true}
 use mathlib.Core.Logic.{_⊎_, inl, inr}
 use mathlib.Core.List.{List, [], _∷_}
@@ -12,9 +12,9 @@ use lib.IntN.{ℤ, pos, natAbs, _+ℤ_, _-ℤ_, _*ℤ_, zero-*ℤ}
 use Rattle.integers.specs.Bounds.{bounds, absle}
 use Rattle.integers.specs.Solvers.{ring, shapes}
 use Rattle.integers.specs.Sums.{sum, sum-ext, sum--, sum-*l, sum-δ, δ}
-use Rattle.integers.specs.Tables.{tabulate, getD-tabulate, Within, within-tabulate}
+use Rattle.integers.specs.Tables.{tabulate, getD-tabulate, Within}
 use Rattle.network.specs.Stations.{unknown, number, place, unknownCount, coordinates}
-use Rattle.network.specs.StationLaws.{bit, bit-cases, number-below}
+use Rattle.network.specs.StationLaws.{bit-cases, number-below}
 use Rattle.network.specs.Records.{acts, fromOf, toOf, joins, joins-one, misclosures, l}
 use Rattle.network.specs.RecordLaws.{Observed}
 use Rattle.network.specs.declared.Station.{Station}
@@ -65,12 +65,16 @@ module _ (stations : List Station) where
   correction-in x q h =
       rw (getD-tabulate 96 (λ i. pos (unknown stations i)) q (pos 0) h, getD-tabulate 96 (place stations) q 0 h) (correction-place x q)
 
-  -- ════ Ax where the record acts: the correction at the to end less that at the from end
-  end-sum : (x : List ℤ) (q : ℕ) → q < 96 → sum (unknownCount stations) (λ i. isUnknown stations q i *ℤ getD x i (pos 0)) ≡ correction stations x q
-  unfolding isUnknown correction
-  end-sum x q h =
-      sum-ext n (λ i o. ring (u ∷ δ (number stations q) i ∷ at i ∷ []) (search shapes) tt)
-      ∙ sum-*l n u (λ i. δ (number stations q) i *ℤ at i)
+  -- ════ a sum with row a of A, where the record acts: what stands at the to end less what stands at the from end
+  -- h at component q, 0 for a held one
+  abbrev pub atEnd : (ℕ → ℤ) → ℕ → ℤ
+  atEnd h q = pos (unknown stations q) *ℤ h (number stations q)
+
+  end-sum : (h : ℕ → ℤ) (q : ℕ) → q < 96 → sum (unknownCount stations) (λ i. isUnknown stations q i *ℤ h i) ≡ atEnd h q
+  unfolding isUnknown
+  end-sum h q l =
+      sum-ext n (λ i o. ring (u ∷ δ (number stations q) i ∷ h i ∷ []) (search shapes) tt)
+      ∙ sum-*l n u (λ i. δ (number stations q) i *ℤ h i)
       ∙ go (bit-cases stations q)
     where
       n : ℕ
@@ -79,28 +83,25 @@ module _ (stations : List Station) where
       u : ℤ
       u = pos (unknown stations q)
 
-      at : ℕ → ℤ
-      at i = getD x i (pos 0)
+      go : (unknown stations q ≡ 0) ⊎ (unknown stations q ≡ 1) → pos (unknown stations q) *ℤ sum n (λ i. δ (number stations q) i *ℤ h i) ≡ atEnd h q
+      go (inl e) = rw e (zero-*ℤ (sum n (λ i. δ (number stations q) i *ℤ h i)) ∙ sym (zero-*ℤ (h (number stations q))))
+      go (inr e) = ap (λ (z : ℤ). pos (unknown stations q) *ℤ z) (sum-δ n (number stations q) h (number-below stations q 96 l e))
 
-      go : (unknown stations q ≡ 0) ⊎ (unknown stations q ≡ 1)
-          → pos (unknown stations q) *ℤ sum n (λ i. δ (number stations q) i *ℤ at i) ≡ pos (unknown stations q) *ℤ at (number stations q)
-      go (inl e) = rw e (zero-*ℤ (sum n (λ i. δ (number stations q) i *ℤ at i)) ∙ sym (zero-*ℤ (at (number stations q))))
-      go (inr e) = ap (λ (z : ℤ). pos (unknown stations q) *ℤ z) (sum-δ n (number stations q) at (number-below stations q 96 h e))
-
-  pub Ax : (x : List ℤ) (r : Record) (a : ℕ) → acts a r ≡ true → fromOf r * 3 + a < 96 → toOf r * 3 + a < 96
-      → sum (unknownCount stations) (λ i. A stations r a i *ℤ getD x i (pos 0))
-      ≡ correction stations x (toOf r * 3 + a) -ℤ joins r *ℤ correction stations x (fromOf r * 3 + a)
-  Ax x r a e f t =
-      sum-ext n (λ i o. ap (λ (z : ℤ). z *ℤ getD x i (pos 0)) (A-acting stations r a i e)
-      ∙ ring (at (toOf r * 3 + a) i ∷ at (fromOf r * 3 + a) i ∷ joins r ∷ getD x i (pos 0) ∷ []) (search shapes) tt)
-      ∙ sum-- n (λ i. at (toOf r * 3 + a) i *ℤ getD x i (pos 0)) (λ i. joins r *ℤ (at (fromOf r * 3 + a) i *ℤ getD x i (pos 0)))
-      ∙ ap₂ _-ℤ_ (end-sum x (toOf r * 3 + a) t) (sum-*l n (joins r) (λ i. at (fromOf r * 3 + a) i *ℤ getD x i (pos 0)) ∙ ap (λ (z : ℤ). joins r *ℤ z) (end-sum x (fromOf r * 3 + a) f))
+  pub A-sum : (h : ℕ → ℤ) (r : Record) (a : ℕ) → acts a r ≡ true → fromOf r * 3 + a < 96 → toOf r * 3 + a < 96
+      → sum (unknownCount stations) (λ i. A stations r a i *ℤ h i) ≡ atEnd h (toOf r * 3 + a) -ℤ joins r *ℤ atEnd h (fromOf r * 3 + a)
+  A-sum h r a e hf ht =
+      sum-ext n (λ i o. ap (λ (z : ℤ). z *ℤ h i) (A-acting stations r a i e) ∙ ring (t i ∷ f i ∷ joins r ∷ h i ∷ []) (search shapes) tt)
+      ∙ sum-- n (λ i. t i *ℤ h i) (λ i. joins r *ℤ (f i *ℤ h i))
+      ∙ ap₂ _-ℤ_ (end-sum h (toOf r * 3 + a) ht) (sum-*l n (joins r) (λ i. f i *ℤ h i) ∙ ap (λ (z : ℤ). joins r *ℤ z) (end-sum h (fromOf r * 3 + a) hf))
     where
       n : ℕ
       n = unknownCount stations
 
-      at : ℕ → ℕ → ℤ
-      at q i = isUnknown stations q i
+      t : ℕ → ℤ
+      t i = isUnknown stations (toOf r * 3 + a) i
+
+      f : ℕ → ℤ
+      f i = isUnknown stations (fromOf r * 3 + a) i
 
 -- ════ residuals over the tables: what Residuals says where the record acts; where it does not, its weights are 0 and no line has its residual
 unfoldable pub residualIn : List ℤ → List ℤ → Record → ℕ → ℤ
@@ -114,12 +115,12 @@ residualsIn coordinate corrections r =
 
 pub residual-in : (stations : List Station) (x : List ℤ) (r : Record) → fromOf r < 32 → toOf r < 32 → (a : ℕ) → a < 3 → acts a r ≡ true
     → residualIn (coordinates stations) (correctionsOf stations x) r a ≡ residual stations x r a
-unfolding residualIn residual
+unfolding residualIn residual correction
 residual-in stations x r f t a h e =
     let p : toOf r * 3 + a < 96 = omega arith in
     let q : fromOf r * 3 + a < 96 = omega arith in
     rw (getD-tabulate 96 (correction stations x) (toOf r * 3 + a) (pos 0) p, getD-tabulate 96 (correction stations x) (fromOf r * 3 + a) (pos 0) q)
-    (ap (λ (z : ℤ). l stations r a -ℤ z) (sym (Ax stations x r a e q p)))
+    (ap (λ (z : ℤ). l stations r a -ℤ z) (sym (A-sum stations (λ i. getD x i (pos 0)) r a e q p)))
 
 -- what the code asks of a record and of the tables
 pub record Closes (coordinate corrections : List ℤ) (r : Record) : Type 0 where

@@ -1,43 +1,50 @@
--- "Also to be shown: where M is S times the exact inverse, rounded, q is less than 3 from S times the exact residual variance." The exact inverse is Z over D, so the exact variance
--- of a residual is adj/det − (Z_tt + Z_ff − Z_tf − Z_ft)/D, and the claim is multiplied by det·D: all are whole numbers.
-use Prim.Native.Nat.{ℕ, zero, suc, _+_, _*_, _^_, _<_, _≤_}
-use mathlib.Core.Path.{_≡_, refl, sym, ap, ap₂, _∙_, subst}
+-- "Also to be shown: where M is S times the exact inverse, rounded, q is less than 3 from S times the exact residual variance." That is the diagonal of P⁻¹ − A N⁻¹ Aᵀ.
+-- P⁻¹ is Q over p and N⁻¹ is Z over D, so that the claim, multiplied by p·D, is about whole numbers. Assumes nothing.
+use Prim.Native.Nat.{ℕ, _+_, _*_, _<_, _≤_}
+use mathlib.Core.Path.{_≡_, refl, sym, ap, _∙_}
 use mathlib.Core.Bool.{true}
 use mathlib.Core.Logic.{_⊎_, inl, inr}
 use mathlib.Core.List.{List, [], _∷_}
 use native.Mathlib.Omega.{arith}
-use native.Mathlib.Nat.{mul-le-mul-left, mul-le-mul-right}
-use lib.Dec.{lit<}
+use native.Mathlib.Nat.{mul-comm, mul-le-mul-left, mul-le-mul-right, mul-lt-mul-of-pos-left, lt-of-mul-lt-mul-left}
 use lib.ListN.{getD}
-use lib.IntN.{ℤ, pos, natAbs, _+ℤ_, _-ℤ_, _*ℤ_, zero-*ℤ}
+use lib.IntN.{ℤ, pos, natAbs, _+ℤ_, _-ℤ_, _*ℤ_}
 use lib.Signed.{_≤ℤ_, _<ℤ_}
 use Rattle.integers.specs.Bounds.{abs-+, abs--, abs-*}
-use Rattle.integers.specs.Solvers.{ring, shapes, zle, zlt, lez, ltz}
+use Rattle.integers.specs.Solvers.{ring, shapes, zlt, ltz}
 use Rattle.integers.specs.Order.{zarith, pos-abs, ≤ℤ-sub}
-use Rattle.integers.specs.Sums.{sum, δ}
+use Rattle.integers.specs.Sums.{sum, sum-ext, sum-*l, δ}
 use Rattle.integers.specs.Division.{floorDiv, floorDiv-≤, floorDiv->}
 use Rattle.network.specs.Stations.{unknown, number, unknownCount, networkFits}
 use Rattle.network.specs.StationLaws.{bit-cases, number-below}
-use Rattle.network.specs.Records.{fromOf, toOf, joins, joins-one, recordAt}
-use Rattle.network.specs.Rules.{determinant, recordFits}
+use Rattle.network.specs.Records.{acts, fromOf, toOf, joins, joins-one}
+use Rattle.network.specs.Rules.{recordFits}
 use Rattle.network.specs.RuleLaws.{sound-record}
 use Rattle.network.specs.declared.Station.{Station}
 use Rattle.network.specs.declared.Network.{Network}
 use Rattle.network.specs.declared.Place.{Place}
-use Rattle.network.specs.declared.Baseline.{Baseline}
-use Rattle.network.specs.declared.Level.{Level}
 use Rattle.network.specs.declared.Record.{Record}
-use Rattle.network.specs.declared.Record.the-variants.{Baseline as baseline, Height as height}
-use Rattle.normals.specs.Formulas.{entryN}
-use Rattle.sheet.specs.Residuals.{S, covariance, adjugate, observationVariance, differenceVariance, residualVariance}
-use Rattle.sheet.specs.Weights.{Quotient, divisor, divisor-some, RecordWeights, weights-by-rules}
+use Rattle.network.specs.declared.Record.the-variants.{Empty, Baseline as baseline, Height as height}
+use Rattle.normals.specs.Formulas.{A, entryN}
+use Rattle.sheet.specs.Residuals.{S, covariance, differenceVariance, residualVariance}
+use Rattle.sheet.specs.Components.{atEnd, A-sum}
+use Rattle.sheet.specs.InverseWeights.{InverseWeights, weightAdjugate, weightDeterminant, inverse-weights, observation-quotient, proportional}
 
--- ════ the exact inverse: Z over D, and M is S times it, rounded
+-- ════ N⁻¹ is Z over D, and M is S times it, rounded
 pub record RoundedInverse (stations : List Station) (places : List Place) (m : List ℤ) (Z : ℕ → ℕ → ℤ) (D : ℕ) : Type 0 where
   pub positive : 0 < D
   pub inverse : (i j : ℕ) → i < unknownCount stations → j < unknownCount stations → sum (unknownCount stations) (λ k. entryN stations places i k *ℤ Z k j) ≡ pos D *ℤ δ i j
   pub nearest : (i j : ℕ) → i < unknownCount stations → j < unknownCount stations → 2 * natAbs (S *ℤ Z i j -ℤ pos D *ℤ getD m (i * unknownCount stations + j) (pos 0)) ≤ D
 
+-- ════ the diagonal of P⁻¹ − A N⁻¹ Aᵀ, in component a of record r, times p·D so that it is whole; P⁻¹ is Q over p
+unfoldable pub exactResidualVariance : List Station → Record → (ℕ → ℕ → ℤ) → ℕ → (ℕ → ℕ → ℤ) → ℕ → ℕ → ℤ
+exactResidualVariance stations r Q p Z D a =
+    Q a a *ℤ pos D -ℤ pos p *ℤ sum n (λ i. sum n (λ j. A stations r a i *ℤ Z i j *ℤ A stations r a j))
+  where
+    n : ℕ
+    n = unknownCount stations
+
+-- ════ A N⁻¹ Aᵀ there, from four entries
 -- Z at the components q and k, 0 at held ones
 unfoldable pub exactCovariance : List Station → (ℕ → ℕ → ℤ) → ℕ → ℕ → ℤ
 exactCovariance stations Z q k = pos (unknown stations q) *ℤ pos (unknown stations k) *ℤ Z (number stations q) (number stations k)
@@ -53,6 +60,41 @@ exactDifference stations Z r a =
     f : ℕ
     f = fromOf r * 3 + a
 
+joins-twice : (r : Record) → joins r *ℤ joins r ≡ joins r
+unfolding joins
+joins-twice Empty = refl
+joins-twice (baseline b) = refl
+joins-twice (height h) = refl
+
+-- "q = floor(S·adj/det) − (M_tt + M_ff − M_tf − M_ft)": the same of the exact inverse, where the record acts
+pub four-entries : (stations : List Station) (Z : ℕ → ℕ → ℤ) (r : Record) (a : ℕ) → acts a r ≡ true → fromOf r * 3 + a < 96 → toOf r * 3 + a < 96
+    → sum (unknownCount stations) (λ i. sum (unknownCount stations) (λ j. A stations r a i *ℤ Z i j *ℤ A stations r a j)) ≡ exactDifference stations Z r a
+unfolding exactDifference exactCovariance
+four-entries stations Z r a e hf ht =
+    sum-ext n (λ i o.
+    sum-ext n (λ j k. ring (A stations r a i ∷ Z i j ∷ A stations r a j ∷ []) (search shapes) tt)
+    ∙ sum-*l n (A stations r a i) (λ j. A stations r a j *ℤ Z i j)
+    ∙ ap (λ (z : ℤ). A stations r a i *ℤ z) (A-sum stations (Z i) r a e hf ht))
+    ∙ A-sum stations (λ i. atEnd stations (Z i) t -ℤ joins r *ℤ atEnd stations (Z i) f) r a e hf ht
+    ∙ apart (pos (unknown stations t)) (pos (unknown stations f)) (joins r) (Z (number stations t) (number stations t)) (Z (number stations t) (number stations f))
+    (Z (number stations f) (number stations t)) (Z (number stations f) (number stations f)) (joins-twice r)
+  where
+    n : ℕ
+    n = unknownCount stations
+
+    t : ℕ
+    t = toOf r * 3 + a
+
+    f : ℕ
+    f = fromOf r * 3 + a
+
+    apart : (u v g tt′ tf ft ff : ℤ) → g *ℤ g ≡ g
+        → u *ℤ (u *ℤ tt′ -ℤ g *ℤ (v *ℤ tf)) -ℤ g *ℤ (v *ℤ (u *ℤ ft -ℤ g *ℤ (v *ℤ ff))) ≡ u *ℤ u *ℤ tt′ +ℤ g *ℤ (v *ℤ v *ℤ ff -ℤ u *ℤ v *ℤ tf -ℤ v *ℤ u *ℤ ft)
+    apart u v g tt′ tf ft ff q =
+        ring (u ∷ v ∷ g ∷ tt′ ∷ tf ∷ ft ∷ ff ∷ []) (search shapes depth 12) tt
+        ∙ ap (λ (k : ℤ). u *ℤ u *ℤ tt′ +ℤ (k *ℤ (v *ℤ v *ℤ ff) -ℤ g *ℤ (u *ℤ v *ℤ tf +ℤ v *ℤ u *ℤ ft))) q
+        ∙ ring (u ∷ v ∷ g ∷ tt′ ∷ tf ∷ ft ∷ ff ∷ []) (search shapes depth 12) tt
+
 -- ════ the quotient is less than 1 below
 gap : (y f : ℤ) (d : ℕ) → (f *ℤ pos d) ≤ℤ y → y <ℤ ((f +ℤ pos 1) *ℤ pos d) → natAbs (y -ℤ f *ℤ pos d) < d
 gap y f d low high =
@@ -62,13 +104,27 @@ gap y f d low high =
     let size : pos (natAbs (y -ℤ f *ℤ pos d)) ≡ y -ℤ f *ℤ pos d = pos-abs above in
     omega (zarith, below, size)
 
+-- a fraction written in two ways is as far from a whole number
+same-gap : (x y f : ℤ) (d p : ℕ) → pos d *ℤ y ≡ pos p *ℤ x → 0 < p → natAbs (S *ℤ x -ℤ f *ℤ pos d) < d → natAbs (S *ℤ y -ℤ f *ℤ pos p) < p
+same-gap x y f d p e hp h =
+    let k : ℤ = S *ℤ x -ℤ f *ℤ pos d in
+    let l : ℤ = S *ℤ y -ℤ f *ℤ pos p in
+    let same : d * natAbs l ≡ p * natAbs k = sym (abs-* (pos d) l) ∙ ap natAbs (times (pos d) (pos p) e) ∙ abs-* (pos p) k in
+    let less : p * natAbs k < p * d = mul-lt-mul-of-pos-left h hp in
+    lt-of-mul-lt-mul-left d (omega (arith, same, less, mul-comm p d))
+  where
+    times : (d p : ℤ) → d *ℤ y ≡ p *ℤ x → d *ℤ (S *ℤ y -ℤ f *ℤ p) ≡ p *ℤ (S *ℤ x -ℤ f *ℤ d)
+    times d p e =
+        ring (d ∷ p ∷ y ∷ f ∷ []) (search shapes depth 12) tt
+        ∙ ap (λ (z : ℤ). S *ℤ z -ℤ f *ℤ p *ℤ d) e
+        ∙ ring (d ∷ p ∷ x ∷ f ∷ []) (search shapes depth 12) tt
+
 -- less than 1 off in the quotient, at most 2 off in the four entries
-near : (adj f E F : ℤ) (d D : ℕ) → 0 < D → (f *ℤ pos d) ≤ℤ (S *ℤ adj) → (S *ℤ adj) <ℤ ((f +ℤ pos 1) *ℤ pos d) → natAbs (S *ℤ F -ℤ pos D *ℤ E) ≤ 2 * D
+near : (adj f E F : ℤ) (d D : ℕ) → 0 < D → natAbs (S *ℤ adj -ℤ f *ℤ pos d) < d → natAbs (S *ℤ F -ℤ pos D *ℤ E) ≤ 2 * D
     → natAbs (pos d *ℤ pos D *ℤ (f -ℤ E) -ℤ S *ℤ (adj *ℤ pos D -ℤ pos d *ℤ F)) < 3 * (d * D)
-near adj f E F d D hD low high h =
+near adj f E F d D hD off h =
     let k : ℤ = S *ℤ adj -ℤ f *ℤ pos d in
     let l : ℤ = S *ℤ F -ℤ pos D *ℤ E in
-    let off : natAbs k < d = gap (S *ℤ adj) f d low high in
     let total = abs-- (pos d *ℤ l) (pos D *ℤ k) in
     let quotient : D * (natAbs k + 1) ≤ D * d = mul-le-mul-left D (omega arith) in
     let entries : d * natAbs l ≤ d * (2 * D) = mul-le-mul-left d h in
@@ -116,38 +172,18 @@ module _ (stations : List Station) (places : List Place) (m : List ℤ) (Z : ℕ
       (S *ℤ exactCovariance stations Z t f -ℤ pos D *ℤ covariance stations m t f) (S *ℤ exactCovariance stations Z f t -ℤ pos D *ℤ covariance stations m f t) (joins r) D
       (covariance-near t t p p) (covariance-near f f q q) (covariance-near t f p q) (covariance-near f t q p) (joins-one r))
 
-  -- q of a component whose adjugate entry and determinant are adj and det
-  variance-near : (r : Record) (a : ℕ) (adj det : ℤ) → Quotient adj det → observationVariance r a ≡ floorDiv (S *ℤ adj) (natAbs det) → fromOf r < 32 → toOf r < 32 → a < 3
-      → natAbs (det *ℤ pos D *ℤ residualVariance stations m r a -ℤ S *ℤ (adj *ℤ pos D -ℤ det *ℤ exactDifference stations Z r a)) < 3 * (natAbs det * D)
-  unfolding residualVariance
-  variance-near r a adj det q e hf ht ha =
-      let d = natAbs det in
-      rw e (subst (λ (z : ℤ). natAbs (z *ℤ pos D *ℤ (floorDiv (S *ℤ adj) d -ℤ differenceVariance stations m r a) -ℤ S *ℤ (adj *ℤ pos D -ℤ z *ℤ exactDifference stations Z r a)) < 3 * (d * D)) (divisor q)
-      (near adj (floorDiv (S *ℤ adj) d) (differenceVariance stations m r a) (exactDifference stations Z r a) d D (g .positive)
-      (floorDiv-≤ (S *ℤ adj) d (divisor-some q)) (floorDiv-> (S *ℤ adj) d (divisor-some q)) (difference-near r a hf ht ha)))
-
--- ════ of a network by the rules
-module _ (net : Network) (fits : networkFits net ≡ true) (places : List Place) (m : List ℤ) (Z : ℕ → ℕ → ℤ) (D : ℕ) (g : RoundedInverse (net .stations) places m Z D) where
-  -- a baseline, in component a
-  pub baseline-variance : (b : Baseline) → recordFits net (baseline b) ≡ true → (a : ℕ) → a < 3
-      → natAbs (determinant b *ℤ pos D *ℤ residualVariance (net .stations) m (baseline b) a -ℤ S *ℤ (adjugate b a *ℤ pos D -ℤ determinant b *ℤ exactDifference (net .stations) Z (baseline b) a))
-      < 3 * (natAbs (determinant b) * D)
-  unfolding adjugate observationVariance
-  baseline-variance b e a h =
-      let r = sound-record net (baseline b) fits e in
-      variance-near (net .stations) places m Z D g (baseline b) a (adjugate b a) (determinant b) (entry a h) refl (r .from) (r .to) h
-    where
-      entry : (a : ℕ) → a < 3 → Quotient (adjugate b a) (determinant b)
-      entry zero h = weights-by-rules net (baseline b) e .east
-      entry (suc zero) h = weights-by-rules net (baseline b) e .north
-      entry (suc (suc zero)) h = weights-by-rules net (baseline b) e .up
-      entry (suc (suc (suc a))) h = absurd (omega arith)
-
-  -- a height difference: its determinant is the weight, with the adjugate 1
-  pub height-variance : (h : Level) → recordFits net (height h) ≡ true
-      → natAbs (h .weight *ℤ pos D *ℤ residualVariance (net .stations) m (height h) 2 -ℤ S *ℤ (pos 1 *ℤ pos D -ℤ h .weight *ℤ exactDifference (net .stations) Z (height h) 2))
-      < 3 * (natAbs (h .weight) * D)
-  unfolding observationVariance
-  height-variance h e =
-      let r = sound-record net (height h) fits e in
-      variance-near (net .stations) places m Z D g (height h) 2 (pos 1) (h .weight) (weights-by-rules net (height h) e) refl (r .from) (r .to) (lit< tt)
+-- ════ "q is less than 3 from S times the exact residual variance": of a network by the rules, in each component in which a record by the rules acts
+pub variance-near : (net : Network) → networkFits net ≡ true → (places : List Place) (m : List ℤ) (Z : ℕ → ℕ → ℤ) (D : ℕ) → RoundedInverse (net .stations) places m Z D
+    → (r : Record) → recordFits net r ≡ true → (Q : ℕ → ℕ → ℤ) (p : ℕ) → InverseWeights r Q p → (a : ℕ) → a < 3 → acts a r ≡ true
+    → natAbs (pos p *ℤ pos D *ℤ residualVariance (net .stations) m r a -ℤ S *ℤ exactResidualVariance (net .stations) r Q p Z D a) < 3 * (p * D)
+unfolding residualVariance exactResidualVariance
+variance-near net fits places m Z D g r e Q p w a h k =
+    let s = sound-record net r fits e in let hf = s .from in let ht = s .to in
+    let st = net .stations in
+    let own = inverse-weights net r e in
+    let d = weightDeterminant r in let adj = weightAdjugate r a a in let f = floorDiv (S *ℤ adj) d in
+    let off = gap (S *ℤ adj) f d (floorDiv-≤ (S *ℤ adj) d (own .positive)) (floorDiv-> (S *ℤ adj) d (own .positive)) in
+    rw (observation-quotient r a h k, four-entries st Z r a k (omega arith) (omega arith))
+    (near (Q a a) f (differenceVariance st m r a) (exactDifference st Z r a) p D (g .positive)
+    (same-gap adj (Q a a) f d p (proportional r own w a h k) (w .positive) off)
+    (difference-near st places m Z D g r a hf ht h))

@@ -12,10 +12,9 @@ use mir.Val.{SFits, ofZ, toZ}
 use Rattle.integers.specs.Bounds.{bounds, absle}
 use Rattle.integers.specs.Sums.{sum, sum-zero, sum-+1, sum-ext, sumN, sumN-zero, sumN-+1, sumN-const, abs-sum-const, abs-sum-sum-const}
 use Rattle.integers.specs.Tables.{Within}
-use Rattle.network.specs.Stations.{unknownCount, coordinates}
+use Rattle.network.specs.Stations.{coordinates}
 use Rattle.network.specs.Records.{recordAt, weights}
 use Rattle.network.specs.Stored.{stored, back, fits-by}
-use Rattle.network.specs.declared.Station.{Station}
 use Rattle.network.specs.declared.Network.{Network}
 use Rattle.network.specs.declared.Place.{Place}
 use Rattle.network.specs.declared.Record.{Record}
@@ -23,7 +22,7 @@ use Rattle.network.specs.declared.Record.the-variants.{Empty, Baseline as basel
 use Rattle.normals.specs.Formulas.{P}
 use Rattle.normals.specs.Acting.{acting-only}
 use Rattle.sheet.specs.declared.totals.Counts.{Counts}
-use Rattle.sheet.specs.Residuals.{residual, shareT, T, D, isRecord, observations, recordCount}
+use Rattle.sheet.specs.Residuals.{residual, shareT, T, isRecord, observations, recordCount}
 use Rattle.sheet.specs.Sheet.{wordsOf}
 use Rattle.sheet.specs.Components.{residualIn, residualsIn, residual-in, residual-size, correctionsOf, Closes}
 use Rattle.sheet.specs.Ranges.{Solved, closes-at, sound-at}
