@@ -1,4 +1,4 @@
--- "Accepted exactly when all hold": the answer on a book's own N and u, and the seven tests on them.
+-- The answer on a book's own N and u, and the seven tests on them: accepted exactly when all are passed.
 use Prim.Native.Nat.{ℕ, _*_, _^_, _<_, _≤_}
 use mathlib.Core.Path.{_≡_, refl, ap, ap₂, subst}
 use mathlib.Core.Bool.{Bool, true, false, not}
@@ -18,12 +18,14 @@ use Rattle.normals.specs.Formulas.{entryN, entryU, matrixOf, rightOf}
 use Rattle.normals.specs.Entries.{matrix-at, right-at, matrix-within, right-within}
 use Rattle.words.specs.Bools.{true-or-false}
 use Rattle.chains.specs.Chains.{allTied, firstUntied}
-use Rattle.chains.specs.ChainLaws.{First, first-untied}
+use Rattle.chains.specs.ChainLaws.{Ends, First, first-untied}
 use Rattle.acceptance.specs.Tests.{S, at, byRows, normalResidual, lengthsFit, correctionsSmall, inverseSmall, defectSmall, residualSmall, refinementSmall}
-use Rattle.acceptance.specs.Judge.{numberOf, unknownOf, unless, judgeNumbers, judge}
+use Rattle.acceptance.specs.Judge.{refusalNumber, numberOf, unknownOf, unless, judgeNumbers, judge}
 use Rattle.acceptance.specs.JudgeLaws.{Fit, all-same}
 use Rattle.acceptance.specs.declared.Answer.{Answer}
-use Rattle.acceptance.specs.declared.Answer.the-variants.{Accepted, Refused, Untied}
+use Rattle.acceptance.specs.declared.Answer.the-variants.{Accepted, Refused}
+use Rattle.acceptance.specs.declared.Refusal.{Refusal}
+use Rattle.acceptance.specs.declared.Refusal.the-variants.{Lengths, Untied, Correction, Inverse, Defect, Residual, Refinement}
 
 -- ════ n, N and u of the book, and M by rows
 abbrev pub n : Network → ℕ
@@ -42,8 +44,8 @@ rows net m = byRows (n net) m
 unfoldable pub answer : Network → List Place → List ℤ → List ℤ → Bool → Answer
 answer net places x m room = judge net places (N net places) (u net places) x m room
 
--- "Accepted exactly when all hold"
-pub record AllHold (net : Network) (places : List Place) (x m : List ℤ) (room : Bool) : Type 0 where
+-- the seven tests as they are computed; test 2 is the search, which chains' ChainLaws shows to be exact
+pub record Passes (net : Network) (places : List Place) (x m : List ℤ) (room : Bool) : Type 0 where
   pub first : lengthsFit (n net) x m room ≡ true
   pub second : allTied net places ≡ true
   pub third : correctionsSmall x ≡ true
@@ -86,27 +88,13 @@ judge-same net places N N′ u u′ same side x m room =
     )
 
 -- ════ an answer with another number than the refusal's has passed the test
-other : ℕ → Answer → Type 0
-other k refusal = T (not (eqb (numberOf refusal) k))
+other : Answer → Refusal → Type 0
+other a refusal = T (not (eqb (refusalNumber refusal) (numberOf a)))
 
-differ : (k : ℕ) (refusal : Answer) → other k refusal → numberOf refusal ≡ k → ⊥
+passed : (a : Answer) (b : Bool) (refusal : Refusal) (next : Answer) → other a refusal → unless b refusal next ≡ a → (b ≡ true) × (next ≡ a)
 unfolding other
-differ k refusal t e = subst (λ (b : Bool). T (not b)) (eq-eqb (numberOf refusal) k e) t
-
-passed : (a : Answer) (b : Bool) (refusal next : Answer) → other (numberOf a) refusal → unless b refusal next ≡ a → (b ≡ true) × (next ≡ a)
 passed a true refusal next t e = (refl, e)
-passed a false refusal next t e = absurd (differ (numberOf a) refusal t (ap numberOf e))
-
--- tests 3 to 7 refuse nothing with 11
-never-untied : (n : ℕ) (N : ℕ → ℕ → ℤ) (u : ℕ → ℤ) (x m : List ℤ) (k : ℕ) → judgeNumbers n N u x m ≡ Untied k → ⊥
-unfolding judgeNumbers other
-never-untied n N u x m k e =
-    let three = passed (Untied k) (correctionsSmall x) (Refused 12) _ tt e in
-    let four = passed (Untied k) (inverseSmall m) (Refused 13) _ tt (three .1) in
-    let five = passed (Untied k) (defectSmall n N (byRows n m)) (Refused 14) _ tt (four .1) in
-    let six = passed (Untied k) (residualSmall n N u (at x)) (Refused 15) _ tt (five .1) in
-    let seven = passed (Untied k) (refinementSmall n N (byRows n m) u (at x)) (Refused 16) Accepted tt (six .1) in
-    differ 11 Accepted tt (ap numberOf (seven .1))
+passed a false refusal next t e = absurd (subst (λ (b : Bool). T (not b)) (eq-eqb (refusalNumber refusal) (numberOf a) (ap numberOf e)) t)
 
 module _ (net : Network) (places : List Place) (g : Sound net places) where
   few : n net ≤ 48
@@ -137,38 +125,50 @@ module _ (net : Network) (places : List Place) (g : Sound net places) where
   unfolding answer
   kept-answer x m room = judge-same net places _ _ _ _ N-is u-is x m room
 
-  module _ (x m : List ℤ) (room : Bool) where
-    pub accepted-all : answer net places x m room ≡ Accepted → AllHold net places x m room
-    unfolding answer judge judgeNumbers other
-    accepted-all e =
-        let one = passed Accepted _ (Refused 10) _ tt e in
-        let two = passed Accepted _ (Untied (firstUntied net places)) _ tt (one .1) in
-        let three = passed Accepted _ (Refused 12) _ tt (two .1) in
-        let four = passed Accepted _ (Refused 13) _ tt (three .1) in
-        let five = passed Accepted _ (Refused 14) _ tt (four .1) in
-        let six = passed Accepted _ (Refused 15) _ tt (five .1) in
-        let seven = passed Accepted _ (Refused 16) _ tt (six .1) in
-        record {
-          first = one .0;
-          second = two .0;
-          third = three .0;
-          fourth = four .0;
-          fifth = five .0;
-          sixth = six .0;
-          seventh = seven .0;
-        }
+module _ (net : Network) (places : List Place) (x m : List ℤ) (room : Bool) where
+  pub accepted-all : answer net places x m room ≡ Accepted → Passes net places x m room
+  unfolding answer judge judgeNumbers other
+  accepted-all e =
+      let one = passed Accepted _ Lengths _ tt e in
+      let two = passed Accepted _ (Untied (firstUntied net places)) _ tt (one .1) in
+      let three = passed Accepted _ Correction _ tt (two .1) in
+      let four = passed Accepted _ Inverse _ tt (three .1) in
+      let five = passed Accepted _ Defect _ tt (four .1) in
+      let six = passed Accepted _ Residual _ tt (five .1) in
+      let seven = passed Accepted _ Refinement _ tt (six .1) in
+      record {
+        first = one .0;
+        second = two .0;
+        third = three .0;
+        fourth = four .0;
+        fifth = five .0;
+        sixth = six .0;
+        seventh = seven .0;
+      }
 
-    pub all-accepted : AllHold net places x m room → answer net places x m room ≡ Accepted
-    unfolding answer judge judgeNumbers
-    all-accepted h = rw (h .first, h .second, h .third, h .fourth, h .fifth, h .sixth, h .seventh)
+  pub all-accepted : Passes net places x m room → answer net places x m room ≡ Accepted
+  unfolding answer judge judgeNumbers
+  all-accepted h = rw (h .first, h .second, h .third, h .fourth, h .fifth, h .sixth, h .seventh)
 
-    -- "for 11 also the first unknown without a chain": the answer's unknown has none, and every lower one has
-    pub untied-first : (k : ℕ) → answer net places x m room ≡ Untied k → First net places (fit-of .ends) k
-    unfolding answer judge other
-    untied-first k e = go (true-or-false (allTied net places)) (passed (Untied k) (lengthsFit (n net) x m room) (Refused 10) _ tt e .1)
-      where
-        go : (allTied net places ≡ true) ⊎ (allTied net places ≡ false)
-            → unless (allTied net places) (Untied (firstUntied net places)) (judgeNumbers (n net) (N net places) (u net places) x m) ≡ Untied k
-            → First net places (fit-of .ends) k
-        go (inl a) q = absurd (never-untied (n net) (N net places) (u net places) x m k (rw a at q))
-        go (inr a) q = subst (First net places (fit-of .ends)) (ap unknownOf (rw a at q)) (first-untied net places (fit-of .ends) a)
+  -- tests 3 to 7 refuse nothing with 11
+  never-untied : (k : ℕ) → judgeNumbers (n net) (N net places) (u net places) x m ≡ Refused (Untied k) → ⊥
+  unfolding judgeNumbers other
+  never-untied k e =
+      let three = passed (Refused (Untied k)) (correctionsSmall x) Correction _ tt e in
+      let four = passed (Refused (Untied k)) (inverseSmall m) Inverse _ tt (three .1) in
+      let five = passed (Refused (Untied k)) (defectSmall (n net) (N net places) (rows net m)) Defect _ tt (four .1) in
+      let six = passed (Refused (Untied k)) (residualSmall (n net) (N net places) (u net places) (at x)) Residual _ tt (five .1) in
+      let seven = passed (Refused (Untied k)) (refinementSmall (n net) (N net places) (rows net m) (u net places) (at x)) Refinement Accepted tt (six .1) in
+      let z : _≡_ {A = ℕ} 0 11 = ap numberOf (seven .1) in
+      omega arith
+
+  -- "for 11 also the first unknown without a chain": the answer's unknown has none, and every lower one has
+  pub untied-first : (ends : Ends net places) (k : ℕ) → answer net places x m room ≡ Refused (Untied k) → First net places ends k
+  unfolding answer judge other
+  untied-first ends k e = go (true-or-false (allTied net places)) (passed (Refused (Untied k)) (lengthsFit (n net) x m room) Lengths _ tt e .1)
+    where
+      go : (allTied net places ≡ true) ⊎ (allTied net places ≡ false)
+          → unless (allTied net places) (Untied (firstUntied net places)) (judgeNumbers (n net) (N net places) (u net places) x m) ≡ Refused (Untied k)
+          → First net places ends k
+      go (inl a) q = absurd (never-untied k (rw a at q))
+      go (inr a) q = subst (First net places ends) (ap unknownOf (rw a at q)) (first-untied net places ends a)

@@ -9,39 +9,61 @@ use Rattle.network.specs.declared.Place.{Place}
 use Rattle.chains.specs.Chains.{allTied, firstUntied}
 use Rattle.acceptance.specs.Tests.{at, byRows, lengthsFit, correctionsSmall, inverseSmall, defectSmall, residualSmall, refinementSmall}
 use Rattle.acceptance.specs.declared.Answer.{Answer}
-use Rattle.acceptance.specs.declared.Answer.the-variants.{Accepted, Refused, Untied}
+use Rattle.acceptance.specs.declared.Answer.the-variants.{Accepted, Refused}
+use Rattle.acceptance.specs.declared.Refusal.{Refusal}
+use Rattle.acceptance.specs.declared.Refusal.the-variants.{Lengths, Untied, Correction, Inverse, Defect, Residual, Refinement, TooLarge}
 
--- ════ this paper's numbers: "10..16 | check | test 1, 2, 3, 4, 5, 6, 7 fails, in that order"; 0 where the call is not refused
+-- ════ this paper's numbers
+-- "10..16 | check | test 1, 2, 3, 4, 5, 6, 7 fails, in that order"; "9 | add, replace, check | an entry of N or u, or T, beyond ±2^62"
+abbrev pub refusalNumber : Refusal → ℕ
+refusalNumber Lengths = 10
+refusalNumber (Untied unknown) = 11
+refusalNumber Correction = 12
+refusalNumber Inverse = 13
+refusalNumber Defect = 14
+refusalNumber Residual = 15
+refusalNumber Refinement = 16
+refusalNumber TooLarge = 9
+
+-- 0 where "the call is not refused"
 abbrev pub numberOf : Answer → ℕ
 numberOf Accepted = 0
-numberOf (Refused number) = number
-numberOf (Untied unknown) = 11
+numberOf (Refused refusal) = refusalNumber refusal
 
 -- "for 11 also the first unknown without a chain", by its number from 1; 0 in every other answer
+abbrev pub refusalUnknown : Refusal → ℕ
+refusalUnknown Lengths = 0
+refusalUnknown (Untied unknown) = unknown
+refusalUnknown Correction = 0
+refusalUnknown Inverse = 0
+refusalUnknown Defect = 0
+refusalUnknown Residual = 0
+refusalUnknown Refinement = 0
+refusalUnknown TooLarge = 0
+
 abbrev pub unknownOf : Answer → ℕ
 unknownOf Accepted = 0
-unknownOf (Refused number) = 0
-unknownOf (Untied unknown) = unknown
+unknownOf (Refused refusal) = refusalUnknown refusal
 
 -- ════ the tests in their order
 -- a test that fails settles the answer
-abbrev pub unless : Bool → Answer → Answer → Answer
+abbrev pub unless : Bool → Refusal → Answer → Answer
 unless true refusal next = next
-unless false refusal next = refusal
+unless false refusal next = Refused refusal
 
 -- tests 3 to 7; M by rows of n
 unfoldable pub judgeNumbers : ℕ → (ℕ → ℕ → ℤ) → (ℕ → ℤ) → List ℤ → List ℤ → Answer
 judgeNumbers n N u x m =
-    unless (correctionsSmall x) (Refused 12)
-    (unless (inverseSmall m) (Refused 13)
-    (unless (defectSmall n N (byRows n m)) (Refused 14)
-    (unless (residualSmall n N u (at x)) (Refused 15)
-    (unless (refinementSmall n N (byRows n m) u (at x)) (Refused 16)
+    unless (correctionsSmall x) Correction
+    (unless (inverseSmall m) Inverse
+    (unless (defectSmall n N (byRows n m)) Defect
+    (unless (residualSmall n N u (at x)) Residual
+    (unless (refinementSmall n N (byRows n m) u (at x)) Refinement
     Accepted))))
 
 -- all seven, with N and u of the book; room: the sheet, where one is lent, has room
 unfoldable pub judge : Network → List Place → (ℕ → ℕ → ℤ) → (ℕ → ℤ) → List ℤ → List ℤ → Bool → Answer
 judge net places N u x m room =
-    unless (lengthsFit (unknownCount (net .stations)) x m room) (Refused 10)
+    unless (lengthsFit (unknownCount (net .stations)) x m room) Lengths
     (unless (allTied net places) (Untied (firstUntied net places))
     (judgeNumbers (unknownCount (net .stations)) N u x m))

@@ -1,5 +1,6 @@
 // The answer: the first test that fails, or acceptance.
 use super::Answer;
+use super::Refusal;
 use super::inverse::rows_near;
 use super::limits;
 use super::refinement::normal_residual;
@@ -14,8 +15,24 @@ ghost use mathlib.Core.Bool.{_&&_};
 ghost use Prim.Native.Nat.{_*_, _≤_};
 ghost use lib.Dec.{eqb};
 ghost use Rattle.acceptance.specs.Tests.{at, byRows};
-ghost use Rattle.acceptance.specs.Judge.{numberOf, unknownOf, judgeNumbers, judge};
+ghost use Rattle.acceptance.specs.Judge.{refusalNumber, refusalUnknown, numberOf, unknownOf, judgeNumbers, judge};
 ghost use Rattle.acceptance.specs.JudgeLaws.{Fit, Numbers};
+
+// Document 01's number of a refusal.
+fn refusal_number(refusal: Refusal) -> u64
+    ensures { λ r. ⌜ r ≡ refusalNumber refusal ⌝ }
+{
+    match refusal {
+        Refusal::Lengths => 10,
+        Refusal::Untied(_) => 11,
+        Refusal::Correction => 12,
+        Refusal::Inverse => 13,
+        Refusal::Defect => 14,
+        Refusal::Residual => 15,
+        Refusal::Refinement => 16,
+        Refusal::TooLarge => 9,
+    }
+}
 
 // Document 01's number of an answer, 0 where the call is not refused.
 pub fn number(answer: Answer) -> u64
@@ -23,8 +40,23 @@ pub fn number(answer: Answer) -> u64
 {
     match answer {
         Answer::Accepted => 0,
-        Answer::Refused(number) => number,
-        Answer::Untied(_) => 11,
+        Answer::Refused(refusal) => refusal_number(refusal),
+    }
+}
+
+// The unknown of a refusal: that of 11, by its number from 1, and 0 in every other.
+fn refusal_unknown(refusal: Refusal) -> u64
+    ensures { λ r. ⌜ r ≡ refusalUnknown refusal ⌝ }
+{
+    match refusal {
+        Refusal::Lengths => 0,
+        Refusal::Untied(unknown) => unknown,
+        Refusal::Correction => 0,
+        Refusal::Inverse => 0,
+        Refusal::Defect => 0,
+        Refusal::Residual => 0,
+        Refusal::Refinement => 0,
+        Refusal::TooLarge => 0,
     }
 }
 
@@ -34,8 +66,7 @@ pub fn unknown(answer: Answer) -> u64
 {
     match answer {
         Answer::Accepted => 0,
-        Answer::Refused(_) => 0,
-        Answer::Untied(unknown) => unknown,
+        Answer::Refused(refusal) => refusal_unknown(refusal),
     }
 }
 
@@ -64,20 +95,20 @@ fn judge_numbers(
     ensures { λ r. ⌜ r ≡ judgeNumbers n (byRows 48 (now (normal .entry))) (at (now (right .entry))) (now (x .entry)) (now (m .entry)) ⌝ }
 {
     if !first_within(x, x.len(), limits::CORRECTION) {
-        return Answer::Refused(12);
+        return Answer::Refused(Refusal::Correction);
     }
     if !first_within(m, m.len(), limits::INVERSE) {
-        return Answer::Refused(13);
+        return Answer::Refused(Refusal::Inverse);
     }
     if !rows_near(m, normal, n) {
-        return Answer::Refused(14);
+        return Answer::Refused(Refusal::Defect);
     }
     let r = normal_residual(normal, right, x, n);
     if !first_within(&r, n, limits::RESIDUAL) {
-        return Answer::Refused(15);
+        return Answer::Refused(Refusal::Residual);
     }
     if !refinements_within(m, &r, n) {
-        return Answer::Refused(16);
+        return Answer::Refused(Refusal::Refinement);
     }
     Answer::Accepted
 }
@@ -98,12 +129,12 @@ pub fn accept(
     let stations = net.stations;
     let n = network::number_of(stations, Unit::COMPONENTS);
     if !lengths_fit(x.len(), m.len(), n, room) {
-        return Answer::Refused(10);
+        return Answer::Refused(Refusal::Lengths);
     }
     let q = chains::first_untied(net, places);
     if q < Unit::COMPONENTS {
-        let before = network::number_of(stations, q);
-        return Answer::Untied((before + 1) as u64);
+        let first = network::number_of(stations, q) + 1;
+        return Answer::Refused(Refusal::Untied(first as u64));
     }
     judge_numbers(normal, right, x, m, n)
 }

@@ -11,7 +11,8 @@ use Rattle.chains.specs.ChainLaws.{untied-by, tied-by, untied-number}
 use Rattle.acceptance.specs.Tests.{lengthsFit}
 use Rattle.acceptance.specs.Judge.{judge}
 use Rattle.acceptance.specs.JudgeLaws.{lengths-of}
-use Rattle.acceptance.specs.declared.Answer.the-variants.{Untied}
+use Rattle.acceptance.specs.declared.Answer.the-variants.{Refused}
+use Rattle.acceptance.specs.declared.Refusal.the-variants.{Untied}
 use Rattle.acceptance.proofs.judge.accept.Statement.{statement}
 use Rattle.acceptance.proofs.judge.accept.Tie as tie
 
@@ -37,8 +38,8 @@ first-untied-requires c κs = c .before .before .before .before .pre .ends
 number-of-requires-2 : tie.Need-number-of-requires-2
 number-of-requires-2 c κs = search needs
 
-add-t16 : tie.Need-add-t16
-add-t16 c =
+add-first : tie.Need-add-first
+add-first c =
     let s = c .before .before .before .before .before .before .before in
     let l = number-small (s .args .net .stations) (c .before .before .first-untied .result) in
     record { fits = omega (arith, c .number-of2 .ensures, c .before .if2 .taken) }
@@ -52,7 +53,7 @@ returns-2 c =
       one (c .before .before .before .before) true (not-false _ (c .before .before .before .if1 .left)),
       untied-by (s .args .net) (s .args .places) u (c .before .if2 .taken),
     )
-    (ap Untied (ap (λ (k : ℕ). k + 1) (c .number-of2 .ensures) ∙ sym (untied-number (s .args .net) (s .args .places) u)))
+    (ap (λ (k : ℕ). Refused (Untied k)) (ap (λ (k : ℕ). k + 1) (c .number-of2 .ensures) ∙ sym (untied-number (s .args .net) (s .args .places) u)))
 
 judge-numbers-requires : tie.Need-judge-numbers-requires
 judge-numbers-requires c κs =
@@ -86,7 +87,7 @@ accept-spec =
     returns
     first-untied-requires
     number-of-requires-2
-    add-t16
+    add-first
     returns-2
     judge-numbers-requires
     returns-3)
