@@ -1,26 +1,25 @@
 -- What a sound book and an acceptance give: the ranges that the sheet's code asks for, and that 9 never comes.
-use Prim.Native.Nat.{ℕ, _*_, _≤_, _^_}
-use mathlib.Core.Path.{_≡_, refl, sym, ap, _∙_}
+use Prim.Native.Nat.{ℕ, _*_, _≤_}
+use mathlib.Core.Path.{_≡_, refl, ap}
 use mathlib.Core.Bool.{Bool, true, _&&_}
 use mathlib.Core.List.{List, _++_}
 use borrow.Author.Tests.{le-leb, leb-true}
 use lib.Dec.{eqb}
 use lib.ListN.{length, drop}
-use lib.IntN.{ℤ, natAbs}
+use lib.IntN.{ℤ}
 use Rattle.words.specs.Bools.{and-both, and-right}
-use Rattle.network.specs.Stations.{unknownCount}
 use Rattle.normals.specs.Sound.{Sound}
 use Rattle.normals.specs.Sizes.{never-9}
-use Rattle.normals.specs.Formulas.{matrixOf, rightOf, entriesFit}
+use Rattle.normals.specs.Formulas.{matrixOf, rightOf}
 use Rattle.acceptance.specs.Tests.{at, byRows, lengthsFit}
 use Rattle.acceptance.specs.JudgeLaws.{Fit, lengths-of, corrections-small, inverse-small}
 use Rattle.acceptance.specs.Judge.{judge}
 use Rattle.acceptance.specs.Exactly.{answer, fit-of, kept-answer, accepted-all}
 use Rattle.acceptance.specs.declared.Answer.{Answer}
-use Rattle.acceptance.specs.declared.Answer.the-variants.{Accepted, Refused, Untied}
+use Rattle.acceptance.specs.declared.Answer.the-variants.{Accepted, Refused}
+use Rattle.acceptance.specs.declared.Refusal.{Refusal}
 use Rattle.book.specs.declared.Book.{Book}
 use Rattle.book.specs.Sound as Parts
-use Rattle.sheet.specs.Residuals.{T}
 use Rattle.sheet.specs.Sheet.{sheetWords, room}
 use Rattle.sheet.specs.Ranges.{Solved, Inverse}
 use Rattle.sheet.specs.Totals.{T-fits}
@@ -52,7 +51,7 @@ module _ (b : Book) (g : Parts.Sound b) where
     module _ (e : answer (b .network) (b .places) x m r ≡ Accepted) where
       pub solved : Solved (b .network) (b .places) x
       solved =
-          let h = accepted-all (b .network) (b .places) rules x m r e in
+          let h = accepted-all (b .network) (b .places) x m r e in
           record {
             moved = record { network = g .network; corrections = record { long = lengths-of _ x m r (h .first) .0; bound = corrections-small x (h .third) } };
             records = λ p l. g .records p;
@@ -60,11 +59,11 @@ module _ (b : Book) (g : Parts.Sound b) where
 
       pub inverse : Inverse (b .network) m
       inverse =
-          let h = accepted-all (b .network) (b .places) rules x m r e in
+          let h = accepted-all (b .network) (b .places) x m r e in
           record { long = lengths-of _ x m r (h .first) .1; bound = inverse-small m (h .fourth) }
 
       pub has-room : r ≡ true
-      has-room = room-of-test _ x m r (accepted-all (b .network) (b .places) rules x m r e .first)
+      has-room = room-of-test _ x m r (accepted-all (b .network) (b .places) x m r e .first)
 
       pub sizes-fit : sizesFit (b .network) (b .places) x ≡ true
       unfolding sizesFit
@@ -77,8 +76,7 @@ module _ (b : Book) (g : Parts.Sound b) where
       where
         go : (a : Answer) → answer (b .network) (b .places) x m r ≡ a → thenNine (answer (b .network) (b .places) x m r) (sizesFit (b .network) (b .places) x) ≡ answer (b .network) (b .places) x m r
         go Accepted e = rw (e, sizes-fit e)
-        go (Refused k) e = rw e
-        go (Untied k) e = rw e
+        go (Refused refusal) e = rw e
 
   -- the words afterwards, by the answer
   module _ (x m sheet : List ℤ) where
@@ -87,13 +85,9 @@ module _ (b : Book) (g : Parts.Sound b) where
     unfolding sheetAfter onAcceptance
     after-accepted e = rw (checked-is x m (hasRoom b sheet), e)
 
-    pub after-refused : (k : ℕ) → answer (b .network) (b .places) x m (hasRoom b sheet) ≡ Refused k → sheet ≡ sheetAfter b x m sheet
+    pub after-refused : (refusal : Refusal) → answer (b .network) (b .places) x m (hasRoom b sheet) ≡ Refused refusal → sheet ≡ sheetAfter b x m sheet
     unfolding sheetAfter onAcceptance
-    after-refused k e = rw (checked-is x m (hasRoom b sheet), e)
-
-    pub after-untied : (k : ℕ) → answer (b .network) (b .places) x m (hasRoom b sheet) ≡ Untied k → sheet ≡ sheetAfter b x m sheet
-    unfolding sheetAfter onAcceptance
-    after-untied k e = rw (checked-is x m (hasRoom b sheet), e)
+    after-refused refusal e = rw (checked-is x m (hasRoom b sheet), e)
 
     pub room-enough : answer (b .network) (b .places) x m (hasRoom b sheet) ≡ Accepted → room (b .network) (b .places) ≤ length sheet
     room-enough e = leb-true _ _ (has-room x m (hasRoom b sheet) e)

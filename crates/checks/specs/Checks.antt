@@ -1,5 +1,5 @@
 -- The answer to a check, and the sheet afterwards. Assumes nothing.
-use Prim.Native.Nat.{ℕ, _^_}
+use Prim.Native.Nat.{_^_}
 use mathlib.Core.Bool.{Bool, cond, _&&_}
 use mathlib.Core.List.{List, _++_}
 use lib.Dec.{leb}
@@ -10,7 +10,8 @@ use Rattle.network.specs.declared.Place.{Place}
 use Rattle.normals.specs.Formulas.{entriesFit}
 use Rattle.acceptance.specs.Exactly.{answer}
 use Rattle.acceptance.specs.declared.Answer.{Answer}
-use Rattle.acceptance.specs.declared.Answer.the-variants.{Accepted, Refused, Untied}
+use Rattle.acceptance.specs.declared.Answer.the-variants.{Accepted, Refused}
+use Rattle.acceptance.specs.declared.Refusal.the-variants.{TooLarge}
 use Rattle.book.specs.declared.Book.{Book}
 use Rattle.sheet.specs.Residuals.{T}
 use Rattle.sheet.specs.Sheet.{sheetWords, room}
@@ -21,9 +22,8 @@ sizesFit net places x = entriesFit (net .stations) places && leb (natAbs (T (net
 
 -- "A failed test outranks a 9 in a check."
 unfoldable pub thenNine : Answer → Bool → Answer
-thenNine Accepted fits = cond fits Accepted (Refused 9)
-thenNine (Refused number) fits = Refused number
-thenNine (Untied unknown) fits = Untied unknown
+thenNine Accepted fits = cond fits Accepted (Refused TooLarge)
+thenNine (Refused refusal) fits = Refused refusal
 
 -- ════ the answer; room: the sheet, where one is lent, has room. Its number and values are acceptance's numberOf and unknownOf
 unfoldable pub checked : Book → List ℤ → List ℤ → Bool → Answer
@@ -36,8 +36,7 @@ hasRoom b sheet = leb (room (b .network) (b .places)) (length sheet)
 -- ════ the lent words afterwards: "Words beyond stay." "A refusal … changes neither book, history nor sheet."
 unfoldable pub onAcceptance : Answer → List ℤ → List ℤ → List ℤ
 onAcceptance Accepted new old = new
-onAcceptance (Refused number) new old = old
-onAcceptance (Untied unknown) new old = old
+onAcceptance (Refused refusal) new old = old
 
 unfoldable pub sheetAfter : Book → List ℤ → List ℤ → List ℤ → List ℤ
 sheetAfter b x m sheet =

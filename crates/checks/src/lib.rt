@@ -45,7 +45,6 @@ pub fn check_sheet(book: Book, x: &[i64], m: &[i64], sheet: &mut [i64]) -> Answe
             sheet::write_sheet(net, places, x, m, sheet);
             Answer::Accepted
         }
-        Answer::Refused(k) => Answer::Refused(k),
-        Answer::Untied(k) => Answer::Untied(k),
+        Answer::Refused(refusal) => Answer::Refused(refusal),
     }
 }

@@ -1,10 +1,7 @@
 use borrow.Author.Needs.{needs}
-use mathlib.Core.Path.{_≡_, sym, ap, _∙_}
-use mathlib.Core.Bool.{Bool, true}
+use mathlib.Core.Path.{sym, _∙_}
+use mathlib.Core.Bool.{true}
 use Rattle.network.specs.Filling.{length-mapped}
-use Rattle.acceptance.specs.Judge.{judge}
-use Rattle.acceptance.specs.JudgeLaws.{Fit}
-use Rattle.acceptance.specs.Exactly.{answer}
 use Rattle.book.specs.Sound.{Sound, sound-parts}
 use Rattle.checks.specs.CheckLaws.{fit, judge-is, checked-is}
 use Rattle.checks.proofs.check.Statement.{statement}

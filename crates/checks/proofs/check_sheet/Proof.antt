@@ -1,19 +1,17 @@
 use borrow.Author.Needs.{needs}
 use mathlib.Core.Path.{_≡_, sym, ap, _∙_}
-use mathlib.Core.Bool.{Bool, true}
+use mathlib.Core.Bool.{Bool}
 use Rattle.network.specs.Filling.{length-mapped}
 use Rattle.acceptance.specs.Judge.{judge}
 use Rattle.acceptance.specs.Tests.{at, byRows}
-use Rattle.acceptance.specs.JudgeLaws.{Fit}
 use Rattle.acceptance.specs.Exactly.{answer}
 use Rattle.book.specs.Sound.{Sound, sound-parts}
 use Prim.Native.Nat.{ℕ}
 use lib.Dec.{leb}
 use lib.ListN.{length}
 use Rattle.network.specs.RuleLaws.{network-few}
-use Rattle.sheet.specs.Ranges.{Solved}
 use Rattle.checks.specs.Checks.{hasRoom}
-use Rattle.checks.specs.CheckLaws.{fit, judge-is, checked-is, solved, inverse, room-enough, after-accepted, after-refused, after-untied}
+use Rattle.checks.specs.CheckLaws.{fit, judge-is, checked-is, solved, inverse, room-enough, after-accepted, after-refused}
 use Rattle.checks.proofs.check_sheet.Statement.{statement}
 use Rattle.checks.proofs.check_sheet.Tie as tie
 
@@ -53,9 +51,6 @@ write-sheet-requires c κs =
 enum-known-answer : tie.Need-enum-known-answer
 enum-known-answer c = search needs
 
-enum-known-answer-2 : tie.Need-enum-known-answer-2
-enum-known-answer-2 c = search needs
-
 same-length : tie.Need-same-length
 same-length c = search needs
 
@@ -69,11 +64,6 @@ returns-2 c =
     let s = c .before .before .before .before .before .before .before .before .before .before .before .before .before in let e = sym (answered (c .before .before .before)) ∙ c .before .answer .given .1 in
     (sym (checked-is (s .args .book) (sound-book s) (s .args .x .now) (s .args .m .now) (hasRoom (s .args .book) (s .args .sheet .now)) ∙ e), after-refused (s .args .book) (sound-book s) (s .args .x .now) (s .args .m .now) (s .args .sheet .now) _ e)
 
-returns-3 : tie.Need-returns-3
-returns-3 c =
-    let s = c .before .before .before .before .before .before .before .before .before .before .before .before .before in let e = sym (answered (c .before .before .before)) ∙ c .before .answer2 .given .1 in
-    (sym (checked-is (s .args .book) (sound-book s) (s .args .x .now) (s .args .m .now) (hasRoom (s .args .book) (s .args .sheet .now)) ∙ e), after-untied (s .args .book) (sound-book s) (s .args .x .now) (s .args .m .now) (s .args .sheet .now) _ e)
-
 pub check-sheet-spec : {M : Type 1} → statement M
 check-sheet-spec =
     tie.close
@@ -85,8 +75,6 @@ check-sheet-spec =
     enum-told
     write-sheet-requires
     enum-known-answer
-    enum-known-answer-2
     same-length
     returns
-    returns-2
-    returns-3)
+    returns-2)
