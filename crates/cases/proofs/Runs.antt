@@ -37,6 +37,6 @@ module _ (c : Case) (g : Holds c) (start : Book) (rows : List Row) (before after
   ran x m lent words answer p q h a w =
       record {
         answered = answered-is;
-        checked = a ∙ rw (left-is, p, q) (g .checkSheet lent h);
+        checked = rw (a, left-is, p, q) (g .checkSheet lent h);
         written = w ∙ rw (left-is, p, q) (g .written lent h);
       }

@@ -14,6 +14,7 @@ use Rattle.network.specs.declared.Record.{Record}
 use Rattle.network.specs.declared.Place.{Place}
 use Rattle.acceptance.specs.declared.Answer.{Answer}
 use Rattle.acceptance.specs.Tests.{at, refinement}
+use Rattle.acceptance.specs.Judge.{numberOf, unknownOf}
 use Rattle.acceptance.specs.Exactly.{n, N, u, rows}
 use Rattle.book.specs.declared.Book.{Book}
 use Rattle.book.specs.Book as spec
@@ -50,14 +51,19 @@ filled records = map (λ r. record { entry = r }) records ++ replicate (256 - le
 abbrev pub enough : ℕ
 enough = 32
 
+-- an answer to a check by its number and unknown
+pub record AnswersAs (c : Case) (answer : Answer) : Type 0 where
+  pub number : numberOf answer ≡ c .number
+  pub unknown : unknownOf answer ≡ c .unknown
+
 pub record Holds (c : Case) : Type 0 where
   pub opened : opens stationList ≡ true
   pub answered : bookAnswers (networkOf stationList) (rowsOf c) ≡ map pos (c .answers)
   pub records : bookOf c .places ≡ filled (c .records)
   pub refined : refinedAt (bookOf c .network) (bookOf c .places) (xOf c) (mOf c) 0 ≡ c .refined
   -- without a sheet, and with one of any words that are enough: words beyond stay
-  pub check : checked (bookOf c) (xOf c) (mOf c) true ≡ c .answer
-  pub checkSheet : (lent : List ℤ) → enough ≤ length lent → checked (bookOf c) (xOf c) (mOf c) (hasRoom (bookOf c) lent) ≡ c .answer
+  pub check : AnswersAs c (checked (bookOf c) (xOf c) (mOf c) true)
+  pub checkSheet : (lent : List ℤ) → enough ≤ length lent → AnswersAs c (checked (bookOf c) (xOf c) (mOf c) (hasRoom (bookOf c) lent))
   pub written : (lent : List ℤ) → enough ≤ length lent → sheetAfter (bookOf c) (xOf c) (mOf c) lent ≡ c .sheet ++ drop (length (c .sheet)) lent
 
 -- case k of the table, counted from 0; beyond its last it is the first again
@@ -81,5 +87,5 @@ pub record CallsMade (b : Book) (rows : List Row) (before after : List ℤ) (las
 -- the calls answered and the check: the answers and the sheet at the front of the lent words
 pub record Ran (c : Case) (answers answers′ sheet sheet′ : List ℤ) (answer : Answer) : Type 0 where
   pub answered : answers′ ≡ map pos (c .answers) ++ drop (length (c .answers)) answers
-  pub checked : answer ≡ c .answer
+  pub checked : AnswersAs c answer
   pub written : sheet′ ≡ c .sheet ++ drop (length (c .sheet)) sheet

@@ -13,7 +13,7 @@ use Rattle.network.specs.OpeningLaws.{opened-fits}
 use Rattle.network.specs.declared.Network.{Network}
 use Rattle.network.specs.declared.Place.{Place}
 use Rattle.acceptance.specs.declared.Answer.{Answer}
-use Rattle.acceptance.specs.declared.Answer.the-variants.{Accepted, Refused, Untied}
+use Rattle.acceptance.specs.declared.Answer.the-variants.{Accepted, Refused}
 use Rattle.acceptance.specs.Exactly.{answer}
 use Rattle.book.specs.declared.Book.{Book}
 use Rattle.book.specs.Sound.{Sound}
@@ -22,7 +22,7 @@ use Rattle.sheet.specs.SheetLaws.{sheet-length}
 use Rattle.checks.specs.Checks.{checked, hasRoom, onAcceptance, sheetAfter}
 use Rattle.checks.specs.CheckLaws.{checked-is}
 use Rattle.cases.specs.Table.{Case, stationList, table}
-use Rattle.cases.specs.Cases.{filled, rowsOf, bookOf, xOf, mOf, refinedAt, enough, Holds, caseAt, CasesHold}
+use Rattle.cases.specs.Cases.{filled, rowsOf, bookOf, xOf, mOf, refinedAt, enough, AnswersAs, Holds, caseAt, CasesHold}
 use Rattle.cases.specs.Brief.{briefAfter, briefAnswers, brief-answers, brief-follows, brief-places}
 use native.Mathlib.Nat.{le-of-suc-le-suc, not-suc-le-zero}
 use Rattle.book.specs.Follows.{Follows}
@@ -34,8 +34,7 @@ module _ (net : Network) (places : List Place) (x m lent : List ℤ) where
   written-as : (a : Answer) (w : List ℤ) → onAcceptance a (sheetWords net places x m) [] ≡ w → onAcceptance a (sheetWords net places x m ++ drop (room net places) lent) lent ≡ w ++ drop (length w) lent
   unfolding onAcceptance
   written-as Accepted w e = rw (← e, sheet-length net places x m)
-  written-as (Refused k) w e = rw (← e)
-  written-as (Untied k) w e = rw (← e)
+  written-as (Refused refusal) w e = rw (← e)
 
 -- a check of a book with these stations and records
 module _ (b : Book) (g : Sound b) (net : Network) (places : List Place) (p : b .network ≡ net) (q : b .places ≡ places) (x m : List ℤ) where
@@ -55,10 +54,11 @@ module _ (b : Book) (g : Sound b) (net : Network) (places : List Place) (p : b .
     pub lent-on : checked b x m (hasRoom b lent) ≡ answer net places x m true
     lent-on = ap (checked b x m) has-room ∙ checked-on true
 
-    pub written-on : (a : Answer) → answer net places x m true ≡ a → (w : List ℤ) → onAcceptance a (sheetWords net places x m) [] ≡ w → sheetAfter b x m lent ≡ w ++ drop (length w) lent
+    pub written-on : (w : List ℤ) → onAcceptance (answer net places x m true) (sheetWords net places x m) [] ≡ w → sheetAfter b x m lent ≡ w ++ drop (length w) lent
     unfolding sheetAfter
-    written-on a k w e =
-        ap (λ (z : Answer). onAcceptance z (sheetWords (b .network) (b .places) x m ++ drop (room (b .network) (b .places)) lent) lent) (lent-on ∙ k)
+    written-on w e =
+        let a = answer net places x m true in
+        ap (λ (z : Answer). onAcceptance z (sheetWords (b .network) (b .places) x m ++ drop (room (b .network) (b .places)) lent) lent) lent-on
         ∙ ap (λ (n : Network). onAcceptance a (sheetWords n (b .places) x m ++ drop (room n (b .places)) lent) lent) p
         ∙ ap (λ (l : List Place). onAcceptance a (sheetWords net l x m ++ drop (room net l) lent) lent) q
         ∙ written-as net places x m lent a w e
@@ -77,9 +77,9 @@ module _ (c : Case) (k : placesIn network c ≡ filled (c .records)) (e : worked
   places : bookOf c .places ≡ filled (c .records)
   places = brief-places (networkOf stationList) fits (rowsOf c) ∙ ap (λ (n : Network). placesIn n c) network-is ∙ k
 
-  answer-is : answer network (filled (c .records)) (xOf c) (mOf c) true ≡ c .answer
+  answers-as : AnswersAs c (answer network (filled (c .records)) (xOf c) (mOf c) true)
   unfolding workedOn expected
-  answer-is = ap (λ (w : Outcome). w .answer) e
+  answers-as = record { number = ap (λ (w : Outcome). w .number) e; unknown = ap (λ (w : Outcome). w .unknown) e }
 
   few : leb (room network (filled (c .records))) enough ≡ true
   unfolding workedOn expected
@@ -93,9 +93,9 @@ module _ (c : Case) (k : placesIn network c ≡ filled (c .records)) (e : worked
         answered = brief-answers (networkOf stationList) fits (rowsOf c) ∙ ap (λ (n : Network). briefAnswers n (rowsOf c)) network-is ∙ ap (λ (w : Outcome). w .answered) e;
         records = places;
         refined = refined-on (bookOf c) (follows .sound) network (filled (c .records)) stations places (xOf c) (mOf c) ∙ ap (λ (w : Outcome). w .refined) e;
-        check = checked-on (bookOf c) (follows .sound) network (filled (c .records)) stations places (xOf c) (mOf c) true ∙ answer-is;
-        checkSheet = λ lent h. lent-on (bookOf c) (follows .sound) network (filled (c .records)) stations places (xOf c) (mOf c) lent few h ∙ answer-is;
-        written = λ lent h. written-on (bookOf c) (follows .sound) network (filled (c .records)) stations places (xOf c) (mOf c) lent few h (c .answer) answer-is (c .sheet) (ap (λ (w : Outcome). w .sheet) e);
+        check = rw (checked-on (bookOf c) (follows .sound) network (filled (c .records)) stations places (xOf c) (mOf c) true) answers-as;
+        checkSheet = λ lent h. rw (lent-on (bookOf c) (follows .sound) network (filled (c .records)) stations places (xOf c) (mOf c) lent few h) answers-as;
+        written = λ lent h. written-on (bookOf c) (follows .sound) network (filled (c .records)) stations places (xOf c) (mOf c) lent few h (c .sheet) (ap (λ (w : Outcome). w .sheet) e);
       }
 
 -- ════ every case of the table

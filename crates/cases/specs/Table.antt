@@ -4,8 +4,6 @@ use mathlib.Core.List.{List, [], _∷_, _++_}
 use lib.IntN.{ℤ, pos, negℤ}
 use Rattle.network.specs.declared.Record.{Record}
 use Rattle.network.specs.declared.Record.the-variants.{Baseline as baseline, Height as height}
-use Rattle.acceptance.specs.declared.Answer.{Answer}
-use Rattle.acceptance.specs.declared.Answer.the-variants.{Accepted, Refused, Untied}
 use Rattle.book.specs.Calls.{Call, add, replace, undo}
 
 -- ════ the night print's lines
@@ -54,8 +52,9 @@ pub record Case : Type 0 where
   -- the number that each call is answered, 0 where it is not refused, and the records in force afterwards, from place 1 on
   pub answers : List ℕ
   pub records : List Record
-  -- the check's answer; its number and unknown are acceptance's numberOf and unknownOf: Untied 1 is 11, unknown 1
-  pub answer : Answer
+  -- the number that the check is answered, 0 where it accepts, and the unknown that comes with 11, 0 elsewhere
+  pub number : ℕ
+  pub unknown : ℕ
   -- the one entry of Mr, which test 7 bounds
   pub refined : ℤ
   -- the words on the sheet, none where the check is refused
@@ -87,7 +86,8 @@ accepted calls answers second x verdict t =
       m = pos 5368709;
       answers = answers;
       records = level 1000 ∷ level second ∷ [];
-      answer = Accepted;
+      number = 0;
+      unknown = 0;
       refined = pos 0;
       sheet = (pos 2 ∷ pos 1 ∷ []) ++ stationLines (101000 + x) 5368709 ++ levelLine 1 (negℤ (pos x)) verdict ++ levelLine 2 (pos x) verdict ++ globalLine t 1 0;
     }
@@ -97,27 +97,27 @@ abbrev pub asPrinted : List Call → List ℕ → Case
 asPrinted calls answers = accepted calls answers 1100 50 0 500000
 
 -- one that is refused leaves the sheet
-abbrev pub refused : List Call → ℤ → ℤ → List ℕ → List Record → Answer → ℤ → Case
-refused calls x m answers records answer refined =
-    record { calls = calls; x = x; m = m; answers = answers; records = records; answer = answer; refined = refined; sheet = [] }
+abbrev pub refused : List Call → ℤ → ℤ → List ℕ → List Record → ℕ → ℕ → ℤ → Case
+refused calls x m answers records number unknown refined =
+    record { calls = calls; x = x; m = m; answers = answers; records = records; number = number; unknown = unknown; refined = refined; sheet = [] }
 
 unfoldable pub table : List Case
 table =
     -- "As printed, accepted."
     asPrinted (printed 1100) (0 ∷ 0 ∷ [])
     -- "X 51: Mr is −1073741800, refused 16."
-    ∷ refused (printed 1100) (pos 51) (pos 5368709) (0 ∷ 0 ∷ []) (level 1000 ∷ level 1100 ∷ []) (Refused 16) (negℤ (pos 1073741800))
+    ∷ refused (printed 1100) (pos 51) (pos 5368709) (0 ∷ 0 ∷ []) (level 1000 ∷ level 1100 ∷ []) 16 0 (negℤ (pos 1073741800))
     -- "M 0: 14."
-    ∷ refused (printed 1100) (pos 50) (pos 0) (0 ∷ 0 ∷ []) (level 1000 ∷ level 1100 ∷ []) (Refused 14) (pos 0)
+    ∷ refused (printed 1100) (pos 50) (pos 0) (0 ∷ 0 ∷ []) (level 1000 ∷ level 1100 ∷ []) 14 0 (pos 0)
     -- "No records: 11, unknown 1."
-    ∷ refused [] (pos 50) (pos 5368709) [] [] (Untied 1) (pos 0)
+    ∷ refused [] (pos 50) (pos 5368709) [] [] 11 1 (pos 0)
     -- "Record 2 replaced by 1200: X 50 is refused 16, X 100 accepted with T 2000000."
-    ∷ refused (printed 1100 ++ replace (pos 2) (level 1200) ∷ []) (pos 50) (pos 5368709) (0 ∷ 0 ∷ 0 ∷ []) (level 1000 ∷ level 1200 ∷ []) (Refused 16) (pos 53687090000)
+    ∷ refused (printed 1100 ++ replace (pos 2) (level 1200) ∷ []) (pos 50) (pos 5368709) (0 ∷ 0 ∷ 0 ∷ []) (level 1000 ∷ level 1200 ∷ []) 16 0 (pos 53687090000)
     ∷ accepted (printed 1100 ++ replace (pos 2) (level 1200) ∷ []) (0 ∷ 0 ∷ 0 ∷ []) 1200 100 0 2000000
     -- "Undo then: X 50 accepted again."
     ∷ asPrinted (printed 1100 ++ replace (pos 2) (level 1200) ∷ undo ∷ []) (0 ∷ 0 ∷ 0 ∷ 0 ∷ [])
     -- "Undo on a new book: 8."
-    ∷ refused (undo ∷ []) (pos 50) (pos 5368709) (8 ∷ []) [] (Untied 1) (pos 0)
+    ∷ refused (undo ∷ []) (pos 50) (pos 5368709) (8 ∷ []) [] 11 1 (pos 0)
     -- "Record 2 as 1276, X 138: both PASS."
     ∷ accepted (printed 1276) (0 ∷ 0 ∷ []) 1276 138 0 3808800
     -- "As 1278, X 139: both FAIL, T 3864200, global PASS."
@@ -129,7 +129,8 @@ table =
       m = pos 3579139;
       answers = 0 ∷ 0 ∷ 0 ∷ [];
       records = level 1000 ∷ level 1100 ∷ level 101000 ∷ [];
-      answer = Accepted;
+      number = 0;
+      unknown = 0;
       refined = negℤ (pos 357913900);
       sheet =
           (pos 3 ∷ pos 1 ∷ []) ++ stationLines 134367 3579139
@@ -147,7 +148,8 @@ table =
       m = pos 3579139;
       answers = 0 ∷ 0 ∷ 0 ∷ [];
       records = level 1000 ∷ level 1100 ∷ baselineWith 99 ∷ [];
-      answer = Accepted;
+      number = 0;
+      unknown = 0;
       refined = pos 357913900;
       sheet =
           (pos 3 ∷ pos 1 ∷ []) ++ stationLines 101033 3579139

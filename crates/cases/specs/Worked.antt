@@ -1,4 +1,5 @@
 -- Each case worked out on the ledger's records, by computation. Assumes nothing.
+use Prim.Native.Nat.{ℕ}
 use mathlib.Core.Path.{_≡_, refl}
 use mathlib.Core.Bool.{Bool, true}
 use mathlib.Core.List.{List, [], _∷_, map}
@@ -22,7 +23,7 @@ use Rattle.chains.specs.Bits.{setOf, setBit, digit, workedOut}
 use Rattle.chains.specs.Scans.{firstFailing}
 use Rattle.acceptance.specs.declared.Answer.{Answer}
 use Rattle.acceptance.specs.Tests.{lengthsFit, correctionsSmall, inverseSmall, defectSmall, residualSmall, refinementSmall}
-use Rattle.acceptance.specs.Judge.{judge, judgeNumbers}
+use Rattle.acceptance.specs.Judge.{numberOf, unknownOf, judge, judgeNumbers}
 use Rattle.acceptance.specs.Exactly.{answer}
 use Rattle.book.specs.Calls.{placesOf, first, placeNo, filledNo, emptyNo, undoNo, unless}
 use Rattle.book.specs.Run.{final, answers}
@@ -40,25 +41,31 @@ use Rattle.cases.specs.Brief.{briefNo, briefAfter, briefAnswers}
 pub record Outcome : Type 0 where
   pub answered : List ℤ
   pub refined : ℤ
-  pub answer : Answer
+  pub number : ℕ
+  pub unknown : ℕ
   pub fits : Bool
   pub sheet : List ℤ
 
 abbrev pub placesIn : Network → Case → List Place
 placesIn net c = placesOf (standing (briefAfter net (rowsOf c) .edits))
 
-unfoldable pub workedOn : Network → List Place → Case → Outcome
-workedOn net places c =
+-- by the check's answer a
+abbrev pub workedBy : Network → List Place → Case → Answer → Outcome
+workedBy net places c a =
     record {
       answered = briefAnswers net (rowsOf c);
       refined = refinedAt net places (xOf c) (mOf c) 0;
-      answer = answer net places (xOf c) (mOf c) true;
+      number = numberOf a;
+      unknown = unknownOf a;
       fits = leb (room net places) enough;
-      sheet = onAcceptance (c .answer) (sheetWords net places (xOf c) (mOf c)) [];
+      sheet = onAcceptance a (sheetWords net places (xOf c) (mOf c)) [];
     }
 
+unfoldable pub workedOn : Network → List Place → Case → Outcome
+workedOn net places c = workedBy net places c (answer net places (xOf c) (mOf c) true)
+
 unfoldable pub expected : Case → Outcome
-expected c = record { answered = map pos (c .answers); refined = c .refined; answer = c .answer; fits = true; sheet = c .sheet }
+expected c = record { answered = map pos (c .answers); refined = c .refined; number = c .number; unknown = c .unknown; fits = true; sheet = c .sheet }
 
 -- ════ every case of the table at once, by computation
 unfoldable pub network : Network
