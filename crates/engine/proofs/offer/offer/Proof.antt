@@ -26,6 +26,9 @@ returns c =
     let s = c .before .before .before .before in
     rw (s .copy .ensures, c .before .copy2 .ensures) (sym (s .before .before .before .before .check .ensures) ∙ s .before .before .enum-told .given .1)
 
+enum-told-2 : tie.Need-enum-told-2
+enum-told-2 c = search needs
+
 returns-2 : tie.Need-returns-2
 returns-2 c = search needs
 
@@ -40,4 +43,5 @@ offer-spec =
     same-length
     same-length-2
     returns
+    enum-told-2
     returns-2)
