@@ -1,42 +1,19 @@
--- An answer by the case that the code has told apart, lent slices of a size that fits, and what is delivered. Assumes nothing.
-use Prim.Native.Nat.{ℕ, _+_, _*_, _/_, _%_, _<_, _≤_}
-use mathlib.Core.Path.{_≡_, sym, ap, _∙_, subst}
+-- Lent slices of a size that fits, and what is delivered. Assumes nothing.
+use Prim.Native.Nat.{ℕ, _*_, _/_, _%_, _≤_}
+use mathlib.Core.Path.{_≡_, sym, ap, _∙_}
 use mathlib.Core.Bool.{Bool, true, _&&_}
 use mathlib.Core.List.{List}
-use native.Mathlib.Nat.{add-zero}
 use native.Mathlib.Omega.{arith}
 use borrow.Author.Tests.{leb-true, eqb-true}
 use lib.Dec.{leb, eqb}
 use lib.ListN.{length}
-use lib.IntN.{pos}
 use Rattle.words.specs.Bools.{and-left, and-right}
-use Rattle.acceptance.specs.Judge.{numberOf, unknownOf}
 use Rattle.acceptance.specs.declared.Answer.{Answer}
-use Rattle.acceptance.specs.declared.Answer.the-variants.{Accepted, Refused, Untied}
+use Rattle.acceptance.specs.declared.Answer.the-variants.{Accepted, Refused}
+use Rattle.acceptance.specs.declared.Refusal.{Refusal}
 use Rattle.book.specs.declared.Book.{Book}
 use Rattle.sheet.specs.Sheet.{room}
-use Rattle.lent_checks.specs.LentChecks.{isWhole, answerWord, onAccepted, sheetFits}
-
--- ════ an answer
-module _ (a : Answer) (h : numberOf a + 256 * unknownOf a < 100000) where
-  pub refused-below : (k : ℕ) → a ≡ Refused k → k < 100000
-  refused-below k e = let g : k + 256 * 0 < 100000 = subst (λ (x : Answer). numberOf x + 256 * unknownOf x < 100000) e h in omega arith
-
-  pub untied-below : (k : ℕ) → a ≡ Untied k → 11 + 256 * k < 100000
-  untied-below k e = subst (λ (x : Answer). numberOf x + 256 * unknownOf x < 100000) e h
-
-module _ (a : Answer) where
-  pub accepted-word : a ≡ Accepted → pos 0 ≡ answerWord a
-  unfolding answerWord
-  accepted-word e = ap answerWord (sym e)
-
-  pub refused-word : (k : ℕ) → a ≡ Refused k → pos k ≡ answerWord a
-  unfolding answerWord
-  refused-word k e = ap pos (sym (add-zero k)) ∙ ap answerWord (sym e)
-
-  pub untied-word : (k : ℕ) → a ≡ Untied k → pos (11 + 256 * k) ≡ answerWord a
-  unfolding answerWord
-  untied-word k e = ap answerWord (sym e)
+use Rattle.lent_checks.specs.LentChecks.{isWhole, onAccepted, sheetFits}
 
 -- ════ lent slices
 pub lengths-fit : (x m : List ℕ) → isWhole x && isWhole m && leb (length x) 384 && leb (length m) 18432 ≡ true → (length x ≤ 384) × (length m ≤ 18432)
@@ -50,13 +27,9 @@ module _ (a : Answer) (new old : List ℕ) where
   unfolding onAccepted
   deliver-accepted o e p = (sym e, p ∙ ap (λ (x : Answer). onAccepted x new old) (sym e))
 
-  pub deliver-refused : (k : ℕ) → a ≡ Refused k → (Refused k ≡ a) × (old ≡ onAccepted a new old)
+  pub deliver-refused : (refusal : Refusal) → a ≡ Refused refusal → (Refused refusal ≡ a) × (old ≡ onAccepted a new old)
   unfolding onAccepted
-  deliver-refused k e = (sym e, ap (λ (x : Answer). onAccepted x new old) (sym e))
-
-  pub deliver-untied : (k : ℕ) → a ≡ Untied k → (Untied k ≡ a) × (old ≡ onAccepted a new old)
-  unfolding onAccepted
-  deliver-untied k e = (sym e, ap (λ (x : Answer). onAccepted x new old) (sym e))
+  deliver-refused refusal e = (sym e, ap (λ (x : Answer). onAccepted x new old) (sym e))
 
 -- the sheet's test, of the number n of words that it takes
 pub sheet-test : (b : Book) (o : List ℕ) (n : ℕ) (t : Bool) → n ≡ room (b .network) (b .places) → t ≡ (eqb (length o % 8) 0 && leb n (length o / 8)) → t ≡ sheetFits b o

@@ -1,7 +1,7 @@
 -- A pair written to lent bytes is checked as it stands. Assumes nothing.
 use Prim.Native.Nat.{ℕ, _+_, _*_, _/_, _%_, _≤_}
 use mathlib.Core.Path.{_≡_, ap, ap₂, _∙_}
-use mathlib.Core.Bool.{Bool, true, cond}
+use mathlib.Core.Bool.{Bool, true, _&&_}
 use mathlib.Core.List.{List}
 use native.Mathlib.Omega.{arith}
 use borrow.Author.Tests.{eq-eqb}
@@ -13,7 +13,7 @@ use Rattle.words.specs.Bools.{and-both}
 use Rattle.words.specs.Runs.{wordsAt, putWords}
 use Rattle.words.specs.RunLaws.{length-run, run-back}
 use Rattle.acceptance.specs.Exactly.{answer}
-use Rattle.acceptance.specs.declared.Answer.the-variants.{Accepted, Refused}
+use Rattle.acceptance.specs.declared.Answer.the-variants.{Accepted}
 use Rattle.book.specs.declared.Book.{Book}
 use Rattle.book.specs.Sound.{Sound}
 use Rattle.checks.specs.Checks.{checked}
@@ -40,6 +40,6 @@ module _ (b : Book) (o : Sound b) (x m : List ℕ) (xs ms : List ℤ) (lx : 8 * 
   made e =
       let fx : (i : ℕ) → SFits w64 (getD xs i (pos 0)) = λ i. fits-by (getD xs i (pos 0)) (solved b o xs ms true e .moved .corrections .bound i) tt in
       let fm : (i : ℕ) → SFits w64 (getD ms i (pos 0)) = λ i. fits-by (getD ms i (pos 0)) (inverse b o xs ms true e .bound i) tt in
-      ap (λ (t : Bool). cond t (checked b (allWords (putWords x 0 xs)) (allWords (putWords m 0 ms)) true) (Refused 10)) (and-both _ _ (filled-whole x xs lx) (filled-whole m ms lm))
+      ap (λ (t : Bool). checked b (allWords (putWords x 0 xs)) (allWords (putWords m 0 ms)) (t && true)) (and-both _ _ (filled-whole x xs lx) (filled-whole m ms lm))
       ∙ ap₂ (λ (y z : List ℤ). checked b y z true) (filled-back x xs lx fx) (filled-back m ms lm fm)
       ∙ checked-is b o xs ms true ∙ e

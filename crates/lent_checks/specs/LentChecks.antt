@@ -1,6 +1,6 @@
 -- The check of a book and lent bytes: x, M and, where one is lent, the sheet. Assumes nothing.
 use Prim.Native.Nat.{ℕ, _+_, _*_, _/_, _%_}
-use mathlib.Core.Bool.{Bool, cond, _&&_}
+use mathlib.Core.Bool.{Bool, _&&_}
 use mathlib.Core.List.{List}
 use lib.Dec.{eqb, leb}
 use lib.ListN.{length}
@@ -8,7 +8,7 @@ use lib.IntN.{ℤ, pos}
 use Rattle.words.specs.Runs.{wordsAt}
 use Rattle.acceptance.specs.Judge.{numberOf, unknownOf}
 use Rattle.acceptance.specs.declared.Answer.{Answer}
-use Rattle.acceptance.specs.declared.Answer.the-variants.{Accepted, Refused, Untied}
+use Rattle.acceptance.specs.declared.Answer.the-variants.{Accepted, Refused}
 use Rattle.book.specs.declared.Book.{Book}
 use Rattle.sheet.specs.Sheet.{room}
 use Rattle.checks.specs.Checks.{checked}
@@ -26,7 +26,7 @@ answerWord a = pos (numberOf a + 256 * unknownOf a)
 
 -- the check of lent x and M: "test 1's lengths count whole words; a length that is not a multiple of 8 fails it"
 unfoldable pub checkedLent : Book → List ℕ → List ℕ → Bool → Answer
-checkedLent b x m room = cond (isWhole x && isWhole m) (checked b (allWords x) (allWords m) room) (Refused 10)
+checkedLent b x m room = checked b (allWords x) (allWords m) (isWhole x && isWhole m && room)
 
 -- ════ with a sheet
 -- "the sheet, where one is lent, has room"
@@ -35,5 +35,4 @@ sheetFits b sheet = isWhole sheet && leb (room (b .network) (b .places)) (length
 
 unfoldable pub onAccepted : Answer → List ℕ → List ℕ → List ℕ
 onAccepted Accepted new old = new
-onAccepted (Refused number) new old = old
-onAccepted (Untied unknown) new old = old
+onAccepted (Refused refusal) new old = old

@@ -1,5 +1,6 @@
 // The check of a book and a lent solution, without and with a lent sheet.
 use acceptance::Answer;
+use acceptance::Refusal;
 use book::Book;
 ghost use mathlib.Core.Path.{_≡_};
 ghost use mathlib.Core.Bool.{true, _&&_};
@@ -18,11 +19,7 @@ pub fn answer_word(a: Answer) -> i64
     requires { ⌜ numberOf a + 256 * unknownOf a < 100000 ⌝ }
     ensures { λ r. ⌜ r ≡ answerWord a ⌝ }
 {
-    match a {
-        Answer::Accepted => 0,
-        Answer::Refused(k) => k as i64,
-        Answer::Untied(k) => (11 + 256 * k) as i64,
-    }
+    (acceptance::number(a) + 256 * acceptance::unknown(a)) as i64
 }
 
 // Room for the corrections and for M of a book with 48 unknowns.
@@ -60,7 +57,7 @@ pub fn check_lent(b: Book, x: &[u8], m: &[u8]) -> Answer
     ensures { λ r. ⌜ (r ≡ checkedLent b (now (x .entry)) (now (m .entry)) true) × (numberOf r + 256 * unknownOf r < 100000) ⌝ }
 {
     if !sizes_fit(x, m) {
-        return Answer::Refused(10);
+        return Answer::Refused(Refusal::Lengths);
     }
     let i = x.len() / 8;
     let j = m.len() / 8;
@@ -86,8 +83,7 @@ fn deliver(a: Answer, out: &mut [u8], w: &[i64]) -> Answer
             words::write_words(out, 0, w);
             Answer::Accepted
         }
-        Answer::Refused(k) => Answer::Refused(k),
-        Answer::Untied(k) => Answer::Untied(k),
+        Answer::Refused(refusal) => Answer::Refused(refusal),
     }
 }
 
@@ -137,13 +133,13 @@ pub fn check_sheet_lent(b: Book, x: &[u8], m: &[u8], out: &mut [u8]) -> Answer
     ensures { λ r. ⌜ now (out .exit) ≡ onAccepted r (putWords (now (out .entry)) 0 (sheetWords (b .network) (b .places) (allWords (now (x .entry))) (allWords (now (m .entry))))) (now (out .entry)) ⌝ }
 {
     if !sizes_fit(x, m) {
-        return Answer::Refused(10);
+        return Answer::Refused(Refusal::Lengths);
     }
     let net = b.network;
     let places = b.places;
     let n = sheet::room_of(net, places);
     if !room_fits(n, out.len()) {
-        return Answer::Refused(10);
+        return Answer::Refused(Refusal::Lengths);
     }
     sheet_lent(b, x, m, out, n)
 }

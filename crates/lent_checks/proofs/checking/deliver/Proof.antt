@@ -1,4 +1,4 @@
-use Rattle.lent_checks.proofs.Answers.{deliver-accepted, deliver-refused, deliver-untied}
+use Rattle.lent_checks.proofs.Answers.{deliver-accepted, deliver-refused}
 use borrow.Author.Needs.{needs}
 use Rattle.lent_checks.proofs.checking.deliver.Statement.{statement}
 use Rattle.lent_checks.proofs.checking.deliver.Tie as tie
@@ -12,9 +12,6 @@ write-words-requires c κs = search needs
 enum-known-a : tie.Need-enum-known-a
 enum-known-a c = search needs
 
-enum-known-a-2 : tie.Need-enum-known-a-2
-enum-known-a-2 c = search needs
-
 same-length : tie.Need-same-length
 same-length c = search needs
 
@@ -26,9 +23,6 @@ returns c =
 returns-2 : tie.Need-returns-2
 returns-2 c = deliver-refused _ _ _ _ (c .before .a .given .1)
 
-returns-3 : tie.Need-returns-3
-returns-3 c = deliver-untied _ _ _ _ (c .before .a2 .given .1)
-
 pub deliver-spec : {M : Type 1} → statement M
 deliver-spec =
     tie.close
@@ -36,8 +30,6 @@ deliver-spec =
     enum-told
     write-words-requires
     enum-known-a
-    enum-known-a-2
     same-length
     returns
-    returns-2
-    returns-3)
+    returns-2)
