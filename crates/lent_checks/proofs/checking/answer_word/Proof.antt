@@ -1,8 +1,5 @@
 -- The number and 256 times the unknown fit a word, as the caller says. Assumes nothing.
-use Prim.Native.Nat.{ℕ, _+_, _*_}
-use mathlib.Core.Path.{_∙_, ap₂}
 use borrow.Author.Needs.{needs}
-use lib.IntN.{pos}
 use mir.Syntax.{w64}
 use mir.Facts.{toZ-ofZ}
 use Rattle.lent_checks.specs.LentChecks.{answerWord}
@@ -26,9 +23,7 @@ cast-result c = search needs
 
 returns : tie.Need-returns
 unfolding answerWord
-returns c =
-    toZ-ofZ {w = w64} {z = pos (c .before .number .result + 256 * c .unknown .result)} (cast-result c)
-    ∙ ap₂ (λ (k u : ℕ). pos (k + 256 * u)) (c .before .number .ensures) (c .unknown .ensures)
+returns c = rw (← c .before .number .ensures, ← c .unknown .ensures) (toZ-ofZ {w = w64} (cast-result c))
 
 pub answer-word-spec : {M : Type 1} → statement M
 answer-word-spec =
