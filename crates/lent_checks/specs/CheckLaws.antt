@@ -41,6 +41,22 @@ test-1 : (b : Book) (x m : List ℤ) (r : Bool) → lengthsFit (n (b .network)) 
 unfolding checked answer judge thenNine
 test-1 b x m r e = rw e
 
+module _ (b : Book) (x m : List ℕ) (r : Bool) where
+  -- a sheet without room
+  pub lent-roomless : r ≡ false → Refused Lengths ≡ checkedLent b x m r
+  unfolding checkedLent lengthsFit
+  lent-roomless e =
+      let k = n (b .network) in
+      test-1 b (allWords x) (allWords m) (isWhole x && isWhole m && r)
+      (and-no-right (eqb (length (allWords x)) k && eqb (length (allWords m)) (k * k)) _ (and-no-right (isWhole x && isWhole m) r e))
+
+  -- whole words
+  pub lent-fit : isWhole x && isWhole m && leb (length x) 384 && leb (length m) 18432 ≡ true → checked b (allWords x) (allWords m) r ≡ checkedLent b x m r
+  unfolding checkedLent
+  lent-fit e =
+      let whole : isWhole x && isWhole m ≡ true = and-left _ _ (and-left (isWhole x && isWhole m && leb (length x) 384) (leb (length m) 18432) e) in
+      ap (λ (t : Bool). checked b (allWords x) (allWords m) (t && r)) (sym whole)
+
 module _ (b : Book) (o : Sound b) (x m : List ℕ) (r : Bool) where
   -- slices that pass it hold whole words, and no more than a book can ask for
   passed : lengthsFit (n (b .network)) (allWords x) (allWords m) (isWhole x && isWhole m && r) ≡ true
@@ -60,21 +76,6 @@ module _ (b : Book) (o : Sound b) (x m : List ℕ) (r : Bool) where
   pub lent-unfit : isWhole x && isWhole m && leb (length x) 384 && leb (length m) 18432 ≡ false → Refused Lengths ≡ checkedLent b x m r
   unfolding checkedLent
   lent-unfit e = test-1 b (allWords x) (allWords m) (isWhole x && isWhole m && r) (⊎-elim (λ t. clash (passed t) e) (λ f. f) (true-or-false _))
-
-  -- a sheet without room
-  pub lent-roomless : r ≡ false → Refused Lengths ≡ checkedLent b x m r
-  unfolding checkedLent lengthsFit
-  lent-roomless e =
-      let k = n (b .network) in
-      test-1 b (allWords x) (allWords m) (isWhole x && isWhole m && r)
-      (and-no-right (eqb (length (allWords x)) k && eqb (length (allWords m)) (k * k)) _ (and-no-right (isWhole x && isWhole m) r e))
-
-  -- whole words
-  pub lent-fit : isWhole x && isWhole m && leb (length x) 384 && leb (length m) 18432 ≡ true → checked b (allWords x) (allWords m) r ≡ checkedLent b x m r
-  unfolding checkedLent
-  lent-fit e =
-      let whole : isWhole x && isWhole m ≡ true = and-left _ _ (and-left (isWhole x && isWhole m && leb (length x) 384) (leb (length m) 18432) e) in
-      ap (λ (t : Bool). checked b (allWords x) (allWords m) (t && r)) (sym whole)
 
   -- ════ how large an answer is
   pub lent-small : numberOf (checkedLent b x m r) + 256 * unknownOf (checkedLent b x m r) < 100000

@@ -74,7 +74,7 @@ returns-2 c =
     let roomm : length m / 8 - 0 ≤ length (q .result) = omega (arith, q .ensures) in
     let lx = length-take-le (length x / 8 - 0) (p .result) roomx ∙ sub-zero (length x / 8) in
     let lm = length-take-le (length m / 8 - 0) (q .result) roomm ∙ sub-zero (length m / 8) in
-    let is = c .before .before .check-words .ensures ∙ ap₂ (λ (i j : ℕ). checked b (wordsAt x 0 i) (wordsAt m 0 j) true) lx lm ∙ lent-fit b (sound-book s) x m true fit in
+    let is = c .before .before .check-words .ensures ∙ ap₂ (λ (i j : ℕ). checked b (wordsAt x 0 i) (wordsAt m 0 j) true) lx lm ∙ lent-fit b x m true fit in
     (is, subst (λ (a : Answer). numberOf a + 256 * unknownOf a < 100000) (sym is) (lent-small b (sound-book s) x m true))
 
 pub check-lent-spec : {M : Type 1} → statement M

@@ -44,7 +44,7 @@ returns-2 c =
     let b = s .args .b in
     let o = now (s .args .out) in
     let none : sheetFits b o ≡ false = sym (sheet-test b o _ _ (c .before .before .room-of .ensures) (c .before .room-fits .ensures)) ∙ not-true _ (c .if2 .taken) in
-    ((lent-roomless b (sound-book s) (now (s .args .x)) (now (s .args .m)) (sheetFits b o) none, omega arith), refl)
+    ((lent-roomless b (now (s .args .x)) (now (s .args .m)) (sheetFits b o) none, omega arith), refl)
 
 sheet-lent-requires : tie.Need-sheet-lent-requires
 sheet-lent-requires c κs =
@@ -64,7 +64,7 @@ returns-3 c =
     let fit = sym (c .before .before .before .before .before .before .before .before .before .before .sizes-fit .ensures) ∙ not-false _ (c .before .before .before .before .before .before .before .before .before .if1 .left) in
     let yes : sheetFits b o ≡ true = sym (sheet-test b o _ _ (c .before .before .before .before .before .before .room-of .ensures) (c .before .before .before .before .before .room-fits .ensures)) ∙ not-false _ (c .before .before .before .before .if2 .left) in
     let e = c .before .before .sheet-lent .ensures in
-    let is = e .0 ∙ ap (checked b (allWords x) (allWords m)) (sym yes) ∙ lent-fit b (sound-book s) x m (sheetFits b o) fit in
+    let is = e .0 ∙ ap (checked b (allWords x) (allWords m)) (sym yes) ∙ lent-fit b x m (sheetFits b o) fit in
     ((is, subst (λ (a : Answer). numberOf a + 256 * unknownOf a < 100000) (sym is) (lent-small b (sound-book s) x m (sheetFits b o))), e .1)
 
 pub check-sheet-lent-spec : {M : Type 1} → statement M
