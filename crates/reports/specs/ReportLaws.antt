@@ -16,15 +16,16 @@ use Rattle.network.specs.declared.Network.{Network}
 use Rattle.network.specs.declared.Place.{Place}
 use Rattle.network.specs.declared.Record.{Record}
 use Rattle.network.specs.declared.Record.the-variants.{Empty, Baseline as baseline, Height as height}
+use Rattle.acceptance.specs.Judge.{numberOf, unknownOf}
 use Rattle.acceptance.specs.declared.Answer.{Answer}
-use Rattle.acceptance.specs.declared.Answer.the-variants.{Accepted, Refused, Untied}
+use Rattle.acceptance.specs.declared.Answer.the-variants.{Accepted, Refused}
+use Rattle.acceptance.specs.declared.Refusal.{Refusal}
 use Rattle.book.specs.declared.Book.{Book}
 use Rattle.sheet.specs.Sheet.{wordsOf, room, sheetWords}
 use Rattle.checks.specs.Checks.{checked, hasRoom, onAcceptance, sheetAfter}
 use Rattle.text.specs.Writing.{Written}
-use Rattle.commands.specs.Messages.{refused, refusedUnknown}
 use Rattle.commands.specs.Sheet.{recordWords, recordStart, globalStart, sheetText}
-use Rattle.reports.specs.Reports.{kindsAt, kindsBelow, kindsOf, answerSays, checkSays, pair, offerSays}
+use Rattle.reports.specs.Reports.{kindsAt, kindsBelow, kindsOf, refusalSays, answerSays, checkSays, pair, offerSays}
 
 -- ════ what was written stands at the front
 pub front : {l : List ℕ} {t : List ℕ} {n : ℕ} {after : List ℕ} → Written l 0 t n after → length t ≤ length l → take n after ≡ t
@@ -114,13 +115,10 @@ module _ (b : Book) (x m w : List ℤ) (long : length w ≡ room (b .network) (b
   unfolding checkSays answerSays
   says-sheet v e q = rw (answered, e, q, words-are e)
 
-  pub says-refused : (k : ℕ) → r ≡ Refused k → refused k ≡ checkSays b x m
+  pub says-refused : (number unknown : ℕ) (refusal : Refusal) → number ≡ numberOf r → unknown ≡ unknownOf r → r ≡ Refused refusal
+      → refusalSays number unknown ≡ checkSays b x m
   unfolding checkSays answerSays
-  says-refused k e = rw (answered, e)
-
-  pub says-untied : (k : ℕ) → r ≡ Untied k → refusedUnknown k ≡ checkSays b x m
-  unfolding checkSays answerSays
-  says-untied k e = rw (answered, e)
+  says-refused number unknown refusal p q e = rw (answered, p, q, e)
 
 -- ════ a proposal
 pub accepted-says : (b : Book) (x m : List ℤ) → checked b x m true ≡ Accepted → checkSays b x m ≡ offerSays b (pair x m)

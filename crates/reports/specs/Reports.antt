@@ -1,15 +1,17 @@
 -- What a check prints, and what the engine's proposal prints. Assumes nothing.
 use Prim.Native.Nat.{ℕ, zero, suc, _≤_}
 use mathlib.Core.Path.{_≡_}
-use mathlib.Core.Bool.{true}
+use mathlib.Core.Bool.{true, cond}
 use mathlib.Core.List.{List, [], _∷_, _++_}
+use lib.Dec.{eqb}
 use lib.IntN.{ℤ}
 use Rattle.network.specs.Records.{recordAt}
 use Rattle.network.specs.declared.Place.{Place}
 use Rattle.network.specs.declared.Record.{Record}
 use Rattle.network.specs.declared.Record.the-variants.{Empty, Baseline as baseline, Height as height}
+use Rattle.acceptance.specs.Judge.{refusalNumber, refusalUnknown}
 use Rattle.acceptance.specs.declared.Answer.{Answer}
-use Rattle.acceptance.specs.declared.Answer.the-variants.{Accepted, Refused, Untied}
+use Rattle.acceptance.specs.declared.Answer.the-variants.{Accepted, Refused}
 use Rattle.book.specs.declared.Book.{Book}
 use Rattle.sheet.specs.Sheet.{sheetWords}
 use Rattle.checks.specs.Checks.{checked}
@@ -36,10 +38,12 @@ abbrev pub sheetOf : Book → List ℤ → List ℤ → List ℕ
 sheetOf b x m = sheetText (sheetWords (b .network) (b .places) x m) (b .network .count) (kindsOf (b .places))
 
 -- ════ a check: "A refused … check prints `REFUSED no`, for 11 also the unknown, and ends"
+unfoldable pub refusalSays : ℕ → ℕ → List ℕ
+refusalSays number unknown = cond (eqb number 11) (refusedUnknown unknown) (refused number)
+
 unfoldable pub answerSays : Answer → List ℕ → List ℕ
 answerSays Accepted sheet = sheet
-answerSays (Refused number) sheet = refused number
-answerSays (Untied unknown) sheet = refusedUnknown unknown
+answerSays (Refused refusal) sheet = refusalSays (refusalNumber refusal) (refusalUnknown refusal)
 
 unfoldable pub checkSays : Book → List ℤ → List ℤ → List ℕ
 checkSays b x m = answerSays (checked b x m true) (sheetOf b x m)

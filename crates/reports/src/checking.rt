@@ -11,7 +11,7 @@ ghost use Rattle.book.specs.Book.{sound};
 ghost use Rattle.sheet.specs.Sheet.{room};
 ghost use Rattle.text.specs.Writing.{Written};
 ghost use Rattle.commands.specs.Sheet.{globalStart, sheetText};
-ghost use Rattle.reports.specs.Reports.{kindsAt, kindsOf, checkSays};
+ghost use Rattle.reports.specs.Reports.{kindsAt, kindsOf, refusalSays, checkSays};
 
 // The kind of a record, after those in `kinds`: 1 a baseline, 2 a height difference; none for an empty place.
 fn put_kind(kinds: &mut [u8], at: usize, r: Record) -> usize
@@ -60,6 +60,18 @@ fn write_words(out: &mut [u8], n: usize, places: [Place; 256], words: &[i64]) ->
     commands::write_sheet(out, words, n, &kinds[0..k])
 }
 
+// A refusal by its number, and for 11 the unknown.
+fn write_refusal(out: &mut [u8], number: u64, unknown: u64) -> usize
+    requires { ⌜ 32188 ≤ length (now out) ⌝ }
+    ensures { λ r. ⌜ Written (now (out .entry)) 0 (refusalSays number unknown) r (now (out .exit)) ⌝ }
+    ensures { λ r. ⌜ r ≤ 32188 ⌝ }
+{
+    if number == 11 {
+        return commands::write_refused_unknown(out, 0, unknown);
+    }
+    commands::write_refused(out, 0, number)
+}
+
 // The check of a pair, printed; it works in `words`, of just the sheet's room.
 fn check_in(out: &mut [u8], book: Book, x: &[i64], m: &[i64], words: &mut [i64]) -> usize
     requires { ⌜ (sound book ≡ true) × (length (now words) ≡ room (book .network) (book .places)) × (32188 ≤ length (now out)) ⌝ }
@@ -71,8 +83,11 @@ fn check_in(out: &mut [u8], book: Book, x: &[i64], m: &[i64], words: &mut [i64])
     let places = book.places;
     match answer {
         Answer::Accepted => write_words(out, net.count, places, words),
-        Answer::Refused(k) => commands::write_refused(out, 0, k),
-        Answer::Untied(k) => commands::write_refused_unknown(out, 0, k),
+        Answer::Refused(_) => write_refusal(
+            out,
+            acceptance::number(answer),
+            acceptance::unknown(answer),
+        ),
     }
 }
 

@@ -5,7 +5,7 @@ use Rattle.network.specs.Filling.{length-mapped}
 use Rattle.network.specs.RuleLaws.{network-few}
 use Rattle.book.specs.Sound.{Sound, sound-parts}
 use Rattle.commands.specs.SheetLaws.{written-as}
-use Rattle.reports.specs.ReportLaws.{kinds-room, says-sheet, says-refused, says-untied}
+use Rattle.reports.specs.ReportLaws.{kinds-room, says-sheet, says-refused}
 use borrow.Author.Needs.{needs}
 use Rattle.reports.proofs.checking.check_in.Statement.{statement}
 use Rattle.reports.proofs.checking.check_in.Tie as tie
@@ -26,17 +26,17 @@ write-words-requires c κs =
     let r = kinds-room (b .network) (b .places) in
     (network-few (b .network) (sound-book s .network), omega (arith, r, s .pre .1, c .before .before .before .before .before .before .before .check-sheet .kept .1 .1 .1 .0), s .pre .2)
 
-enum-known-answer : tie.Need-enum-known-answer
-enum-known-answer c = search needs
+enum-told-2 : tie.Need-enum-told-2
+enum-told-2 c = search needs
 
-write-refused-requires : tie.Need-write-refused-requires
-write-refused-requires c κs = search needs
+number-requires : tie.Need-number-requires
+number-requires c κs = search needs
 
-enum-known-answer-2 : tie.Need-enum-known-answer-2
-enum-known-answer-2 c = search needs
+unknown-requires : tie.Need-unknown-requires
+unknown-requires c κs = search needs
 
-write-refused-unknown-requires : tie.Need-write-refused-unknown-requires
-write-refused-unknown-requires c κs = search needs
+write-refusal-requires : tie.Need-write-refusal-requires
+write-refusal-requires c κs = search needs
 
 same-length : tie.Need-same-length
 same-length c = search needs
@@ -58,21 +58,10 @@ same-length-4 c = search needs
 
 returns-2 : tie.Need-returns-2
 returns-2 c =
-    let s = c .before .before .before .before .before .before .before .before .before .before .before .before .before in
-    let k = c .before .before .before .before .before .before .before .before .before .before .check-sheet in
-    (written-as (says-refused (s .args .book) (now (s .args .x)) (now (s .args .m)) (now (s .args .words)) (s .pre .1) (k .result) (k .ensures .0) _ (c .before .before .before .before .before .answer .given .1)) (c .before .before .write-refused .ensures .0), omega (arith, c .before .before .write-refused .ensures .1))
-
-same-length-5 : tie.Need-same-length-5
-same-length-5 c = search needs
-
-same-length-6 : tie.Need-same-length-6
-same-length-6 c = search needs
-
-returns-3 : tie.Need-returns-3
-returns-3 c =
-    let s = c .before .before .before .before .before .before .before .before .before .before .before .before .before in
-    let k = c .before .before .before .before .before .before .before .before .before .before .check-sheet in
-    (written-as (says-untied (s .args .book) (now (s .args .x)) (now (s .args .m)) (now (s .args .words)) (s .pre .1) (k .result) (k .ensures .0) _ (c .before .before .before .before .before .answer2 .given .1)) (c .before .before .write-refused-unknown .ensures .0), omega (arith, c .before .before .write-refused-unknown .ensures .1))
+    let s = c .before .before .before .before .before .before .before .before .before .before .before .before .before .before in
+    let k = c .before .before .before .before .before .before .before .before .before .before .before .check-sheet in
+    let w = c .before .before .write-refusal .ensures in
+    (written-as (says-refused (s .args .book) (now (s .args .x)) (now (s .args .m)) (now (s .args .words)) (s .pre .1) (k .result) (k .ensures .0) _ _ _ (c .before .before .before .before .number .ensures) (c .before .before .before .unknown .ensures) (c .before .before .before .before .before .before .enum-told2 .given .1)) (w .0), w .1)
 
 pub check-in-spec : {M : Type 1} → statement M
 check-in-spec =
@@ -81,16 +70,13 @@ check-in-spec =
     check-sheet-requires
     enum-told
     write-words-requires
-    enum-known-answer
-    write-refused-requires
-    enum-known-answer-2
-    write-refused-unknown-requires
+    enum-told-2
+    number-requires
+    unknown-requires
+    write-refusal-requires
     same-length
     same-length-2
     returns
     same-length-3
     same-length-4
-    returns-2
-    same-length-5
-    same-length-6
-    returns-3)
+    returns-2)
