@@ -1,5 +1,6 @@
 // Prints the answer to a pair (x, M) at the limits of the tests: wrong lengths, chains that lack a component, numbers at a limit, one beyond it and at the
-// extremes of 64 bits. A line gives the case, then the answer's number and for 11 the unknown; document 01 decides what stands in `stdout`.
+// extremes of 64 bits. A line gives the case, then the answer's number and for 11 the unknown; document 01 decides what stands in `stdout`. Every book here is
+// by the rules, and N and u are those of its records.
 use acceptance::Answer;
 use network::Baseline;
 use network::Level;
@@ -33,20 +34,6 @@ fn all_fit(net: Network, places: [Place; Unit::PLACES]) -> bool
     true
 }
 
-// The answer to x and M; 25 where the network or a record is against the rules.
-fn answer_to(net: Network, places: [Place; Unit::PLACES], x: &[i64], m: &[i64]) -> Answer {
-    if !network::network_fits(net) {
-        return Answer::Refused(25);
-    }
-    if !all_fit(net, places) {
-        return Answer::Refused(25);
-    }
-    let normals = Normals::of(net, places);
-    let matrix = normals.matrix;
-    let right = normals.right;
-    acceptance::accept(net, places, &matrix, &right, x, m, true)
-}
-
 fn print_field(v: i64) {
     io::write_all(1, b" ");
     if words::is_negative(v) {
@@ -75,31 +62,57 @@ fn print_answer(answer: Answer) {
     io::write_all(1, b"\n");
 }
 
-fn height(from: i64, to: i64, up: i64) -> Place {
+// The answer to x and M, unless the network or a record is against the rules.
+fn print_judged(net: Network, places: [Place; Unit::PLACES], x: &[i64], m: &[i64]) {
+    if !network::network_fits(net) {
+        io::write_all(1, b": network against the rules\n");
+        return;
+    }
+    if !all_fit(net, places) {
+        io::write_all(1, b": record against the rules\n");
+        return;
+    }
+    let normals = Normals::of(net, places);
+    let matrix = normals.matrix;
+    let right = normals.right;
+    print_answer(acceptance::accept(net, places, &matrix, &right, x, m, true));
+}
+
+// The same with x and M before it.
+fn print_pair(net: Network, places: [Place; Unit::PLACES], x: &[i64], m: &[i64]) {
+    io::write_all(1, b"X");
+    print_list(x);
+    io::write_all(1, b" M");
+    print_list(m);
+    print_judged(net, places, x, m);
+}
+
+fn height(from: i64, to: i64, up: i64, weight: i64) -> Place {
     let h = Level {
         from: from,
         to: to,
         up: up,
-        weight: 100,
+        weight: weight,
     };
     Place {
         entry: Record::Height(h),
     }
 }
 
-fn baseline(from: i64, to: i64) -> Place {
+// A baseline alike in E, N and U: its differences, its weights, and those between two components.
+fn baseline(from: i64, to: i64, difference: i64, weight: i64, between: i64) -> Place {
     let b = Baseline {
         from: from,
         to: to,
-        east: 0,
-        north: 0,
-        up: 0,
-        ee: 100,
-        en: 0,
-        eu: 0,
-        nn: 100,
-        nu: 0,
-        uu: 100,
+        east: difference,
+        north: difference,
+        up: difference,
+        ee: weight,
+        en: between,
+        eu: between,
+        nn: weight,
+        nu: between,
+        uu: weight,
     };
     Place {
         entry: Record::Baseline(b),
@@ -117,13 +130,9 @@ fn levels(x: &[i64], m: &[i64]) {
     let list = [1, 0, 0, 100000, 3, 0, 0, 101000];
     let net = network::network_of(&list);
     let mut places = nothing();
-    places[0] = height(1, 2, 1000);
-    places[1] = height(1, 2, 1100);
-    io::write_all(1, b"X");
-    print_list(x);
-    io::write_all(1, b" M");
-    print_list(m);
-    print_answer(answer_to(net, places, x, m));
+    places[0] = height(1, 2, 1000, 100);
+    places[1] = height(1, 2, 1100, 100);
+    print_pair(net, places, x, m);
 }
 
 // "lengths are n and n·n": n is 1.
@@ -168,6 +177,116 @@ fn numbers() {
     inverse(5704254);
 }
 
+// Test 5 in one entry: a record of weight 1 makes N 1, and S − M is at the limit.
+fn defect(case: &[u8], m: i64) {
+    let list = [1, 0, 0, 0, 3, 0, 0, 0];
+    let mut places = nothing();
+    places[0] = height(1, 2, 0, 1);
+    io::write_all(1, case);
+    print_pair(network::network_of(&list), places, &[0], &[m]);
+}
+
+// Test 5 in the sizes of a row: two stations with a record of weight 1 each make N the unit matrix. M's first row is S − 2^25 and `m`.
+fn defect_row(case: &[u8], m: i64) {
+    let list = [1, 0, 0, 0, 3, 0, 0, 0, 3, 0, 0, 0];
+    let mut places = nothing();
+    places[0] = height(1, 2, 0, 1);
+    places[1] = height(1, 3, 0, 1);
+    io::write_all(1, case);
+    print_pair(
+        network::network_of(&list),
+        places,
+        &[0, 0],
+        &[1040187392, m, 0, 1073741824],
+    );
+}
+
+// M of the book below: S times the inverse of its N, rounded.
+const INVERSE: [i64; 36] = [
+    5368709,
+    0,
+    0,
+    5368709,
+    0,
+    0,
+    0,
+    5368709,
+    0,
+    0,
+    5368709,
+    0,
+    0,
+    0,
+    5368709,
+    0,
+    0,
+    5368709,
+    5368709,
+    0,
+    0,
+    8186976,
+    -1409063,
+    -1409063,
+    0,
+    5368709,
+    0,
+    -1409063,
+    8186976,
+    -1409063,
+    0,
+    0,
+    5368709,
+    -1409063,
+    -1409063,
+    8186976,
+];
+
+// Test 6: with x 0, r is u. An accepted pair with r at 2^23 takes the heaviest records: 253 between two free stations, and one of weight 1 that brings r to
+// the limit. With misclosures of 1, 27 and 19066 their share of u is 29998·(252·1 + 27) + 19066 = 2^23 − 100 at station 3 and the opposite at station 2, where
+// two ties of weight 100 with misclosures 0 and −1 take 100 off.
+fn residual(case: &[u8], each: i64, other: i64, rest: i64, tie: i64) {
+    let list = [1, 0, 0, 0, 2, 0, 0, 0, 2, 0, 0, 0];
+    let heavy = baseline(2, 3, each, 10000, 9999);
+    let mut places = [heavy; Unit::PLACES];
+    places[0] = baseline(2, 3, other, 10000, 9999);
+    places[1] = baseline(2, 3, rest, 1, 0);
+    places[2] = baseline(1, 2, 0, 100, 0);
+    places[3] = baseline(1, 2, tie, 100, 0);
+    io::write_all(1, case);
+    let m = INVERSE;
+    print_judged(network::network_of(&list), places, &[0; 6], &m);
+}
+
+// Test 7: records of weights 32 and 1 make N 33; the first misclosure and x are 0, so r is the second. 15·2^26 is 30·2^25 and 15·2^26 + 1 is 31·32472031, and
+// S/33 is near both 2^25 and 32472031.
+fn refinement(case: &[u8], second: i64, m: i64) {
+    let list = [1, 0, 0, 0, 3, 0, 0, 0];
+    let mut places = nothing();
+    places[0] = height(1, 2, 0, 32);
+    places[1] = height(1, 2, second, 1);
+    io::write_all(1, case);
+    print_pair(network::network_of(&list), places, &[0], &[m]);
+}
+
+fn sums() {
+    defect(b"S - MN 67108864: ", 1006632960);
+    defect(b"S - MN 67108865: ", 1006632959);
+    defect(b"S - MN -67108864: ", 1140850688);
+    defect(b"S - MN -67108865: ", 1140850689);
+    defect_row(b"S - MN 33554432 -33554432: ", 33554432);
+    defect_row(b"S - MN 33554432 -33554433: ", 33554433);
+    defect_row(b"S - MN 33554432 33554432: ", -33554432);
+    defect_row(b"S - MN 33554432 33554433: ", -33554433);
+    residual(b"r -8388608", 1, 27, 19066, -1);
+    residual(b"r -8388609", 1, 27, 19067, -1);
+    residual(b"r 8388608", -1, -27, -19066, 1);
+    residual(b"r 8388609", -1, -27, -19067, 1);
+    refinement(b"Mr 1006632960: ", 30, 33554432);
+    refinement(b"Mr 1006632961: ", 31, 32472031);
+    refinement(b"Mr -1006632960: ", -30, 33554432);
+    refinement(b"Mr -1006632961: ", -31, 32472031);
+}
+
 // A known, a free and a height station, joined as the flags say; x and M are 0, so that tied stations are refused with 14.
 fn chain(plane: bool, first: bool, second: bool) {
     let list = [1, 0, 0, 0, 2, 0, 0, 0, 3, 0, 0, 0];
@@ -176,22 +295,23 @@ fn chain(plane: bool, first: bool, second: bool) {
     io::write_all(1, b"chain");
     if plane {
         io::write_all(1, b" baseline 1 2");
-        places[7] = baseline(1, 2);
+        places[7] = baseline(1, 2, 0, 100, 0);
     }
     if first {
         io::write_all(1, b" height 1 2");
-        places[255] = height(1, 2, 0);
+        places[255] = height(1, 2, 0, 100);
     }
     if second {
         io::write_all(1, b" height 3 2");
-        places[0] = height(3, 2, 0);
+        places[0] = height(3, 2, 0, 100);
     }
-    print_answer(answer_to(net, places, &[0; 4], &[0; 16]));
+    print_judged(net, places, &[0; 4], &[0; 16]);
 }
 
 fn main() {
     lengths();
     numbers();
+    sums();
     chain(false, false, false);
     chain(false, true, false);
     chain(false, true, true);

@@ -1,4 +1,4 @@
--- `answer_to` asks for an answer only of a network and records by the rules. Assumes nothing.
+-- `print_judged` asks for an answer only of a network and records by the rules. Assumes nothing.
 use mathlib.Core.Path.{_≡_, sym, _∙_}
 use mathlib.Core.Bool.{true}
 use borrow.Author.Needs.{needs}
@@ -8,8 +8,8 @@ use Rattle.network.specs.Stations.{networkFits}
 use Rattle.network.specs.RuleLaws.{network-few, network-coordinates}
 use Rattle.normals.specs.Sound.{Sound}
 use Rattle.acceptance.specs.Exactly.{fit-of}
-use Rattle.acceptance_limits.proofs.answer_to.Statement.{statement}
-use Rattle.acceptance_limits.proofs.answer_to.Tie as tie
+use Rattle.acceptance_limits.proofs.print_judged.Statement.{statement}
+use Rattle.acceptance_limits.proofs.print_judged.Tie as tie
 
 fits : (c : tie.Else1) → networkFits (c .before .before .args .net) ≡ true
 fits c = sym (c .before .network-fits .ensures) ∙ not-false _ (c .if1 .left)
@@ -21,11 +21,23 @@ sound c =
 network-fits-requires : tie.Need-network-fits-requires
 network-fits-requires c κs = search needs
 
+slice-aggregate-write-all : tie.Need-slice-aggregate-write-all
+slice-aggregate-write-all c = search needs
+
+write-all-requires : tie.Need-write-all-requires
+write-all-requires c κs = search needs
+
 returns : tie.Need-returns
 returns c = search needs
 
 all-fit-requires : tie.Need-all-fit-requires
 all-fit-requires c κs = (network-few _ (fits c), network-coordinates _ (fits c))
+
+slice-aggregate-write-all-2 : tie.Need-slice-aggregate-write-all-2
+slice-aggregate-write-all-2 c = search needs
+
+write-all-requires-2 : tie.Need-write-all-requires-2
+write-all-requires-2 c κs = search needs
 
 returns-2 : tie.Need-returns-2
 returns-2 c = search needs
@@ -40,18 +52,26 @@ accept-requires : tie.Need-accept-requires
 accept-requires c κs =
     rw (c .before .before .before .before .of .ensures) (fit-of _ _ (sound (c .before .before .before .before .before)))
 
+print-answer-requires : tie.Need-print-answer-requires
+print-answer-requires c κs = search needs
+
 returns-3 : tie.Need-returns-3
 returns-3 c = search needs
 
-pub answer-to-spec : {M : Type 1} → statement M
-answer-to-spec =
+pub print-judged-spec : {M : Type 1} → statement M
+print-judged-spec =
     tie.close
     (tie.spec
     network-fits-requires
+    slice-aggregate-write-all
+    write-all-requires
     returns
     all-fit-requires
+    slice-aggregate-write-all-2
+    write-all-requires-2
     returns-2
     of-requires
     slice-aggregate-accept
     accept-requires
+    print-answer-requires
     returns-3)
