@@ -1,15 +1,12 @@
 -- What follows from the tests, over any N and u: the correction promise, the column promise, and that rounding to nearest passes tests 5 to 7. Assumes nothing.
-use Prim.Native.Nat.{ℕ, zero, suc, _*_, _^_, _<_, _≤_, max}
-use mathlib.Core.Path.{_≡_, sym, subst}
+use Prim.Native.Nat.{ℕ, _*_, _^_, _<_, _≤_}
+use mathlib.Core.Path.{_≡_, subst}
 use mathlib.Core.Bool.{true}
-use native.Mathlib.Nat.{le-trans, le-max-left, le-max-right}
-use native.Mathlib.Decide.{ℕ-discrete}
-use native.Mathlib.Omega.{arith}
 use borrow.Author.Tests.{leb-true, le-leb}
 use lib.IntN.{ℤ, pos, natAbs, _-ℤ_, _*ℤ_}
 use lib.Signed.{_≤ℤ_, _<ℤ_}
 use Rattle.integers.specs.Sums.{sum, sumN, sumN-swap, δ}
-use Rattle.integers.specs.Inverses.{approx, approx-column, rounded-passes-5, rounded-passes-6, rounded-passes-7}
+use Rattle.integers.specs.Inverses.{largest as largestOf, ≤-largest, approx, approx-column, rounded-passes-5, rounded-passes-6, rounded-passes-7}
 use Rattle.network.specs.All.{all-at, all-by}
 use Rattle.acceptance.specs.Tests.{S, defect, refinement, defectSmall, residualSmall, refinementSmall}
 use Rattle.acceptance.specs.LeftInverse.{left-inverse}
@@ -21,9 +18,8 @@ pub record Solves (n : ℕ) (N : ℕ → ℕ → ℤ) (b y : ℕ → ℤ) (d : �
   pub solves : (i : ℕ) → i < n → sum n (λ j. N i j *ℤ y j) ≡ d *ℤ b i
 
 -- "the largest |z|", of the first n
-unfoldable pub largest : ℕ → (ℕ → ℤ) → ℕ
-largest zero z = 0
-largest (suc n) z = max (largest n z) (natAbs (z n))
+abbrev pub largest : ℕ → (ℕ → ℤ) → ℕ
+largest n z = largestOf n (λ i. natAbs (z i))
 
 -- "x is the exact answer, … rounded to nearest": the answer is y over d
 pub record RoundedAnswer (n : ℕ) (N : ℕ → ℕ → ℤ) (u x : ℕ → ℤ) : Type 0 where
@@ -47,20 +43,12 @@ pub record Moderate (n : ℕ) (N : ℕ → ℕ → ℤ) : Type 0 where
   pub rows : (i : ℕ) → sumN n (λ j. natAbs (N i j)) ≤ 2 ^ 24
   pub whole : sumN n (λ i. sumN n (λ j. natAbs (N i j))) ≤ 2 ^ 27
 
-pub below-largest : (n : ℕ) (z : ℕ → ℤ) (k : ℕ) → k < n → natAbs (z k) ≤ largest n z
-unfolding largest
-below-largest zero z k h = absurd (omega arith)
-below-largest (suc n) z k h = go (below-largest n z k) (ℕ-discrete k n)
-  where
-    go : (k < n → natAbs (z k) ≤ largest n z) → Dec (k ≡ n) → natAbs (z k) ≤ max (largest n z) (natAbs (z n))
-    go ih (yes e) = subst (λ (m : ℕ). natAbs (z m) ≤ max (largest n z) (natAbs (z n))) (sym e) (le-max-right (largest n z) (natAbs (z n)))
-    go ih (no e) = le-trans (ih (omega arith)) (le-max-left (largest n z) (natAbs (z n)))
+-- ════ what tests 5 and 7 bound, row by row
+pub row-sums : (n : ℕ) (N M : ℕ → ℕ → ℤ) → defectSmall n N M ≡ true → (i : ℕ) → i < n → sumN n (λ j. natAbs (defect n N M i j)) ≤ 2 ^ 26
+unfolding defectSmall
+row-sums n N M e i h = leb-true _ _ (all-at n _ i e h)
 
 module _ (n : ℕ) (N M : ℕ → ℕ → ℤ) (u x : ℕ → ℤ) where
-  row-sums : defectSmall n N M ≡ true → (i : ℕ) → i < n → sumN n (λ j. natAbs (defect n N M i j)) ≤ 2 ^ 26
-  unfolding defectSmall
-  row-sums e i h = leb-true _ _ (all-at n _ i e h)
-
   refinements : refinementSmall n N M u x ≡ true → (i : ℕ) → i < n → natAbs (refinement n N M u x i) ≤ 15 * 2 ^ 26
   unfolding refinementSmall
   refinements e i h = leb-true _ _ (all-at n _ i e h)
@@ -68,12 +56,12 @@ module _ (n : ℕ) (N M : ℕ → ℕ → ℤ) (u x : ℕ → ℤ) where
   -- "for all whole y and d > 0 with Ny = du, |y − d·x| ≤ d in each place"
   pub correction : defectSmall n N M ≡ true → refinementSmall n N M u x ≡ true
       → (y : ℕ → ℤ) (d : ℤ) → Solves n N u y d → (i : ℕ) → i < n → pos (natAbs (y i -ℤ d *ℤ x i)) ≤ℤ d
-  correction e f y d s = approx n M N x u y d (s .positive) (s .solves) (row-sums e) (refinements f)
+  correction e f y d s = approx n M N x u y d (s .positive) (s .solves) (row-sums n N M e) (refinements f)
 
   -- "For all whole z and d > 0 with Nz = d times unit column j, 16·|d·M_ij − S·z_i| ≤ S times the largest |z|"
   pub column : defectSmall n N M ≡ true
       → (z : ℕ → ℤ) (d : ℤ) (j : ℕ) → j < n → Solves n N (λ k. δ k j) z d → (i : ℕ) → i < n → 16 * natAbs (d *ℤ M i j -ℤ S *ℤ z i) ≤ 2 ^ 30 * largest n z
-  column e z d j lj s i li = approx-column n M N z d j lj (s .solves) (largest n z) (below-largest n z) i li (row-sums e i li)
+  column e z d j lj s i li = approx-column n M N z d j lj (s .solves) (largest n z) (≤-largest n (λ k. natAbs (z k))) i li (row-sums n N M e i li)
 
   -- "if x is the exact answer, and M is S times the exact inverse, both rounded to nearest, … then 5 to 7 hold"
   pub rounded-defect : Moderate n N → RoundedInverse n N M → defectSmall n N M ≡ true
@@ -91,4 +79,4 @@ module _ (n : ℕ) (N M : ℕ → ℕ → ℤ) (u x : ℕ → ℤ) where
 
   pub rounded-refinement : defectSmall n N M ≡ true → RoundedAnswer n N u x → refinementSmall n N M u x ≡ true
   unfolding refinementSmall
-  rounded-refinement e r = all-by n _ (λ i l. le-leb _ _ (rounded-passes-7 n M N x u (r .y) (r .d) (r .positive) i l (r .solves) (r .nearest) (row-sums e i l)))
+  rounded-refinement e r = all-by n _ (λ i l. le-leb _ _ (rounded-passes-7 n M N x u (r .y) (r .d) (r .positive) i l (r .solves) (r .nearest) (row-sums n N M e i l)))

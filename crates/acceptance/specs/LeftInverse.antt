@@ -1,23 +1,18 @@
 -- A right inverse of a symmetric matrix is a left inverse. Assumes nothing.
-use Prim.Native.Nat.{ℕ, zero, suc, _*_, _<_, _≤_}
-use mathlib.Core.Path.{_≡_, refl, sym, ap, _∙_}
+use Prim.Native.Nat.{ℕ, _*_, _<_, _≤_}
+use mathlib.Core.Path.{_≡_, sym, ap, _∙_}
 use mathlib.Core.List.{[], _∷_}
 use native.Mathlib.Nat.{le-of-mul-le-mul-left}
 use native.Mathlib.Omega.{arith}
-use lib.IntN.{ℤ, pos, negsuc, natAbs, _-ℤ_, _*ℤ_, *ℤ-comm}
+use lib.IntN.{ℤ, pos, natAbs, _-ℤ_, _*ℤ_, *ℤ-comm}
 use Rattle.integers.specs.Laws.{*ℤ-distl-, -ℤ-zero-eq, -ℤ-self}
 use Rattle.integers.specs.Solvers.{ring, shapes}
-use Rattle.integers.specs.Bounds.{abs-*}
+use Rattle.integers.specs.Bounds.{abs-*, abs-zero}
 use Rattle.integers.specs.Sums.{sum, sum-ext, sum-*l, sum-δ, δ, δ-sym, mat-assoc}
-
-size-zero : (z : ℤ) → natAbs z ≤ 0 → z ≡ pos 0
-size-zero (pos zero) h = refl
-size-zero (pos (suc k)) h = absurd (omega arith)
-size-zero (negsuc k) h = absurd (omega arith)
 
 -- a positive factor is taken off both sides
 pub cancel : (D : ℕ) (a b : ℤ) → 0 < D → pos D *ℤ a ≡ pos D *ℤ b → a ≡ b
-cancel D a b p e = -ℤ-zero-eq a b (size-zero (a -ℤ b) (le-of-mul-le-mul-left {k = D} none p))
+cancel D a b p e = -ℤ-zero-eq a b (abs-zero (a -ℤ b) (le-of-mul-le-mul-left {k = D} none p))
   where
     none : D * natAbs (a -ℤ b) ≤ D * 0
     none =

@@ -4,5 +4,7 @@ pub mod Judge
 pub mod JudgeLaws
 pub mod LeftInverse
 pub mod Follows
+pub mod Kernel
+pub mod Exact
 pub mod Exactly
 pub mod Promises
