@@ -2,6 +2,7 @@ pub mod All
 pub mod Filling
 pub mod Stored
 pub mod Sizes
+pub mod Units
 pub mod Stations
 pub mod StationLaws
 pub mod ComponentLaws

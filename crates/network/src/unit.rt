@@ -1,11 +1,15 @@
 // The unit of lengths, 0.01 mm, with what document 01 gives in it: the scale of weights, and the limits of stations and records.
+ghost use mathlib.Core.Path.{_≡_};
+ghost use lib.IntN.{pos};
+ghost use Rattle.network.specs.Units.{weightOf};
+
 pub struct Unit {}
 
 impl Unit {
     // Units in a millimetre.
-    pub const MILLIMETRE: i64 = 100;
+    pub const MILLIMETRE: u64 = 100;
     // The standard deviation that weight 1 means: 10 mm, in units.
-    pub const DEVIATION_AT_WEIGHT_ONE: i64 = 1_000;
+    pub const DEVIATION_AT_WEIGHT_ONE: u64 = 1_000;
     // The weight of a standard deviation of 1 mm.
     pub const WEIGHT_AT_MILLIMETRE: i64 = 100;
 
@@ -30,4 +34,19 @@ impl Unit {
     pub const OFF_DIAGONAL: u64 = 10_000;
     // How many times the determinant a diagonal entry of the adjugate may be.
     pub const ADJUGATE_FACTOR: i64 = 16;
+
+    // The weight of a standard deviation in units: the whole number nearest to 1,000² over its square. 0, which no record takes, of 0 and of more than 14.14 mm.
+    pub fn weight_of(deviation: u64) -> i64
+        ensures { λ r. ⌜ r ≡ pos (weightOf deviation) ⌝ }
+    {
+        let one = Unit::DEVIATION_AT_WEIGHT_ONE;
+        if deviation == 0 {
+            return 0;
+        }
+        if deviation > 2 * one {
+            return 0;
+        }
+        let square = deviation * deviation;
+        ((2 * one * one + square) / (2 * square)) as i64
+    }
 }

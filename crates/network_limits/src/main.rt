@@ -1,9 +1,11 @@
-// Prints the refusal number at each limit of refusals 1 and 3 to 6: at it, one short of it and one beyond it, of both signs, and the extremes of 64 bits.
+// Prints the refusal number at each limit of refusals 1 and 3 to 6: at it, one short of it and one beyond it, of both signs, and the extremes of 64 bits; then the weights of standard
+// deviations, about the largest and the smallest weight.
 // A line gives the case and then the number; document 01 decides what stands in `stdout`.
 use network::Baseline;
 use network::Level;
 use network::Network;
 use network::Record;
+use network::Unit;
 
 fn print_field(v: i64) {
     io::write_all(1, b" ");
@@ -534,6 +536,42 @@ fn height_orders() {
     height(1, 3, 0, 100);
 }
 
+// ---- the scale of weights
+
+// The weight of a standard deviation in units.
+fn weight(deviation: u64) {
+    io::write_all(1, b"deviation ");
+    io::print_decimal(1, deviation);
+    io::write_all(1, b":");
+    print_field(Unit::weight_of(deviation));
+    io::write_all(1, b"\n");
+}
+
+// "Weight 1 means a standard deviation of 10 mm (1,000 units); 1 mm is weight 100": proved of the constants.
+fn named_weights() {
+    let ten = Unit::weight_of(Unit::DEVIATION_AT_WEIGHT_ONE);
+    check::expect(words::same(ten, 1));
+    let one = Unit::weight_of(Unit::MILLIMETRE);
+    check::expect(words::same(one, Unit::WEIGHT_AT_MILLIMETRE));
+}
+
+fn deviations() {
+    weight(0);
+    weight(1);
+    // the largest weight that a record takes
+    weight(9);
+    weight(10);
+    weight(11);
+    weight(Unit::MILLIMETRE);
+    weight(Unit::DEVIATION_AT_WEIGHT_ONE);
+    // the smallest
+    weight(1414);
+    weight(1415);
+    weight(2000);
+    weight(2001);
+    weight(18446744073709551615);
+}
+
 fn main() {
     lists();
     kinds();
@@ -553,4 +591,6 @@ fn main() {
     height_weights();
     height_misclosures();
     height_orders();
+    named_weights();
+    deviations();
 }

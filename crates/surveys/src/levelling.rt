@@ -1,5 +1,5 @@
 // The levelling of source document 003 (its Tables 1 and 2) by l − ε = x_to − x_from, the form of document 004, which prints no levelled figures. Mark 22, station 2, is held.
-// Unit 0.1 mm, so a standard deviation of 10 mm is weight 100.
+// Unit 0.1 mm, so a standard deviation of 10 mm, 100 units, is weight 100.
 use super::printing::lines_beside;
 use super::printing::text;
 use super::records::book_of;
@@ -10,15 +10,15 @@ fn book() -> Book {
     book_of(
         b"stations 3 0 0 1037000 1 0 0 1042000 3 0 0 1041000 3 0 0 1036000 3 0 0 1028000",
         b"H 1 1 2 5060 100
-H 2 2 3 -450 83
-H 3 3 5 -13200 83
-H 4 4 1 1120 83
-H 5 5 4 7540 44
+H 2 2 3 -450 110
+H 3 3 5 -13200 110
+H 4 4 1 1120 110
+H 5 5 4 7540 150
 H 6 2 1 -5060 100
-H 7 3 2 420 83
-H 8 5 3 13180 83
-H 9 1 4 -1120 83
-H 10 4 5 -7400 44
+H 7 3 2 420 110
+H 8 5 3 13180 110
+H 9 1 4 -1120 110
+H 10 4 5 -7400 150
 ",
     )
 }

@@ -1,4 +1,4 @@
-// A book from text: the stations as numbers after a word, the records line by line as the program `adjust` reads them.
+// A book from text: the stations as numbers after a word, the records line by line as the program `adjust` reads them, but a height difference with its standard deviation.
 use super::lines::line_end;
 use super::lines::numbers_of;
 use super::printing::text;
@@ -6,6 +6,7 @@ use book::Book;
 use network::Baseline;
 use network::Level;
 use network::Record;
+use network::Unit;
 
 // An opening or an edit that was refused, by its number.
 fn refused(number: u64) {
@@ -47,7 +48,7 @@ fn level(f: &[i64; 12]) -> Record {
         from: f[1],
         to: f[2],
         up: f[3],
-        weight: f[4],
+        weight: Unit::weight_of(words::size(f[4])),
     })
 }
 
