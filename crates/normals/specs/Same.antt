@@ -5,6 +5,8 @@ use mathlib.Core.Bool.{Bool, true, false, _&&_}
 use mathlib.Core.List.{List}
 use native.Mathlib.Omega.{arith}
 use native.Mathlib.Numerals.{add-one}
+use borrow.Author.Tests.{eq-eqb, ne-eqb}
+use lib.Dec.{eqb}
 use lib.ListN.{length, getD}
 use lib.Seq.{ext-getD}
 use lib.IntN.{ℤ, pos}
@@ -18,6 +20,10 @@ use Rattle.normals.specs.Entries.{Sized}
 -- the first n entries of two lists
 abbrev pub sameEntries : ℕ → List ℤ → List ℤ → Bool
 sameEntries n a b = allBelow n (λ k. eqZ (getD a k (pos 0)) (getD b k (pos 0)))
+
+-- two lists
+unfoldable pub sameList : List ℤ → List ℤ → Bool
+sameList a b = eqb (length a) (length b) && sameEntries (length a) a b
 
 unfoldable pub sameNormals : Normals → Normals → Bool
 sameNormals x y = sameEntries 2304 (x .matrix) (y .matrix) && sameEntries 48 (x .right) (y .right)
@@ -39,6 +45,15 @@ same-equal x y g h e =
 pub equal-same : (x y : Normals) → x ≡ y → sameNormals x y ≡ true
 unfolding sameNormals
 equal-same x y e = and-both _ _ (list-same 2304 _ _ (ap (λ (z : Normals). z .matrix) e)) (list-same 48 _ _ (ap (λ (z : Normals). z .right) e))
+
+-- ════ two lists, by their lengths
+pub same-long : (a b : List ℤ) → length a ≡ length b → sameList a b ≡ sameEntries (length a) a b
+unfolding sameList
+same-long a b e = rw (eq-eqb (length a) (length b) e)
+
+pub not-long : (a b : List ℤ) → (length a ≡ length b → ⊥) → sameList a b ≡ false
+unfolding sameList
+not-long a b h = rw (ne-eqb (length a) (length b) h)
 
 -- ════ a loop over the entries
 module _ (a b : List ℤ) where

@@ -1,12 +1,14 @@
 // Two lists of entries compared.
 ghost use mathlib.Core.Path.{_≡_};
-ghost use lib.ListN.{length};
-ghost use Rattle.normals.specs.Same.{sameEntries};
+ghost use Rattle.normals.specs.Same.{sameList};
 
+// Whether the lists are equal.
 pub fn same_entries(a: &[i64], b: &[i64]) -> bool
-    requires { ⌜ length (now a) ≡ length (now b) ⌝ }
-    ensures { λ r. ⌜ r ≡ sameEntries (length (now (a .entry))) (now (a .entry)) (now (b .entry)) ⌝ }
+    ensures { λ r. ⌜ r ≡ sameList (now (a .entry)) (now (b .entry)) ⌝ }
 {
+    if a.len() != b.len() {
+        return false;
+    }
     let mut i = 0;
     while i < a.len() {
         if !words::same(a[i], b[i]) {

@@ -1,5 +1,6 @@
 -- `record_laid` tests the words of a record. Assumes nothing.
 use mathlib.Core.Path.{_∙_}
+use Rattle.normals.specs.Same.{same-long}
 use Rattle.layout.proofs.Parts.{laid-is}
 use borrow.Author.Needs.{needs}
 use Rattle.layout.proofs.laid.record_laid.Statement.{statement}
@@ -32,7 +33,7 @@ returns c =
     let r = v .before in
     let a = r .before .before in
     let s = a .before .before in
-    c .same-entries .ensures ∙ laid-is (s .args .s .now) (s .args .k) (s .pre .1) _ _ _ (a .record-at .ensures) (r .record-in .ensures) (v .record-words .ensures)
+    c .same-entries .ensures ∙ same-long _ _ (search needs) ∙ laid-is (s .args .s .now) (s .args .k) (s .pre .1) _ _ _ (a .record-at .ensures) (r .record-in .ensures) (v .record-words .ensures)
 
 pub record-laid-spec : {M : Type 1} → statement M
 record-laid-spec =

@@ -5,6 +5,7 @@ use mathlib.Core.Bool.{true}
 use native.Mathlib.Omega.{arith}
 use borrow.Author.Tests.{not-true, not-false}
 use Rattle.network.specs.All.{allBelow, all-none, all-more, all-done, all-fails}
+use Rattle.normals.specs.Same.{same-long}
 use Rattle.layout.specs.Laid.{stationLaid}
 use Rattle.layout.specs.Bytes.{wordsOf}
 use Rattle.layout.proofs.Parts.{station-is}
@@ -31,6 +32,7 @@ tested c =
     let k = i .before .loop .k in
     let n : k * 4 + 4 - k * 4 ≡ 4 = omega arith in
     c .same-entries .ensures
+    ∙ same-long _ _ (search needs)
     ∙ station-is (start i .args .s .now) k (omega arith) (l .before .before .network-in .result) (l .stations-at .result) _ (v .station-part .result) (k * 4 + 4 - k * 4)
     (l .before .before .network-in .ensures) (l .stations-at .ensures) refl n (search needs) (v .station-part .ensures)
 

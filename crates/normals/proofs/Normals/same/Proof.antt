@@ -4,7 +4,7 @@ use mathlib.Core.Path.{ap, ap₂, _∙_}
 use mathlib.Core.Bool.{_&&_}
 use Prim.Native.Nat.{ℕ}
 use Rattle.normals.specs.Entries.{Sized}
-use Rattle.normals.specs.Same.{sameEntries, sameNormals}
+use Rattle.normals.specs.Same.{sameEntries, sameNormals, same-long}
 use Rattle.normals.proofs.Normals.same.Statement.{statement}
 use Rattle.normals.proofs.Normals.same.Tie as tie
 
@@ -26,8 +26,8 @@ returns c =
     let x = s .args .t1 in
     let y = s .args .t2 in
     ap₂ _&&_
-    (f .same-entries .ensures ∙ ap (λ (n : ℕ). sameEntries n (x .matrix) (y .matrix)) (self-sized s .matrix))
-    (c .same-entries2 .ensures ∙ ap (λ (n : ℕ). sameEntries n (x .right) (y .right)) (self-sized s .right))
+    (f .same-entries .ensures ∙ same-long (x .matrix) (y .matrix) (search needs) ∙ ap (λ (n : ℕ). sameEntries n (x .matrix) (y .matrix)) (self-sized s .matrix))
+    (c .same-entries2 .ensures ∙ same-long (x .right) (y .right) (search needs) ∙ ap (λ (n : ℕ). sameEntries n (x .right) (y .right)) (self-sized s .right))
 
 pub same-spec : {M : Type 1} → statement M
 same-spec = tie.close (tie.spec same-entries-requires same-entries-requires-2 returns)

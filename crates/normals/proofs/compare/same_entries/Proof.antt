@@ -1,4 +1,4 @@
--- `same_entries` compares two lists of one length. The loop's invariant: the entries passed are equal. Assumes nothing.
+-- `same_entries` compares the lengths, and then the entries. The loop's invariant: the entries passed are equal. Assumes nothing.
 use borrow.Author.Needs.{needs}
 use native.Mathlib.Omega.{arith}
 use Prim.Native.Nat.{ℕ, _-_, _<_, _≤_}
@@ -10,12 +10,9 @@ use lib.IntN.{pos}
 use mir.Syntax.{w64}
 use mir.ValLaws.{toZ-ofZ}
 use Rattle.words.specs.Signed.{eqZ}
-use Rattle.normals.specs.Same.{sameEntries, same-none, same-more, same-not}
+use Rattle.normals.specs.Same.{sameEntries, same-long, not-long, same-none, same-more, same-not}
 use Rattle.normals.proofs.compare.same_entries.Statement.{statement}
 use Rattle.normals.proofs.compare.same_entries.Tie as tie
-use Rattle.normals.proofs.compare.same_entries.Reads as reads
-use Rattle.normals.proofs.compare.same_entries.Lts as lts
-use Rattle.words.proofs.same.Reads as same-reads
 
 abbrev Inv-loop : tie.InvT-loop
 Inv-loop a b i₀ i = (i ≤ length a) × (sameEntries i a b ≡ true)
@@ -23,17 +20,29 @@ Inv-loop a b i₀ i = (i ≤ length a) × (sameEntries i a b ≡ true)
 abbrev μ-loop : tie.MeasureT-loop
 μ-loop a b i₀ i = length a - i
 
+abbrev start : tie.At-loop Inv-loop μ-loop → tie.Start Inv-loop μ-loop
+start l = l .before .before
+
 -- what the test of the entries at i told
 compared : (c : tie.After-same Inv-loop μ-loop)
     → c .same .result
-    ≡ eqZ (getD (c .before .before .before .before .before .args .a .now) (c .before .before .before .before .loop .i) (pos 0))
-    (getD (c .before .before .before .before .before .args .b .now) (c .before .before .before .before .loop .i) (pos 0))
+    ≡ eqZ (getD (start (c .before .before .before .before) .args .a .now) (c .before .before .before .before .loop .i) (pos 0))
+    (getD (start (c .before .before .before .before) .args .b .now) (c .before .before .before .before .loop .i) (pos 0))
 compared c =
+    let l = c .before .before .before .before in
     c .same .ensures
-    ∙ ap₂ eqZ (toZ-ofZ w64 (getD (c .before .before .before .before .before .args .a .now) (c .before .before .before .before .loop .i) (pos 0)) (record { sfits = c .before .before .same-arg .given })) (toZ-ofZ w64 (getD (c .before .before .before .before .before .args .b .now) (c .before .before .before .before .loop .i) (pos 0)) (record { sfits = c .before .same-arg2 .given }))
+    ∙ ap₂ eqZ (toZ-ofZ w64 (getD (start l .args .a .now) (l .loop .i) (pos 0)) (record { sfits = c .before .before .same-arg .given }))
+    (toZ-ofZ w64 (getD (start l .args .b .now) (l .loop .i) (pos 0)) (record { sfits = c .before .same-arg2 .given }))
+
+-- past the first test the lists are as long as each other
+long : (c : tie.Else1 Inv-loop μ-loop) → length (c .before .args .a .now) ≡ length (c .before .args .b .now)
+long c = omega arith
+
+returns : tie.Need-returns Inv-loop μ-loop
+returns c = sym (not-long (c .before .args .a .now) (c .before .args .b .now) (λ e. omega arith))
 
 loop-holds : tie.Need-loop-holds Inv-loop μ-loop
-loop-holds c = (search needs, same-none (c .args .a .now) (c .args .b .now))
+loop-holds c = (search needs, same-none (c .before .args .a .now) (c .before .args .b .now))
 
 mul-same : tie.Need-mul-same Inv-loop μ-loop
 mul-same c = search needs
@@ -50,12 +59,13 @@ shared-slice-copy-out-same-2 c = search needs
 same-requires : tie.Need-same-requires Inv-loop μ-loop
 same-requires c κs = search needs
 
-returns : tie.Need-returns Inv-loop μ-loop
-returns c =
-    let s = c .before .before .before .before .before .before in
-    let i = c .before .before .before .before .before .loop .i in
-    let h : i < length (s .args .a .now) = omega arith in
-    sym (same-not (s .args .a .now) (s .args .b .now) (length (s .args .a .now)) i h (sym (compared (c .before)) ∙ not-true _ (c .if1 .taken)))
+returns-2 : tie.Need-returns-2 Inv-loop μ-loop
+returns-2 c =
+    let l = c .before .before .before .before .before in
+    let a = start l .args .a .now in
+    let b = start l .args .b .now in
+    let h : l .loop .i < length a = omega arith in
+    sym (same-long a b (long (l .before)) ∙ same-not a b (length a) (l .loop .i) h (sym (compared (c .before)) ∙ not-true _ (c .if2 .taken)))
 
 add-i : tie.Need-add-i Inv-loop μ-loop
 add-i c = search needs
@@ -65,16 +75,16 @@ loop-less c = search needs
 
 loop-again : tie.Need-loop-again Inv-loop μ-loop
 loop-again c =
-    let s = c .before .before .before .before .before .before in
-    let l = c .before .before .before .before .before .loop in
-    (search needs, same-more (s .args .a .now) (s .args .b .now) (l .i) (l .inv .1) (sym (compared (c .before)) ∙ not-false _ (c .if1 .left)))
+    let l = c .before .before .before .before .before in
+    (search needs, same-more (start l .args .a .now) (start l .args .b .now) (l .loop .i) (l .loop .inv .1) (sym (compared (c .before)) ∙ not-false _ (c .if2 .left)))
 
-returns-2 : tie.Need-returns-2 Inv-loop μ-loop
-returns-2 c =
-    let s = c .before .before in
-    let l = c .before .loop in
-    let e : length (s .args .a .now) ≡ l .i = omega arith in
-    sym (ap (λ (n : ℕ). sameEntries n (s .args .a .now) (s .args .b .now)) e ∙ l .inv .1)
+returns-3 : tie.Need-returns-3 Inv-loop μ-loop
+returns-3 c =
+    let l = c .before in
+    let a = start l .args .a .now in
+    let b = start l .args .b .now in
+    let e : length a ≡ l .loop .i = omega arith in
+    sym (same-long a b (long (l .before)) ∙ ap (λ (n : ℕ). sameEntries n a b) e ∙ l .loop .inv .1)
 
 pub same-entries-spec : {M : Type 1} → statement M
 same-entries-spec =
@@ -82,14 +92,15 @@ same-entries-spec =
     (tie.spec
     Inv-loop
     μ-loop
+    returns
     loop-holds
     mul-same
     shared-slice-copy-out-same
     mul-same-2
     shared-slice-copy-out-same-2
     same-requires
-    returns
+    returns-2
     add-i
     loop-less
     loop-again
-    returns-2)
+    returns-3)
