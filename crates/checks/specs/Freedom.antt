@@ -1,0 +1,103 @@
+-- "Degrees of freedom D = 3 per baseline + 1 per height difference − n" are not negative where test 5 holds: there are at least as many observations as unknowns. Assumes nothing.
+-- Were there fewer, some z that is not 0 would have Az = 0, so Nz = AᵀPAz = 0: but test 5 makes N regular.
+use Prim.Native.Nat.{ℕ, zero, suc, _+_, _*_, _/_, _%_, _<_, _≤_}
+use mathlib.Core.Path.{_≡_, refl, sym, ap, ap₂, _∙_, subst}
+use mathlib.Core.Bool.{Bool, true, false, cond}
+use mathlib.Core.List.{List}
+use native.Mathlib.Decide.{decLt}
+use native.Mathlib.Omega.{arith}
+use lib.IntN.{ℤ, pos, _*ℤ_, *ℤ-zero, *ℤ-comm}
+use lib.Signed.{_≤ℤ_}
+use Rattle.integers.specs.Order.{≤ℤ-sub, pos-mono}
+use Rattle.integers.specs.Sums.{sum, sumN, sum-ext, sum-0, sum-*r, sum-swap, mat-assoc, sumN-ext}
+use Rattle.integers.specs.Dependence.{Dependent, dependent-within}
+use Rattle.network.specs.Stations.{unknownCount}
+use Rattle.network.specs.Records.{acts, recordAt}
+use Rattle.network.specs.declared.Station.{Station}
+use Rattle.network.specs.declared.Place.{Place}
+use Rattle.network.specs.declared.Record.{Record}
+use Rattle.network.specs.declared.Record.the-variants.{Empty, Baseline as baseline, Height as height}
+use Rattle.normals.specs.Formulas.{entryN}
+use Rattle.normals.specs.Acting.{A-not-acting}
+use Rattle.normals.specs.WholeMatrices.{rowA, blockP, N-whole}
+use Rattle.acceptance.specs.Tests.{defectSmall}
+use Rattle.acceptance.specs.Kernel.{kernel}
+use Rattle.sheet.specs.Residuals.{observations, D}
+
+-- ════ a record's observations are the components it acts in
+abbrev observes : Record → ℕ → ℕ
+observes r a = cond (acts a r) 1 0
+
+observed : (r : Record) → sumN 3 (observes r) ≡ observations r
+unfolding acts observations sumN
+observed Empty = refl
+observed (baseline b) = refl
+observed (height h) = refl
+
+not-observed : (b : Bool) → _≡_ {A = ℕ} (cond b 1 0) 0 → b ≡ false
+not-observed true e = absurd (omega arith)
+not-observed false e = refl
+
+-- a sum over rows, place by place
+sumN-blocks : (n : ℕ) (f : ℕ → ℕ → ℕ) → sumN (n * 3) (λ k. f (k / 3) (k % 3)) ≡ sumN n (λ p. sumN 3 (f p))
+unfolding sumN
+sumN-blocks zero f = refl
+sumN-blocks (suc n) f =
+    let e : suc n * 3 ≡ suc (suc (suc (n * 3))) = omega arith in
+    ap (λ (m : ℕ). sumN m (λ k. f (k / 3) (k % 3))) e
+    ∙ omega (arith, sumN-blocks n f, row 0 (n * 3) (omega arith) (omega arith), row 1 (suc (n * 3)) (omega arith) (omega arith), row 2 (suc (suc (n * 3))) (omega arith) (omega arith))
+  where
+    row : (a k : ℕ) → k ≡ n * 3 + a → a < 3 → f (k / 3) (k % 3) ≡ f n a
+    row a k e h = ap₂ f (omega arith) (omega arith)
+
+module _ (st : List Station) (places : List Place) where
+  -- row k of A is an observation's
+  abbrev counted : ℕ → ℕ
+  counted k = observes (recordAt places (k / 3)) (k % 3)
+
+  all-counted : sumN 768 counted ≡ sumN 256 (λ p. observations (recordAt places p))
+  all-counted = sumN-blocks 256 (λ p a. observes (recordAt places p) a) ∙ sumN-ext 256 (λ p h. observed (recordAt places p))
+
+  -- Nz = AᵀP(Az)
+  N-zero : (n : ℕ) (z : ℕ → ℤ) → ((k : ℕ) → k < 768 → sum n (λ j. rowA st places k j *ℤ z j) ≡ pos 0) → (i : ℕ) → sum n (λ j. entryN st places i j *ℤ z j) ≡ pos 0
+  N-zero n z h i =
+      sum-ext n (λ j l. ap (λ (y : ℤ). y *ℤ z j) (by-rows j))
+      ∙ sym (mat-assoc 768 n weighted (rowA st places) z i)
+      ∙ sum-ext 768 (λ m q. ap (λ (y : ℤ). weighted i m *ℤ y) (h m q) ∙ *ℤ-zero (weighted i m))
+      ∙ sum-0 768
+    where
+      -- AᵀP
+      weighted : ℕ → ℕ → ℤ
+      weighted i m = sum 768 (λ k. rowA st places k i *ℤ blockP places k m)
+
+      by-rows : (j : ℕ) → entryN st places i j ≡ sum 768 (λ m. weighted i m *ℤ rowA st places m j)
+      by-rows j =
+          N-whole st places i j
+          ∙ sum-swap 768 768 (λ k m. rowA st places k i *ℤ blockP places k m *ℤ rowA st places m j)
+          ∙ sum-ext 768 (λ m q. sum-*r 768 (rowA st places m j) (λ k. rowA st places k i *ℤ blockP places k m))
+
+  module _ (M : ℕ → ℕ → ℤ) (five : defectSmall (unknownCount st) (entryN st places) M ≡ true) where
+    pub observations-enough : unknownCount st ≤ sumN 256 (λ p. observations (recordAt places p))
+    observations-enough = go (decLt (sumN 256 (λ p. observations (recordAt places p))) n)
+      where
+        n : ℕ
+        n = unknownCount st
+
+        some : sumN 768 counted < n → Dependent 768 n (λ i k. rowA st places k i)
+        some = dependent-within counted 768 n _ (λ k l e i. A-not-acting st (recordAt places (k / 3)) (k % 3) i (not-observed _ e))
+
+        never : Dependent 768 n (λ i k. rowA st places k i) → ⊥
+        never d =
+            d .some .nonzero
+            (kernel n (entryN st places) M five (d .multiple)
+            (λ i l. N-zero n (d .multiple) (λ k q. sum-ext n (λ j r. *ℤ-comm (rowA st places k j) (d .multiple j)) ∙ d .vanishes k q) i)
+            (d .some .index)
+            (d .some .below))
+
+        go : Dec (sumN 256 (λ p. observations (recordAt places p)) < n) → n ≤ sumN 256 (λ p. observations (recordAt places p))
+        go (yes h) = absurd (never (some (subst (λ (s : ℕ). s < n) (sym all-counted) h)))
+        go (no h) = omega arith
+
+    pub freedom-nonnegative : pos 0 ≤ℤ D st places
+    unfolding D
+    freedom-nonnegative = ≤ℤ-sub (pos-mono observations-enough)
