@@ -7,7 +7,7 @@ use lib.IntN.{ℤ}
 use lib.ListN.{take, drop}
 use Rattle.network.specs.Stations.{networkOf, opens, openNo}
 use Rattle.book.specs.Rows.{rowsIn}
-use Rattle.book.specs.Demand.{ledgerAnswers}
+use Rattle.book.specs.Demand3.{ledgerAnswers}
 use Rattle.book.specs.Replay.{rowCount}
 
 pub record Replays (list words before after : List ℤ) (n : ℕ) : Type 0 where

@@ -13,7 +13,7 @@ use Rattle.book.specs.declared.Book.{Book}
 use Rattle.book.specs.declared.Edited.{Edited}
 use Rattle.book.specs.Book.{openedBook, opening, sound}
 use Rattle.book.specs.Rows.{rowsIn}
-use Rattle.book.specs.DemandHolds.{demanded}
+use Rattle.book.specs.Demand3Holds.{demanded}
 use Rattle.book.specs.Replay.{Ran, rowCount, Replayed}
 
 open-refusal : (t : Bool) (b c : Book) → cond {A = Edited} t (record { refusal = 0; book = b }) (record { refusal = 1; book = c }) .refusal ≡ cond t 0 1
@@ -49,7 +49,7 @@ module _ (list words before : List ℤ) (e : Edited) (o : e ≡ opening list) wh
       subst (λ (x : Book). Ran x words m before after last) (opened t) (subst (λ (k : ℕ). Ran (e .book) words k before after last) count r) in
       record {
         refusal = sym z ∙ refusal-is;
-        demand = λ u. demanded (networkOf list) (opened-fits list t) (rowsIn words m) (take m after) last (q .answered) (q .left);
+        demand = λ u. demanded (networkOf list) (opened-fits list t) (rowsIn words m) (take m after) _ last (q .answered) (λ k. refl) (q .left);
         left = λ u. q .left;
         beyond = q .beyond;
         unopened = λ f. clash t f;

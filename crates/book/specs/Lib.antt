@@ -11,8 +11,8 @@ pub mod SoundLaws
 pub mod Opened
 pub mod Follows
 pub mod Rows
-pub mod Demand
-pub mod DemandHolds
+pub mod Demand3
+pub mod Demand3Holds
 pub mod Replay
 pub mod ReplayLaws
 pub mod SizeLaws

@@ -14,7 +14,7 @@ use Rattle.book.specs.Run.{final, answers}
 use Rattle.book.specs.Book.{opening, bookSays, bookNext}
 use Rattle.book.specs.Book as spec
 use Rattle.book.specs.Rows.{Row, rowsIn, rowNext, rowSays}
-use Rattle.book.specs.Demand.{Demand, bookAfter}
+use Rattle.book.specs.Demand3.{Demand, bookAfter}
 
 -- one row: its answer, and the book afterwards
 pub record Answers (b : Book) (row : Row) (a : Answered) : Type 0 where
@@ -35,7 +35,9 @@ rowCount words answers = min (length words / 14) (length answers)
 -- of a station list, the words of the rows, the answers before and after, and what is given back
 pub record Replayed (list words before after : List ℤ) (e : Edited) : Type 0 where
   pub refusal : e .refusal ≡ openNo list
-  pub demand : opens list ≡ true → Demand (networkOf list) (rowsIn words (rowCount words before)) (take (rowCount words before) after) (e .book)
+  pub demand : opens list ≡ true →
+      Demand (networkOf list) (rowsIn words (rowCount words before)) (take (rowCount words before) after)
+      (λ k. bookAfter (networkOf list) (take k (rowsIn words (rowCount words before)))) (e .book)
   -- the whole book, its journal with it, is what the calls leave one after the other
   pub left : opens list ≡ true → e .book ≡ bookAfter (networkOf list) (rowsIn words (rowCount words before))
   -- answers beyond the rows stay

@@ -20,7 +20,7 @@ use Rattle.book.specs.Ledger.{Ledger, nothing, standing, accepted, ledgerSays}
 use Rattle.book.specs.SizeLaws.{add-says, replace-says}
 use Rattle.book.specs.Follows.{Follows, says, follows-next, follows-opened}
 use Rattle.book.specs.PlaceLaws.{is-placesOf}
-use Rattle.book.specs.Demand.{bookAfter, bookAnswers}
+use Rattle.book.specs.Demand3.{bookAfter, bookAnswers}
 
 -- the number of a call on a ledger, 9 left out
 unfoldable pub briefNo : Network → Ledger → Call → ℕ

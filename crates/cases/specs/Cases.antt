@@ -21,7 +21,7 @@ use Rattle.book.specs.Book as spec
 use Rattle.book.specs.Run.{final, answers}
 use Rattle.book.specs.Rows.{Row, names, rowNext, rowSays}
 use Rattle.book.specs.Book.{bookNext, bookSays}
-use Rattle.book.specs.Demand.{bookAnswers, bookAfter}
+use Rattle.book.specs.Demand3.{bookAnswers, bookAfter}
 use Rattle.checks.specs.Checks.{checked, hasRoom, sheetAfter}
 use Rattle.cases.specs.Table.{Case, stationList, printed, asPrinted, table}
 

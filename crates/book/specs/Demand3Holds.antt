@@ -1,10 +1,12 @@
 -- Demand 3 holds: the book follows the ledger row by row, so over any run. Assumes nothing.
-use Prim.Native.Nat.{ℕ, _<_}
+use Prim.Native.Nat.{ℕ, _<_, _≤_}
 use mathlib.Core.Path.{_≡_, refl, sym, ap, _∙_}
 use mathlib.Core.Bool.{true}
 use mathlib.Core.List.{List}
+use native.Mathlib.Nat.{le-refl}
 use lib.IntN.{ℤ, pos}
 use lib.ListN.{length, getD, take}
+use lib.Seq.{take-all}
 use Rattle.network.specs.Stations.{networkOf, networkFits}
 use Rattle.network.specs.declared.Network.{Network}
 use Rattle.book.specs.declared.Book.{Book}
@@ -17,7 +19,7 @@ use Rattle.network.specs.OpeningLaws.{opened-fits}
 use Rattle.book.specs.CallLaws.{undo-none, none-undo}
 use Rattle.book.specs.Sound.{parts-sound}
 use Rattle.book.specs.Follows.{Follows, says, follows-next, follows-normals, follows-opened}
-use Rattle.book.specs.Demand.{Demand, Demand3, bookAfter, bookAnswers, ledgerAfter, ledgerAnswers}
+use Rattle.book.specs.Demand3.{Demand, Demand3, bookAfter, bookAnswers, ledgerAfter, ledgerAnswers}
 
 row-says : (net : Network) (b : Book) (l : Ledger) (r : Row) → Follows net b l → rowSays bookSays b r ≡ rowSays (ledgerSays net) l r
 unfolding rowSays
@@ -49,23 +51,37 @@ module _ (net : Network) (rows : List Row) (k : ℕ) (h : k < length rows) (e : 
   was-spent : ledgerAfter net (take k rows) .count ≡ 0 → getD (ledgerAnswers net rows) k (pos 0) ≡ pos 8
   was-spent p = ledger-said ∙ ap pos (none-undo _ p)
 
+-- the book and the ledger along a run
+follows-along : (net : Network) → networkFits net ≡ true → (rows : List Row) → Follows net (bookAfter net rows) (ledgerAfter net rows)
+follows-along net g rows =
+    run-final (rowNext bookNext) (rowSays bookSays) (rowNext (ledgerNext net)) (rowSays (ledgerSays net)) (Follows net) (alike net) (openedBook net) nothing rows (follows-opened net g)
+
 -- what is said and left by the book's calls is what demand 3 asks
-pub demanded : (net : Network) → networkFits net ≡ true → (rows : List Row) (said : List ℤ) (left : Book) → said ≡ bookAnswers net rows → left ≡ bookAfter net rows → Demand net rows said left
-demanded net g rows said left p q =
-    let start = follows-opened net g in
-    let o : Follows net (bookAfter net rows) (ledgerAfter net rows) =
-    run-final (rowNext bookNext) (rowSays bookSays) (rowNext (ledgerNext net)) (rowSays (ledgerSays net)) (Follows net) (alike net) (openedBook net) nothing rows start in
-    let same : said ≡ ledgerAnswers net rows =
-    p ∙ run-answers (rowNext bookNext) (rowSays bookSays) (rowNext (ledgerNext net)) (rowSays (ledgerSays net)) (Follows net) (alike net) (openedBook net) nothing rows start in
-    let o′ : Follows net left (ledgerAfter net rows) = rw q o in
-    record {
-      answered = same;
-      records = o′ .holds;
-      normals = follows-normals net left (ledgerAfter net rows) o′;
-      refused = λ k h e w. was-refused net rows k h e (ap (λ (l : List ℤ). getD l k (pos 0)) (sym same) ∙ w);
-      spent = λ k h e w. ap (λ (l : List ℤ). getD l k (pos 0)) same ∙ was-spent net rows k h e w;
-      sound = parts-sound left (o′ .sound);
-    }
+module _ (net : Network) (g : networkFits net ≡ true) (rows : List Row) (said : List ℤ) (after : ℕ → Book) (left : Book)
+    (says : said ≡ bookAnswers net rows) (along : (k : ℕ) → after k ≡ bookAfter net (take k rows)) (leaves : left ≡ bookAfter net rows) where
+  same : said ≡ ledgerAnswers net rows
+  same =
+      says
+      ∙ run-answers (rowNext bookNext) (rowSays bookSays) (rowNext (ledgerNext net)) (rowSays (ledgerSays net)) (Follows net) (alike net) (openedBook net) nothing rows (follows-opened net g)
+
+  counted : (k : ℕ) → after k .journal .held ≡ ledgerAfter net (take k rows) .count
+  counted k = ap (λ (b : Book). b .journal .held) (along k) ∙ follows-along net g (take k rows) .counted
+
+  pub demanded : Demand net rows said after left
+  demanded =
+      let o : Follows net left (ledgerAfter net rows) = rw leaves (follows-along net g rows) in
+      record {
+        answered = same;
+        records = o .holds;
+        normals = follows-normals net left (ledgerAfter net rows) o;
+        history = λ k h. counted k;
+        undone = λ k h e. (
+          (λ w. counted k ∙ was-refused net rows k h e (ap (λ (l : List ℤ). getD l k (pos 0)) (sym same) ∙ w)),
+          (λ w. ap (λ (l : List ℤ). getD l k (pos 0)) same ∙ was-spent net rows k h e (sym (counted k) ∙ w)),
+        );
+        last = along (length rows) ∙ ap (bookAfter net) (take-all (length rows) rows (le-refl (length rows))) ∙ sym leaves;
+        sound = parts-sound left (o .sound);
+      }
 
 pub demand-3 : Demand3
-demand-3 list e rows = demanded (networkOf list) (opened-fits list e) rows _ _ refl refl
+demand-3 list e rows = demanded (networkOf list) (opened-fits list e) rows _ _ _ refl (λ k. refl) refl

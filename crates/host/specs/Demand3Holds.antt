@@ -3,12 +3,14 @@ use Prim.Native.Nat.{ℕ, zero, suc, _/_, _%_, _≤_}
 use mathlib.Core.Path.{_≡_, refl, sym, ap, _∙_, subst}
 use mathlib.Core.Bool.{Bool, true, false, cond}
 use mathlib.Core.List.{List, [], _∷_, map}
+use mathlib.Core.Logic.{_⊎_, inl, inr}
 use native.Mathlib.Omega.{arith}
 use borrow.Author.Tests.{leb-true}
 use lib.Dec.{leb, eqb}
-use lib.ListN.{length, getD}
+use lib.ListN.{length, getD, take}
 use lib.IntN.{ℤ, pos, natAbs}
 use Rattle.integers.specs.Tables.{length-tabulate}
+use Rattle.words.specs.Bools.{true-or-false}
 use Rattle.words.specs.Runs.{wordsAt}
 use Rattle.network.specs.Stations.{networkOf}
 use Rattle.network.specs.Stations as stations
@@ -22,13 +24,13 @@ use Rattle.book.specs.Book.{openedBook, bookAccepts, bookSays, bookNext, outcom
 use Rattle.book.specs.Sound.{Sound}
 use Rattle.book.specs.SoundLaws.{sound-next}
 use Rattle.book.specs.Opened.{sound-opened}
-use Rattle.book.specs.Rows.{names, rowNext, rowSays}
+use Rattle.book.specs.Rows.{Row, names, rowNext, rowSays}
 use Rattle.book.specs.Run.{final, answers, Alike, run-answers, run-final}
-use Rattle.book.specs.DemandHolds.{demanded}
+use Rattle.book.specs.Demand3Holds.{demanded}
 use Rattle.layout.specs.Bytes.{bookOf, putBook, bytesFit}
 use Rattle.layout.specs.CodecLaws.{read-stations, fits-room, fits-sound, writes-reads, writes-fit, writes-beyond}
 use Rattle.host.specs.Calls.{Returned, refused, settled, through, opens}
-use Rattle.host.specs.Demand.{bytesNext, bytesSays, bytesAfter, bytesAnswers, Demand3}
+use Rattle.host.specs.Demand3.{bytesNext, bytesSays, bytesAfter, bytesAnswers, Demand3}
 
 -- ════ rows that are calls
 rows-answers : (b : Book) (cs : List Call) → answers bookNext (λ x c. pos (bookSays x c)) b cs ≡ answers (rowNext bookNext) (rowSays bookSays) b (map names cs)
@@ -40,6 +42,11 @@ rows-final : (b : Book) (cs : List Call) → final bookNext b cs ≡ final (rowN
 unfolding final rowNext
 rows-final b [] = refl
 rows-final b (c ∷ cs) = rows-final (bookNext b c) cs
+
+rows-take : (k : ℕ) (cs : List Call) → map names (take k cs) ≡ take k (map names cs)
+rows-take zero cs = refl
+rows-take (suc k) [] = refl
+rows-take (suc k) (c ∷ cs) = ap (λ (l : List Row). names c ∷ l) (rows-take k cs)
 
 -- ════ an edit keeps the station list
 accepts-network : (b : Book) (c : Call) → bookAccepts b c .network ≡ b .network
@@ -56,6 +63,10 @@ next-network b c = unless-either (λ (x : Book). x .network ≡ b .network) (boo
 through-fits : (s : List ℕ) (f : Book → Edited) → bytesFit s ≡ true → through s f ≡ settled s (f (bookOf s))
 unfolding through
 through-fits s f e = ap (λ (t : Bool). cond t (settled s (f (bookOf s))) (refused 25 s)) e
+
+through-unfit : (s : List ℕ) (f : Book → Edited) → bytesFit s ≡ false → through s f ≡ refused 25 s
+unfolding through
+through-unfit s f e = ap (λ (t : Bool). cond t (settled s (f (bookOf s))) (refused 25 s)) e
 
 module _ (s₀ : List ℕ) where
   record Holds (s : List ℕ) (b : Book) : Type 0 where
@@ -131,19 +142,40 @@ holds-opened list s o =
     subst (λ (t : List ℕ). Holds s t b) (sym (o .written))
     (record { reads = writes-reads s b sound long (o .room); fits = writes-fit s b sound long (o .room); beyond = writes-beyond s b sound long (o .room) })
 
+module _ (list s : List ℕ) (o : Opened list s) where
+  net : Network
+  net = networkOf (wordsAt list 0 (length list / 8))
+
+  left : (calls : List Call) → Holds s (bytesAfter list s calls) (final bookNext (openedBook net) calls)
+  unfolding net
+  left calls = run-final bytesNext bytesSays bookNext (λ b c. pos (bookSays b c)) (Holds s) (alike s) (opens list s .bytes) (openedBook net) calls (holds-opened list s o)
+
+  said : (calls : List Call) → bytesAnswers list s calls ≡ answers bookNext (λ b c. pos (bookSays b c)) (openedBook net) calls
+  unfolding net
+  said calls = run-answers bytesNext bytesSays bookNext (λ b c. pos (bookSays b c)) (Holds s) (alike s) (opens list s .bytes) (openedBook net) calls (holds-opened list s o)
+
+-- ════ what an accepted opening or edit leaves is a book that the next call takes
+pub opened-fits-next : (list s : List ℕ) → opens list s .answer ≡ pos 0 → bytesFit (opens list s .bytes) ≡ true
+opened-fits-next list s a = holds-opened list s (accepted list s a) .fits
+
+pub edited-fits-next : (s : List ℕ) (c : Call) → bytesSays s c ≡ pos 0 → bytesFit (bytesNext s c) ≡ true
+edited-fits-next s c a = go (true-or-false (bytesFit s))
+  where
+    go : (bytesFit s ≡ true) ⊎ (bytesFit s ≡ false) → bytesFit (bytesNext s c) ≡ true
+    go (inl e) = stays s s (bookOf s) c (record { reads = refl; fits = e; beyond = λ j q. refl }) .fits
+    go (inr e) = not-zero 24 (sym (ap (λ (r : Returned). r .answer) (through-unfit s (λ b. outcome b c) e)) ∙ a)
+
 pub demand-3 : Demand3
+unfolding net
 demand-3 list s a calls =
     let o = accepted list s a in
-    let net = networkOf (wordsAt list 0 (length list / 8)) in
-    let start = holds-opened list s o in
-    let left : Holds s (bytesAfter list s calls) (final bookNext (openedBook net) calls) =
-    run-final bytesNext bytesSays bookNext (λ b c. pos (bookSays b c)) (Holds s) (alike s) (opens list s .bytes) (openedBook net) calls start in
-    let said : bytesAnswers list s calls ≡ answers bookNext (λ b c. pos (bookSays b c)) (openedBook net) calls =
-    run-answers bytesNext bytesSays bookNext (λ b c. pos (bookSays b c)) (Holds s) (alike s) (opens list s .bytes) (openedBook net) calls start in
+    let b = openedBook (net list s o) in
     record {
       ledger =
-          demanded net (opened-fits (wordsAt list 0 (length list / 8)) (o .accepts)) (map names calls) _ _ (said ∙ rows-answers (openedBook net) calls)
-          (left .reads ∙ rows-final (openedBook net) calls);
-      fits = left .fits;
-      beyond = left .beyond;
+          demanded (net list s o) (opened-fits (wordsAt list 0 (length list / 8)) (o .accepts)) (map names calls) _ _ _
+          (said list s o calls ∙ rows-answers b calls)
+          (λ k. left list s o (take k calls) .reads ∙ rows-final b (take k calls) ∙ ap (final (rowNext bookNext) b) (rows-take k calls))
+          (left list s o calls .reads ∙ rows-final b calls);
+      fits = left list s o calls .fits;
+      beyond = left list s o calls .beyond;
     }
