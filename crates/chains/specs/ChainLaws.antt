@@ -22,7 +22,7 @@ use Rattle.network.specs.declared.Place.{Place}
 use Rattle.chains.specs.Bits.{bit, setOf-sound, setOf-whole, setOf-fits}
 use Rattle.chains.specs.Scans.{firstFailing, first-fails, first-none}
 use Rattle.chains.specs.Search.{Joined, start, along as forth, back as return, Found, search-finds}
-use Rattle.chains.specs.Chains.{Tied, held, along, back, edge, edges, fromEnd, toEnd, isHeld, heldSet, tiedSet, isTied, allTied, firstUntied}
+use Rattle.chains.specs.Chains.{Tied, held, along, back, EachTied, FirstWithoutChain, edge, edges, fromEnd, toEnd, isHeld, heldSet, tiedSet, isTied, allTied, firstUntied}
 
 -- what the search asks of the book: at most 32 stations, and ends among them
 pub record EndsLow (places : List Place) : Type 0 where
@@ -146,25 +146,26 @@ module _ (net : Network) (places : List Place) (g : Ends net places) where
   tied-at : (q : ℕ) → unknown (net .stations) q ≡ 1 → isTied net places q ≡ true → TiedAt q
   tied-at q u e = tied-sound net places (q % 3) g (q / 3) (sym (is-tied q u) ∙ e)
 
+  -- component c of station s, by its index in the station list
+  at-index : (c s : ℕ) → c < 3 → TiedAt (s * 3 + c) → Tied net places c s
+  at-index c s h t = let d : (s * 3 + c) / 3 ≡ s = omega arith in let m : (s * 3 + c) % 3 ≡ c = omega arith in rw (m, d) at t
+
   -- test 2 holds exactly where every unknown has a chain
-  pub all-tied : allTied net places ≡ true → (q : ℕ) → q < 96 → unknown (net .stations) q ≡ 1 → TiedAt q
+  pub all-tied : allTied net places ≡ true → EachTied net places
   unfolding allTied
-  all-tied e q l u = tied-at q u (all-at 96 (isTied net places) q e l)
+  all-tied e c s h l u = at-index c s h (tied-at (s * 3 + c) u (all-at 96 (isTied net places) (s * 3 + c) e (omega arith)))
 
-  pub tied-all : ((q : ℕ) → q < 96 → unknown (net .stations) q ≡ 1 → TiedAt q) → allTied net places ≡ true
+  pub tied-all : EachTied net places → allTied net places ≡ true
   unfolding allTied isTied
-  tied-all h = all-by 96 (isTied net places) (λ q l. ⊎-elim (λ e. rw (eq-eqb _ 0 e)) (λ e. is-tied q e ∙ tied-whole net places (q % 3) g (q / 3) (h q l e)) (bit-cases (net .stations) q))
+  tied-all h =
+      all-by 96 (isTied net places) (λ q l.
+      let i : q / 3 * 3 + q % 3 ≡ q = omega arith in
+      ⊎-elim (λ e. rw (eq-eqb _ 0 e))
+      (λ e. is-tied q e ∙ tied-whole net places (q % 3) g (q / 3) (h (q % 3) (q / 3) (omega arith) (omega arith) (ap (unknown (net .stations)) i ∙ e)))
+      (bit-cases (net .stations) q))
 
-  -- Where it fails, `firstUntied` is the number, from 1, of an unknown without a chain, and every unknown of a lower number has one.
-  pub record First (number-of : ℕ) : Type 0 where
-    pub component : ℕ
-    pub inside : component < 96
-    pub isUnknown : unknown (net .stations) component ≡ 1
-    pub numbered : number-of ≡ number (net .stations) component + 1
-    pub untied : TiedAt component → ⊥
-    pub lower : (q : ℕ) → q < 96 → unknown (net .stations) q ≡ 1 → number (net .stations) q + 1 < number-of → TiedAt q
-
-  pub first-untied : allTied net places ≡ false → First (firstUntied net places)
+  -- where it fails, `firstUntied` is the first unknown without a chain
+  pub first-untied : allTied net places ≡ false → FirstWithoutChain net places (firstUntied net places)
   unfolding allTied firstUntied isTied
   first-untied e = go (first-fails (isTied net places) 96 e) (bit-cases (net .stations) (firstFailing 96 (isTied net places)))
     where
@@ -172,16 +173,18 @@ module _ (net : Network) (places : List Place) (g : Ends net places) where
       q = firstFailing 96 (isTied net places)
 
       go : (q < 96) × ((isTied net places q ≡ false) × (allBelow q (isTied net places) ≡ true)) → (unknown (net .stations) q ≡ 0) ⊎ (unknown (net .stations) q ≡ 1)
-          → First (number (net .stations) q + 1)
+          → FirstWithoutChain net places (number (net .stations) q + 1)
       go r (inl z) = clash (rw (eq-eqb (unknown (net .stations) q) 0 z) refl) (r .1 .0)
       go r (inr u) =
+          let i : q / 3 * 3 + q % 3 ≡ q = omega arith in
           record {
-            component = q;
-            inside = r .0;
-            isUnknown = u;
-            numbered = refl;
+            component = q % 3;
+            station = q / 3;
+            inside = (omega arith, omega (arith, r .0));
+            isUnknown = ap (unknown (net .stations)) i ∙ u;
+            numbered = ap (λ (k : ℕ). number (net .stations) k + 1) (sym i);
             untied = λ j. clash (is-tied q u ∙ tied-whole net places (q % 3) g (q / 3) j) (r .1 .0);
-            lower = λ k l v m. tied-at k v (all-at q (isTied net places) k (r .1 .1) (below k m (decLt k q)));
+            lower = λ c s h l v m. at-index c s h (tied-at (s * 3 + c) v (all-at q (isTied net places) (s * 3 + c) (r .1 .1) (below (s * 3 + c) m (decLt (s * 3 + c) q))));
           }
         where
           below : (k : ℕ) → number (net .stations) k + 1 < number (net .stations) q + 1 → Dec (k < q) → k < q

@@ -27,6 +27,20 @@ pub data Tied (net : Network) (places : List Place) (c : ℕ) : ℕ → Type 0 w
   back : {s t p : ℕ} → p < 256 → acts c (recordAt places p) ≡ true → fromOf (recordAt places p) ≡ s → toOf (recordAt places p) ≡ t
       → Tied net places c t → Tied net places c s
 
+-- test 2: "for every component, each station unknown in it is joined …"; stations beyond the list are held
+abbrev pub EachTied : Network → List Place → Type 0
+EachTied net places = (c s : ℕ) → c < 3 → s < 32 → unknown (net .stations) (s * 3 + c) ≡ 1 → Tied net places c s
+
+-- "the first unknown without a chain", by its number from 1: every unknown of a lower number has one
+pub record FirstWithoutChain (net : Network) (places : List Place) (first : ℕ) : Type 0 where
+  pub component : ℕ
+  pub station : ℕ
+  pub inside : (component < 3) × (station < 32)
+  pub isUnknown : unknown (net .stations) (station * 3 + component) ≡ 1
+  pub numbered : first ≡ number (net .stations) (station * 3 + component) + 1
+  pub untied : Tied net places component station → ⊥
+  pub lower : (c s : ℕ) → c < 3 → s < 32 → unknown (net .stations) (s * 3 + c) ≡ 1 → number (net .stations) (s * 3 + c) + 1 < first → Tied net places c s
+
 -- ════ the same by a search, which ChainLaws shows to be exact: `bit (tiedSet net places c) s ≡ true` where there is a `Tied net places c s`, and only there
 -- a record's ends in one number; one that does not act in c joins station 0 to itself
 unfoldable pub edge : ℕ → Record → ℕ
