@@ -18,7 +18,7 @@ use Rattle.network.specs.declared.Network.{Network}
 use Rattle.network.specs.declared.Place.{Place}
 use Rattle.network.specs.declared.Record.{Record}
 use Rattle.normals.specs.Formulas.{normalsOf}
-use Rattle.normals.specs.Same.{same-equal, equal-same}
+use Rattle.normals.specs.Same.{sameNormals, same-equal, equal-same}
 use Rattle.book.specs.declared.Reversal.{Reversal}
 use Rattle.book.specs.declared.Book.{Book}
 use Rattle.book.specs.Calls.{changed}
@@ -81,9 +81,17 @@ first-undoable net at u h o =
     and-both _ _ (and-both _ _ (and-both _ _ (lt-ltb (u .place) 256 (o .inside)) (o .fits)) (ap not (o .real))) (o .rest)
 
 -- ════ both ways
-pub sound-parts : (b : Book) → Sized b → sound b ≡ true → Sound b
+-- what `sound` tests, one by one
+pub record Tested (b : Book) : Type 0 where
+  pub network : networkFits (b .network) ≡ true
+  pub records : allBelow 256 (λ p. recordFits (b .network) (recordAt (b .places) p)) ≡ true
+  pub journal : journalFits (b .journal) ≡ true
+  pub undoes : undoable (b .network) (recordAt (b .places)) (reversals (b .journal)) ≡ true
+  pub normals : sameNormals (b .normals) (normalsOf (b .network .stations) (b .places)) ≡ true
+
+pub tested : (b : Book) → sound b ≡ true → Tested b
 unfolding sound recordsFit
-sound-parts b z e =
+tested b e =
     let n = networkFits (b .network) in
     let r = allBelow 256 (λ p. recordFits (b .network) (recordAt (b .places) p)) in
     let j = journalFits (b .journal) in
@@ -91,15 +99,19 @@ sound-parts b z e =
     let four : n && r && j && u ≡ true = and-left _ _ e in
     let three : n && r && j ≡ true = and-left _ _ four in
     let two : n && r ≡ true = and-left _ _ three in
+    record { network = and-left n r two; records = and-right n r two; journal = and-right (n && r) j three; undoes = and-right (n && r && j) u four; normals = and-right (n && r && j && u) _ e }
+
+pub sound-parts : (b : Book) → Sized b → sound b ≡ true → Sound b
+sound-parts b z e =
+    let t = tested b e in
     record {
-      network = and-left n r two;
-      records = every-record (b .network) (b .places) (z .places) (and-right n r two);
-      journal = fits-tidy (b .journal) (and-right (n && r) j three);
-      undoes = and-right (n && r && j) u four;
+      network = t .network;
+      records = every-record (b .network) (b .places) (z .places) (t .records);
+      journal = fits-tidy (b .journal) (t .journal);
+      undoes = t .undoes;
       normals =
           same-equal (b .normals) (normalsOf (b .network .stations) (b .places)) (record { matrix = z .matrix; right = z .right })
-          (record { matrix = length-tabulate 2304 _; right = length-tabulate 48 _ })
-          (and-right (n && r && j && u) _ e);
+          (record { matrix = length-tabulate 2304 _; right = length-tabulate 48 _ }) (t .normals);
       places = z .places;
       entries = z .entries;
     }

@@ -16,7 +16,7 @@ use Rattle.acceptance.specs.declared.Answer.{Answer}
 use Rattle.acceptance.specs.declared.Answer.the-variants.{Accepted, Refused}
 use Rattle.acceptance.specs.Exactly.{answer}
 use Rattle.book.specs.declared.Book.{Book}
-use Rattle.book.specs.Sound.{Sound}
+use Rattle.book.specs.Sound.{Sound, parts-sound}
 use Rattle.sheet.specs.Sheet.{sheetWords, room}
 use Rattle.sheet.specs.SheetLaws.{sheet-length}
 use Rattle.checks.specs.Checks.{checked, hasRoom, onAcceptance, sheetAfter}
@@ -39,7 +39,7 @@ module _ (net : Network) (places : List Place) (x m lent : List ℤ) where
 -- a check of a book with these stations and records
 module _ (b : Book) (g : Sound b) (net : Network) (places : List Place) (p : b .network ≡ net) (q : b .places ≡ places) (x m : List ℤ) where
   checked-on : (r : Bool) → checked b x m r ≡ answer net places x m r
-  checked-on r = checked-is b g x m r ∙ ap (λ (n : Network). answer n (b .places) x m r) p ∙ ap (λ (l : List Place). answer net l x m r) q
+  checked-on r = checked-is b (parts-sound b g) x m r ∙ ap (λ (n : Network). answer n (b .places) x m r) p ∙ ap (λ (l : List Place). answer net l x m r) q
 
   refined-on : refinedAt (b .network) (b .places) x m 0 ≡ refinedAt net places x m 0
   refined-on = ap (λ (n : Network). refinedAt n (b .places) x m 0) p ∙ ap (λ (l : List Place). refinedAt net l x m 0) q

@@ -8,6 +8,9 @@ use lib.Dec.{eqb}
 use lib.ListN.{length, drop}
 use lib.IntN.{ℤ}
 use Rattle.words.specs.Bools.{and-both, and-right}
+use Rattle.network.specs.All.{all-at}
+use Rattle.network.specs.Records.{recordAt}
+use Rattle.network.specs.Rules.{recordFits}
 use Rattle.normals.specs.Sound.{Sound}
 use Rattle.normals.specs.Sizes.{never-9}
 use Rattle.normals.specs.Formulas.{matrixOf, rightOf}
@@ -19,6 +22,8 @@ use Rattle.acceptance.specs.declared.Answer.{Answer}
 use Rattle.acceptance.specs.declared.Answer.the-variants.{Accepted, Refused}
 use Rattle.acceptance.specs.declared.Refusal.{Refusal}
 use Rattle.book.specs.declared.Book.{Book}
+use Rattle.book.specs.Book.{sound}
+use Rattle.book.specs.Sound.{tested, parts-sound}
 use Rattle.book.specs.Sound as Parts
 use Rattle.sheet.specs.Sheet.{sheetWords, room}
 use Rattle.sheet.specs.Ranges.{Solved, Inverse}
@@ -29,10 +34,11 @@ room-of-test : (n : ℕ) (x m : List ℤ) (r : Bool) → lengthsFit n x m r ≡ 
 unfolding lengthsFit
 room-of-test n x m r e = and-right (eqb (length x) n && eqb (length m) (n * n)) r e
 
-module _ (b : Book) (g : Parts.Sound b) where
-  pub rules : Sound (b .network) (b .places)
-  rules = record { network = g .network; each = λ p h. g .records p }
+-- the rules of stations and records, from what 25 tests
+pub rules : (b : Book) → sound b ≡ true → Sound (b .network) (b .places)
+rules b e = let t = tested b e in record { network = t .network; each = λ p h. all-at 256 (λ k. recordFits (b .network) (recordAt (b .places) k)) p (t .records) h }
 
+module _ (b : Book) (g : Parts.Sound b) where
   -- N and u are those of the records
   pub matrix-is : b .normals .matrix ≡ matrixOf (b .network .stations) (b .places)
   matrix-is = ap (λ (n : Rattle.normals.specs.declared.Normals.Normals). n .matrix) (g .normals)
@@ -41,20 +47,22 @@ module _ (b : Book) (g : Parts.Sound b) where
   right-is = ap (λ (n : Rattle.normals.specs.declared.Normals.Normals). n .right) (g .normals)
 
   pub fit : Fit (b .network) (b .places) (b .normals .matrix) (b .normals .right)
-  fit = rw (matrix-is, right-is) (fit-of (b .network) (b .places) rules)
+  fit = rw (matrix-is, right-is) (fit-of (b .network) (b .places) (rules b (parts-sound b g)))
 
+  -- the answer of `accept` on the book's own N and u
+  pub judge-is : (x m : List ℤ) (r : Bool)
+      → judge (b .network) (b .places) (byRows 48 (b .normals .matrix)) (at (b .normals .right)) x m r ≡ answer (b .network) (b .places) x m r
+  judge-is x m r = rw (matrix-is, right-is) (kept-answer (b .network) (b .places) (rules b (parts-sound b g)) x m r)
+
+module _ (b : Book) (sure : sound b ≡ true) where
   module _ (x m : List ℤ) (r : Bool) where
-    -- the answer of `accept` on the book's own N and u
-    pub judge-is : judge (b .network) (b .places) (byRows 48 (b .normals .matrix)) (at (b .normals .right)) x m r ≡ answer (b .network) (b .places) x m r
-    judge-is = rw (matrix-is, right-is) (kept-answer (b .network) (b .places) rules x m r)
-
     module _ (e : answer (b .network) (b .places) x m r ≡ Accepted) where
       pub solved : Solved (b .network) (b .places) x
       solved =
           let h = accepted-all (b .network) (b .places) x m r e in
           record {
-            moved = record { network = g .network; corrections = record { long = lengths-of _ x m r (h .first) .0; bound = corrections-small x (h .third) } };
-            records = λ p l. g .records p;
+            moved = record { network = rules b sure .network; corrections = record { long = lengths-of _ x m r (h .first) .0; bound = corrections-small x (h .third) } };
+            records = rules b sure .each;
           }
 
       pub inverse : Inverse (b .network) m
@@ -67,7 +75,7 @@ module _ (b : Book) (g : Parts.Sound b) where
 
       pub sizes-fit : sizesFit (b .network) (b .places) x ≡ true
       unfolding sizesFit
-      sizes-fit = and-both _ _ (never-9 (b .network) (b .places) rules) (le-leb _ _ (T-fits solved))
+      sizes-fit = and-both _ _ (never-9 (b .network) (b .places) (rules b sure)) (le-leb _ _ (T-fits solved))
 
     -- 9 never comes
     pub checked-is : checked b x m r ≡ answer (b .network) (b .places) x m r

@@ -15,7 +15,7 @@ use Rattle.words.specs.RunLaws.{length-run, run-back}
 use Rattle.acceptance.specs.Exactly.{answer}
 use Rattle.acceptance.specs.declared.Answer.the-variants.{Accepted}
 use Rattle.book.specs.declared.Book.{Book}
-use Rattle.book.specs.Sound.{Sound}
+use Rattle.book.specs.Sound.{Sound, parts-sound}
 use Rattle.checks.specs.Checks.{checked}
 use Rattle.checks.specs.CheckLaws.{checked-is, solved, inverse}
 use Rattle.network.specs.Stored.{fits-by}
@@ -38,8 +38,8 @@ module _ (b : Book) (o : Sound b) (x m : List ℕ) (xs ms : List ℤ) (lx : 8 * 
   pub made : answer (b .network) (b .places) xs ms true ≡ Accepted → checkedLent b (putWords x 0 xs) (putWords m 0 ms) true ≡ Accepted
   unfolding checkedLent
   made e =
-      let fx : (i : ℕ) → SFits w64 (getD xs i (pos 0)) = λ i. fits-by (getD xs i (pos 0)) (solved b o xs ms true e .moved .corrections .bound i) tt in
-      let fm : (i : ℕ) → SFits w64 (getD ms i (pos 0)) = λ i. fits-by (getD ms i (pos 0)) (inverse b o xs ms true e .bound i) tt in
+      let fx : (i : ℕ) → SFits w64 (getD xs i (pos 0)) = λ i. fits-by (getD xs i (pos 0)) (solved b (parts-sound b o) xs ms true e .moved .corrections .bound i) tt in
+      let fm : (i : ℕ) → SFits w64 (getD ms i (pos 0)) = λ i. fits-by (getD ms i (pos 0)) (inverse b (parts-sound b o) xs ms true e .bound i) tt in
       ap (λ (t : Bool). checked b (allWords (putWords x 0 xs)) (allWords (putWords m 0 ms)) (t && true)) (and-both _ _ (filled-whole x xs lx) (filled-whole m ms lm))
       ∙ ap₂ (λ (y z : List ℤ). checked b y z true) (filled-back x xs lx fx) (filled-back m ms lm fm)
-      ∙ checked-is b o xs ms true ∙ e
+      ∙ checked-is b (parts-sound b o) xs ms true ∙ e

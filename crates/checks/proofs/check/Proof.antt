@@ -19,7 +19,7 @@ accept-requires c κs = let s = c .before .before .before .before .before .befor
 returns : tie.Need-returns
 returns c =
     let s = c .before .before .before .before .before .before .before .before in
-    c .accept .ensures ∙ judge-is (s .args .book) (sound-book s) (s .args .x .now) (s .args .m .now) true ∙ sym (checked-is (s .args .book) (sound-book s) (s .args .x .now) (s .args .m .now) true)
+    c .accept .ensures ∙ judge-is (s .args .book) (sound-book s) (s .args .x .now) (s .args .m .now) true ∙ sym (checked-is (s .args .book) (s .pre) (s .args .x .now) (s .args .m .now) true)
 
 pub check-spec : {M : Type 1} → statement M
 check-spec = tie.close (tie.spec slice-aggregate-accept accept-requires returns)

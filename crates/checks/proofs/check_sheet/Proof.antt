@@ -46,7 +46,7 @@ enum-told c = search needs
 write-sheet-requires : tie.Need-write-sheet-requires
 write-sheet-requires c κs =
     let s = c .before .before .before .before .before .before .before .before .before .before .before .before .before in let e = sym (answered (c .before .before .before)) ∙ c .before .enum-told .given .1 in let r = hasRoom (s .args .book) (s .args .sheet .now) in
-    (solved (s .args .book) (sound-book s) (s .args .x .now) (s .args .m .now) r e, inverse (s .args .book) (sound-book s) (s .args .x .now) (s .args .m .now) r e, room-enough (s .args .book) (sound-book s) (s .args .x .now) (s .args .m .now) (s .args .sheet .now) e)
+    (solved (s .args .book) (s .pre) (s .args .x .now) (s .args .m .now) r e, inverse (s .args .book) (s .pre) (s .args .x .now) (s .args .m .now) r e, room-enough (s .args .book) (s .pre) (s .args .x .now) (s .args .m .now) (s .args .sheet .now) e)
 
 enum-known-answer : tie.Need-enum-known-answer
 enum-known-answer c = search needs
@@ -57,12 +57,12 @@ same-length c = search needs
 returns : tie.Need-returns
 returns c =
     let s = c .before .before .before .before .before .before .before .before .before .before .before .before .before .before .before in let e = sym (answered (c .before .before .before .before .before)) ∙ c .before .before .before .enum-told .given .1 in
-    (sym (checked-is (s .args .book) (sound-book s) (s .args .x .now) (s .args .m .now) (hasRoom (s .args .book) (s .args .sheet .now)) ∙ e), c .before .write-sheet .ensures ∙ after-accepted (s .args .book) (sound-book s) (s .args .x .now) (s .args .m .now) (s .args .sheet .now) e)
+    (sym (checked-is (s .args .book) (s .pre) (s .args .x .now) (s .args .m .now) (hasRoom (s .args .book) (s .args .sheet .now)) ∙ e), c .before .write-sheet .ensures ∙ after-accepted (s .args .book) (s .pre) (s .args .x .now) (s .args .m .now) (s .args .sheet .now) e)
 
 returns-2 : tie.Need-returns-2
 returns-2 c =
     let s = c .before .before .before .before .before .before .before .before .before .before .before .before .before in let e = sym (answered (c .before .before .before)) ∙ c .before .answer .given .1 in
-    (sym (checked-is (s .args .book) (sound-book s) (s .args .x .now) (s .args .m .now) (hasRoom (s .args .book) (s .args .sheet .now)) ∙ e), after-refused (s .args .book) (sound-book s) (s .args .x .now) (s .args .m .now) (s .args .sheet .now) _ e)
+    (sym (checked-is (s .args .book) (s .pre) (s .args .x .now) (s .args .m .now) (hasRoom (s .args .book) (s .args .sheet .now)) ∙ e), after-refused (s .args .book) (s .pre) (s .args .x .now) (s .args .m .now) (s .args .sheet .now) _ e)
 
 pub check-sheet-spec : {M : Type 1} → statement M
 check-sheet-spec =

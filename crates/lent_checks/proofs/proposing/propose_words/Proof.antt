@@ -62,7 +62,7 @@ returns c =
     let lx : 8 * length xs ≡ length (now (s .args .x)) = omega (arith, p .kept .1 .0, s .pre .1) in
     let lm : 8 * length ms ≡ length (now (s .args .m)) = omega (arith, p .kept .1 .1 .0, s .pre .2) in
     let ok = subst (λ (r : Proposal). Proposed r (checked b xs ms true) (now (s .args .xs)) (now (s .args .ms)) xs ms) (c .before .before .before .before .before .before .before .before .before .before .enum-told .given .1) (p .ensures .0) in
-    inl (refl, ap₂ (λ (y z : List ℕ). checkedLent b y z true) (c .before .before .before .before .before .before .before .write-words .ensures) (c .before .before .write-words2 .ensures) ∙ made b (sound-book s) (now (s .args .x)) (now (s .args .m)) xs ms lx lm (sym (checked-is b (sound-book s) xs ms true) ∙ ok))
+    inl (refl, ap₂ (λ (y z : List ℕ). checkedLent b y z true) (c .before .before .before .before .before .before .before .write-words .ensures) (c .before .before .write-words2 .ensures) ∙ made b (sound-book s) (now (s .args .x)) (now (s .args .m)) xs ms lx lm (sym (checked-is b (s .pre .0) xs ms true) ∙ ok))
 
 same-length-6 : tie.Need-same-length-6
 same-length-6 c = search needs
