@@ -1,3 +1,5 @@
 pub mod Checks
 pub mod CheckLaws
 pub mod Freedom
+pub mod InverseWeights
+pub mod ExactVariance

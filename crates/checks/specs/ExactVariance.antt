@@ -13,7 +13,7 @@ use lib.Signed.{_≤ℤ_, _<ℤ_}
 use Rattle.integers.specs.Bounds.{abs-+, abs--, abs-*}
 use Rattle.integers.specs.Solvers.{ring, shapes, zlt, ltz}
 use Rattle.integers.specs.Order.{zarith, pos-abs, ≤ℤ-sub}
-use Rattle.integers.specs.Sums.{sum, sum-ext, sum-*l, δ}
+use Rattle.integers.specs.Sums.{sum, sum-ext, sum-*l}
 use Rattle.integers.specs.Division.{floorDiv, floorDiv-≤, floorDiv->}
 use Rattle.network.specs.Stations.{unknown, number, unknownCount, networkFits}
 use Rattle.network.specs.StationLaws.{bit-cases, number-below}
@@ -26,17 +26,13 @@ use Rattle.network.specs.declared.Place.{Place}
 use Rattle.network.specs.declared.Record.{Record}
 use Rattle.network.specs.declared.Record.the-variants.{Empty, Baseline as baseline, Height as height}
 use Rattle.normals.specs.Formulas.{A, entryN}
+use Rattle.acceptance.specs.Tests.{byRows}
+use Rattle.acceptance.specs.Follows.{RoundedInverse}
 use Rattle.sheet.specs.Residuals.{S, covariance, differenceVariance, residualVariance}
 use Rattle.sheet.specs.Components.{atEnd, A-sum}
-use Rattle.sheet.specs.InverseWeights.{InverseWeights, weightAdjugate, weightDeterminant, inverse-weights, observation-quotient, proportional}
+use Rattle.checks.specs.InverseWeights.{InverseWeights, weightAdjugate, weightDeterminant, inverse-weights, observation-quotient, proportional}
 
--- ════ N⁻¹ is Z over D, and M is S times it, rounded
-pub record RoundedInverse (stations : List Station) (places : List Place) (m : List ℤ) (Z : ℕ → ℕ → ℤ) (D : ℕ) : Type 0 where
-  pub positive : 0 < D
-  pub inverse : (i j : ℕ) → i < unknownCount stations → j < unknownCount stations → sum (unknownCount stations) (λ k. entryN stations places i k *ℤ Z k j) ≡ pos D *ℤ δ i j
-  pub nearest : (i j : ℕ) → i < unknownCount stations → j < unknownCount stations → 2 * natAbs (S *ℤ Z i j -ℤ pos D *ℤ getD m (i * unknownCount stations + j) (pos 0)) ≤ D
-
--- ════ the diagonal of P⁻¹ − A N⁻¹ Aᵀ, in component a of record r, times p·D so that it is whole; P⁻¹ is Q over p
+-- ════ the diagonal of P⁻¹ − A N⁻¹ Aᵀ, in component a of record r, times p·D so that it is whole; P⁻¹ is Q over p, and N⁻¹ is Z over D
 unfoldable pub exactResidualVariance : List Station → Record → (ℕ → ℕ → ℤ) → ℕ → (ℕ → ℕ → ℤ) → ℕ → ℕ → ℤ
 exactResidualVariance stations r Q p Z D a =
     Q a a *ℤ pos D -ℤ pos p *ℤ sum n (λ i. sum n (λ j. A stations r a i *ℤ Z i j *ℤ A stations r a j))
@@ -151,14 +147,15 @@ four-near : (p q r s j : ℤ) (D : ℕ) → 2 * natAbs p ≤ D → 2 * natAbs q 
 four-near p q r s j D hp hq hr hs hj =
     omega (arith, abs-+ p (j *ℤ (q -ℤ r -ℤ s)), abs-* j (q -ℤ r -ℤ s), mul-le-mul-right (natAbs (q -ℤ r -ℤ s)) hj, abs-- (q -ℤ r) s, abs-- q r)
 
-module _ (stations : List Station) (places : List Place) (m : List ℤ) (Z : ℕ → ℕ → ℤ) (D : ℕ) (g : RoundedInverse stations places m Z D) where
+module _ (stations : List Station) (m : List ℤ) (Z : ℕ → ℕ → ℤ) (D : ℕ)
+    (nearest : (i j : ℕ) → i < unknownCount stations → j < unknownCount stations → 2 * natAbs (S *ℤ Z i j -ℤ pos D *ℤ byRows (unknownCount stations) m i j) ≤ D) where
   covariance-near : (q k : ℕ) → q < 96 → k < 96 → 2 * natAbs (S *ℤ exactCovariance stations Z q k -ℤ pos D *ℤ covariance stations m q k) ≤ D
   unfolding exactCovariance covariance
   covariance-near q k hq hk =
       let i = number stations q in let j = number stations k in
       rw (together (pos (unknown stations q)) (pos (unknown stations k)) (pos D) (Z i j) (getD m (i * unknownCount stations + j) (pos 0)))
       (scaled (unknown stations q) (unknown stations k) (S *ℤ Z i j -ℤ pos D *ℤ getD m (i * unknownCount stations + j) (pos 0)) D (bit-cases stations q) (bit-cases stations k)
-      (λ e f. g .nearest i j (number-below stations q 96 hq e) (number-below stations k 96 hk f)))
+      (λ e f. nearest i j (number-below stations q 96 hq e) (number-below stations k 96 hk f)))
 
   difference-near : (r : Record) (a : ℕ) → fromOf r < 32 → toOf r < 32 → a < 3
       → natAbs (S *ℤ exactDifference stations Z r a -ℤ pos D *ℤ differenceVariance stations m r a) ≤ 2 * D
@@ -173,17 +170,18 @@ module _ (stations : List Station) (places : List Place) (m : List ℤ) (Z : ℕ
       (covariance-near t t p p) (covariance-near f f q q) (covariance-near t f p q) (covariance-near f t q p) (joins-one r))
 
 -- ════ "q is less than 3 from S times the exact residual variance": of a network by the rules, in each component in which a record by the rules acts
-pub variance-near : (net : Network) → networkFits net ≡ true → (places : List Place) (m : List ℤ) (Z : ℕ → ℕ → ℤ) (D : ℕ) → RoundedInverse (net .stations) places m Z D
-    → (r : Record) → recordFits net r ≡ true → (Q : ℕ → ℕ → ℤ) (p : ℕ) → InverseWeights r Q p → (a : ℕ) → a < 3 → acts a r ≡ true
-    → natAbs (pos p *ℤ pos D *ℤ residualVariance (net .stations) m r a -ℤ S *ℤ exactResidualVariance (net .stations) r Q p Z D a) < 3 * (p * D)
+pub variance-near : (net : Network) → networkFits net ≡ true → (places : List Place) (m : List ℤ)
+    (g : RoundedInverse (unknownCount (net .stations)) (entryN (net .stations) places) (byRows (unknownCount (net .stations)) m))
+    (r : Record) → recordFits net r ≡ true → (Q : ℕ → ℕ → ℤ) (p : ℕ) → InverseWeights r Q p → (a : ℕ) → a < 3 → acts a r ≡ true
+    → natAbs (pos p *ℤ pos (g .D) *ℤ residualVariance (net .stations) m r a -ℤ S *ℤ exactResidualVariance (net .stations) r Q p (g .Z) (g .D) a) < 3 * (p * g .D)
 unfolding residualVariance exactResidualVariance
-variance-near net fits places m Z D g r e Q p w a h k =
+variance-near net fits places m g r e Q p w a h k =
     let s = sound-record net r fits e in let hf = s .from in let ht = s .to in
     let st = net .stations in
     let own = inverse-weights net r e in
     let d = weightDeterminant r in let adj = weightAdjugate r a a in let f = floorDiv (S *ℤ adj) d in
     let off = gap (S *ℤ adj) f d (floorDiv-≤ (S *ℤ adj) d (own .positive)) (floorDiv-> (S *ℤ adj) d (own .positive)) in
-    rw (observation-quotient r a h k, four-entries st Z r a k (omega arith) (omega arith))
-    (near (Q a a) f (differenceVariance st m r a) (exactDifference st Z r a) p D (g .positive)
+    rw (observation-quotient r a h k, four-entries st (g .Z) r a k (omega arith) (omega arith))
+    (near (Q a a) f (differenceVariance st m r a) (exactDifference st (g .Z) r a) p (g .D) (g .positive)
     (same-gap adj (Q a a) f d p (proportional r own w a h k) (w .positive) off)
-    (difference-near st places m Z D g r a hf ht h))
+    (difference-near st m (g .Z) (g .D) (g .nearest) r a hf ht h))
