@@ -18,7 +18,6 @@ use Rattle.normals.specs.Formulas.{entryN, entryU, matrixOf, rightOf}
 use Rattle.normals.specs.Entries.{matrix-at, right-at, matrix-within, right-within}
 use Rattle.words.specs.Bools.{true-or-false}
 use Rattle.chains.specs.Chains.{allTied, firstUntied}
-use Rattle.chains.specs.ChainLaws.{Ends, First, first-untied}
 use Rattle.acceptance.specs.Tests.{S, at, byRows, normalResidual, lengthsFit, correctionsSmall, inverseSmall, defectSmall, residualSmall, refinementSmall}
 use Rattle.acceptance.specs.Judge.{refusalNumber, numberOf, unknownOf, unless, judgeNumbers, judge}
 use Rattle.acceptance.specs.JudgeLaws.{Fit, all-same}
@@ -149,26 +148,3 @@ module _ (net : Network) (places : List Place) (x m : List ℤ) (room : Bool) wh
   pub all-accepted : Passes net places x m room → answer net places x m room ≡ Accepted
   unfolding answer judge judgeNumbers
   all-accepted h = rw (h .first, h .second, h .third, h .fourth, h .fifth, h .sixth, h .seventh)
-
-  -- tests 3 to 7 refuse nothing with 11
-  never-untied : (k : ℕ) → judgeNumbers (n net) (N net places) (u net places) x m ≡ Refused (Untied k) → ⊥
-  unfolding judgeNumbers other
-  never-untied k e =
-      let three = passed (Refused (Untied k)) (correctionsSmall x) Correction _ tt e in
-      let four = passed (Refused (Untied k)) (inverseSmall m) Inverse _ tt (three .1) in
-      let five = passed (Refused (Untied k)) (defectSmall (n net) (N net places) (rows net m)) Defect _ tt (four .1) in
-      let six = passed (Refused (Untied k)) (residualSmall (n net) (N net places) (u net places) (at x)) Residual _ tt (five .1) in
-      let seven = passed (Refused (Untied k)) (refinementSmall (n net) (N net places) (rows net m) (u net places) (at x)) Refinement Accepted tt (six .1) in
-      let z : _≡_ {A = ℕ} 0 11 = ap numberOf (seven .1) in
-      omega arith
-
-  -- "for 11 also the first unknown without a chain": the answer's unknown has none, and every lower one has
-  pub untied-first : (ends : Ends net places) (k : ℕ) → answer net places x m room ≡ Refused (Untied k) → First net places ends k
-  unfolding answer judge other
-  untied-first ends k e = go (true-or-false (allTied net places)) (passed (Refused (Untied k)) (lengthsFit (n net) x m room) Lengths _ tt e .1)
-    where
-      go : (allTied net places ≡ true) ⊎ (allTied net places ≡ false)
-          → unless (allTied net places) (Untied (firstUntied net places)) (judgeNumbers (n net) (N net places) (u net places) x m) ≡ Refused (Untied k)
-          → First net places ends k
-      go (inl a) q = absurd (never-untied k (rw a at q))
-      go (inr a) q = subst (First net places ends) (ap unknownOf (rw a at q)) (first-untied net places ends a)

@@ -5,7 +5,7 @@ use mathlib.Core.Bool.{Bool, true}
 use mathlib.Core.List.{List}
 use native.Mathlib.Omega.{arith}
 use borrow.Author.Tests.{leb-true, eqb-true}
-use lib.Dec.{eqb, leb}
+use lib.Dec.{eqb, leb, lit≤}
 use lib.ListN.{length}
 use lib.IntN.{ℤ, natAbs, _*ℤ_}
 use Rattle.integers.specs.Sums.{sum, sum-ext}
@@ -18,6 +18,11 @@ use Rattle.network.specs.declared.Place.{Place}
 use Rattle.chains.specs.ChainLaws.{Ends}
 use Rattle.acceptance.specs.Tests.{at, byRows, lengthsFit, correctionsSmall, inverseSmall, normalResidual, residualSmall, refinementSmall}
 use Rattle.acceptance.specs.Loops.{Residuals}
+use Rattle.acceptance.specs.Judge.{refusalNumber, numberOf}
+use Rattle.acceptance.specs.declared.Answer.{Answer}
+use Rattle.acceptance.specs.declared.Answer.the-variants.{Accepted, Refused}
+use Rattle.acceptance.specs.declared.Refusal.{Refusal}
+use Rattle.acceptance.specs.declared.Refusal.the-variants.{Lengths, Untied, Correction, Inverse, Defect, Residual, Refinement, TooLarge}
 
 -- what the answer asks of a book: at most 48 unknowns, ends among the stations, and the sizes of N and u
 pub record Fit (net : Network) (places : List Place) (normal right : List ℤ) : Type 0 where
@@ -72,3 +77,28 @@ module _ (n : ℕ) (normal right x m r : List ℤ) (h : Residuals n (normalResid
 
   pub residual-sizes : allBelow n (λ k. leb (natAbs (at r k)) (2 ^ 23)) ≡ true → (k : ℕ) → k < n → natAbs (at r k) ≤ 2 ^ 23
   residual-sizes e k l = leb-true _ _ (all-at n _ k e l)
+
+-- ════ the numbers of the check's refusals are 9 to 16
+pub refusal-least : (r : Refusal) → 9 ≤ refusalNumber r
+refusal-least Lengths = lit≤ tt
+refusal-least (Untied k) = lit≤ tt
+refusal-least Correction = lit≤ tt
+refusal-least Inverse = lit≤ tt
+refusal-least Defect = lit≤ tt
+refusal-least Residual = lit≤ tt
+refusal-least Refinement = lit≤ tt
+refusal-least TooLarge = lit≤ tt
+
+pub refusal-most : (r : Refusal) → refusalNumber r ≤ 16
+refusal-most Lengths = lit≤ tt
+refusal-most (Untied k) = lit≤ tt
+refusal-most Correction = lit≤ tt
+refusal-most Inverse = lit≤ tt
+refusal-most Defect = lit≤ tt
+refusal-most Residual = lit≤ tt
+refusal-most Refinement = lit≤ tt
+refusal-most TooLarge = lit≤ tt
+
+pub number-most : (a : Answer) → numberOf a ≤ 16
+number-most Accepted = lit≤ tt
+number-most (Refused r) = refusal-most r

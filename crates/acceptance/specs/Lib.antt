@@ -7,4 +7,3 @@ pub mod Follows
 pub mod Kernel
 pub mod Exact
 pub mod Exactly
-pub mod Promises

@@ -3,3 +3,5 @@ pub mod CheckLaws
 pub mod Freedom
 pub mod InverseWeights
 pub mod ExactVariance
+pub mod Demand2
+pub mod Demand2Holds

@@ -5,9 +5,10 @@ use mathlib.Core.Logic.{⊎-elim}
 use mathlib.Core.Bool.{Bool, true, false, _&&_}
 use mathlib.Core.List.{List, _++_, append-nil}
 use native.Mathlib.Nat.{mul-le-mul}
+use native.Mathlib.Decide.{ℕ-discrete}
 use native.Mathlib.Omega.{arith}
 use borrow.Author.Tests.{eqb-true, le-leb}
-use lib.Dec.{eqb, leb, lit<}
+use lib.Dec.{eqb, leb}
 use lib.ListN.{length, drop}
 use lib.Seq.{drop-length}
 use lib.IntN.{ℤ}
@@ -25,15 +26,16 @@ use Rattle.network.specs.declared.Record.the-variants.{Empty, Baseline as basel
 use Rattle.sheet.specs.Sheet.{sheetWords, wordsOf, room}
 use Rattle.acceptance.specs.Tests.{lengthsFit}
 use Rattle.acceptance.specs.Judge.{numberOf, unknownOf, judge}
-use Rattle.acceptance.specs.JudgeLaws.{lengths-of}
-use Rattle.acceptance.specs.Exactly.{n, answer, untied-first}
+use Rattle.acceptance.specs.JudgeLaws.{lengths-of, number-most}
+use Rattle.acceptance.specs.Exactly.{n, answer}
 use Rattle.acceptance.specs.declared.Answer.{Answer}
 use Rattle.acceptance.specs.declared.Answer.the-variants.{Accepted, Refused}
-use Rattle.acceptance.specs.declared.Refusal.the-variants.{Lengths, Untied, Correction, Inverse, Defect, Residual, Refinement, TooLarge}
+use Rattle.acceptance.specs.declared.Refusal.the-variants.{Lengths}
 use Rattle.book.specs.declared.Book.{Book}
-use Rattle.book.specs.Sound.{Sound}
+use Rattle.book.specs.Sound.{Sound, parts-sound}
 use Rattle.checks.specs.Checks.{checked, thenNine, hasRoom, onAcceptance, sheetAfter}
-use Rattle.checks.specs.CheckLaws.{fit, checked-is}
+use Rattle.checks.specs.Demand2.{DemandOf}
+use Rattle.checks.specs.Demand2Holds.{demand-2}
 use Rattle.lent_checks.specs.LentChecks.{allWords, isWhole, checkedLent, onAccepted}
 
 -- ════ test 1 fails
@@ -80,20 +82,18 @@ module _ (b : Book) (o : Sound b) (x m : List ℕ) (r : Bool) where
   -- ════ how large an answer is
   pub lent-small : numberOf (checkedLent b x m r) + 256 * unknownOf (checkedLent b x m r) < 100000
   unfolding checkedLent
-  lent-small = go _ (checked-is b o (allWords x) (allWords m) (isWhole x && isWhole m && r))
+  lent-small =
+      let a = checkedLent b x m r in
+      go a (demand-2 b (parts-sound b o) (allWords x) (allWords m) .0 fits) (ℕ-discrete (numberOf a) 11)
     where
-      go : (a : Answer) → a ≡ answer (b .network) (b .places) (allWords x) (allWords m) (isWhole x && isWhole m && r) → numberOf a + 256 * unknownOf a < 100000
-      go Accepted e = lit< tt
-      go (Refused Lengths) e = lit< tt
-      go (Refused (Untied k)) e =
-          let f = untied-first (b .network) (b .places) (allWords x) (allWords m) (isWhole x && isWhole m && r) (fit b o .ends) k (sym e) in
-          omega (arith, number-small (b .network .stations) (f .component))
-      go (Refused Correction) e = lit< tt
-      go (Refused Inverse) e = lit< tt
-      go (Refused Defect) e = lit< tt
-      go (Refused Residual) e = lit< tt
-      go (Refused Refinement) e = lit< tt
-      go (Refused TooLarge) e = lit< tt
+      fits : Bool
+      fits = isWhole x && isWhole m && r
+
+      go : (a : Answer) → DemandOf b (allWords x) (allWords m) fits a → Dec (numberOf a ≡ 11) → numberOf a + 256 * unknownOf a < 100000
+      go a j (yes e) =
+          let f = j .untied e in
+          omega (arith, number-small (b .network .stations) (f .station * 3 + f .component), f .numbered, f .inside .0, f .inside .1)
+      go a j (no e) = omega (arith, number-most a, j .otherwise e)
 
 -- ════ a sheet
 -- no sheet takes more than 2,021 words
