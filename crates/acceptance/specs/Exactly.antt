@@ -1,12 +1,10 @@
--- The answer on a book's own N and u, and the seven tests on them: accepted exactly when all are passed.
+-- The answer on a book's own N and u: it looks at them below n alone, so the lists that the book keeps give it too.
 use Prim.Native.Nat.{ℕ, _*_, _^_, _<_, _≤_}
-use mathlib.Core.Path.{_≡_, refl, ap, ap₂, subst}
-use mathlib.Core.Bool.{Bool, true, false, not}
-use mathlib.Core.Logic.{_⊎_, inl, inr}
+use mathlib.Core.Path.{_≡_, ap, ap₂}
+use mathlib.Core.Bool.{Bool}
 use mathlib.Core.List.{List}
 use native.Mathlib.Omega.{arith}
-use borrow.Author.Tests.{eq-eqb}
-use lib.Dec.{T, leb, eqb}
+use lib.Dec.{leb}
 use lib.IntN.{ℤ, natAbs, _-ℤ_, _*ℤ_}
 use Rattle.integers.specs.Sums.{sum-ext, sumN-ext, δ}
 use Rattle.network.specs.Stations.{unknownCount}
@@ -16,15 +14,10 @@ use Rattle.network.specs.declared.Place.{Place}
 use Rattle.normals.specs.Sound.{Sound, record-sound}
 use Rattle.normals.specs.Formulas.{entryN, entryU, matrixOf, rightOf}
 use Rattle.normals.specs.Entries.{matrix-at, right-at, matrix-within, right-within}
-use Rattle.words.specs.Bools.{true-or-false}
-use Rattle.chains.specs.Chains.{allTied, firstUntied}
-use Rattle.acceptance.specs.Tests.{S, at, byRows, normalResidual, lengthsFit, correctionsSmall, inverseSmall, defectSmall, residualSmall, refinementSmall}
-use Rattle.acceptance.specs.Judge.{refusalNumber, numberOf, unknownOf, unless, judgeNumbers, judge}
+use Rattle.acceptance.specs.Tests.{S, at, byRows, normalResidual, defectSmall, residualSmall, refinementSmall}
+use Rattle.acceptance.specs.Judge.{judgeNumbers, judge}
 use Rattle.acceptance.specs.JudgeLaws.{Fit, all-same}
 use Rattle.acceptance.specs.declared.Answer.{Answer}
-use Rattle.acceptance.specs.declared.Answer.the-variants.{Accepted, Refused}
-use Rattle.acceptance.specs.declared.Refusal.{Refusal}
-use Rattle.acceptance.specs.declared.Refusal.the-variants.{Lengths, Untied, Correction, Inverse, Defect, Residual, Refinement}
 
 -- ════ n, N and u of the book, and M by rows
 abbrev pub n : Network → ℕ
@@ -39,19 +32,9 @@ u net places = entryU (net .stations) places
 abbrev pub rows : Network → List ℤ → ℕ → ℕ → ℤ
 rows net m = byRows (n net) m
 
--- ════ the answer on the book's own N = AᵀPA and u = AᵀPl, and the tests that it goes by
+-- ════ the answer on the book's own N = AᵀPA and u = AᵀPl
 unfoldable pub answer : Network → List Place → List ℤ → List ℤ → Bool → Answer
 answer net places x m room = judge net places (N net places) (u net places) x m room
-
--- the seven tests as they are computed; test 2 is the search, which chains' ChainLaws shows to be exact
-pub record Passes (net : Network) (places : List Place) (x m : List ℤ) (room : Bool) : Type 0 where
-  pub first : lengthsFit (n net) x m room ≡ true
-  pub second : allTied net places ≡ true
-  pub third : correctionsSmall x ≡ true
-  pub fourth : inverseSmall m ≡ true
-  pub fifth : defectSmall (n net) (N net places) (rows net m) ≡ true
-  pub sixth : residualSmall (n net) (N net places) (u net places) (at x) ≡ true
-  pub seventh : refinementSmall (n net) (N net places) (rows net m) (u net places) (at x) ≡ true
 
 -- ════ the tests look at N and u below n alone
 module _ (n : ℕ) (N N′ M : ℕ → ℕ → ℤ) (u u′ x : ℕ → ℤ)
@@ -86,15 +69,6 @@ judge-same net places N N′ u u′ same side x m room =
       refinement-same (n net) N N′ (rows net m) u u′ (at x) same side,
     )
 
--- ════ an answer with another number than the refusal's has passed the test
-other : Answer → Refusal → Type 0
-other a refusal = T (not (eqb (refusalNumber refusal) (numberOf a)))
-
-passed : (a : Answer) (b : Bool) (refusal : Refusal) (next : Answer) → other a refusal → unless b refusal next ≡ a → (b ≡ true) × (next ≡ a)
-unfolding other
-passed a true refusal next t e = (refl, e)
-passed a false refusal next t e = absurd (subst (λ (b : Bool). T (not b)) (eq-eqb (refusalNumber refusal) (numberOf a) (ap numberOf e)) t)
-
 module _ (net : Network) (places : List Place) (g : Sound net places) where
   few : n net ≤ 48
   few = sound-stations net (g .network) .few
@@ -123,28 +97,3 @@ module _ (net : Network) (places : List Place) (g : Sound net places) where
       → judge net places (byRows 48 (matrixOf (net .stations) places)) (at (rightOf (net .stations) places)) x m room ≡ answer net places x m room
   unfolding answer
   kept-answer x m room = judge-same net places _ _ _ _ N-is u-is x m room
-
-module _ (net : Network) (places : List Place) (x m : List ℤ) (room : Bool) where
-  pub accepted-all : answer net places x m room ≡ Accepted → Passes net places x m room
-  unfolding answer judge judgeNumbers other
-  accepted-all e =
-      let one = passed Accepted _ Lengths _ tt e in
-      let two = passed Accepted _ (Untied (firstUntied net places)) _ tt (one .1) in
-      let three = passed Accepted _ Correction _ tt (two .1) in
-      let four = passed Accepted _ Inverse _ tt (three .1) in
-      let five = passed Accepted _ Defect _ tt (four .1) in
-      let six = passed Accepted _ Residual _ tt (five .1) in
-      let seven = passed Accepted _ Refinement _ tt (six .1) in
-      record {
-        first = one .0;
-        second = two .0;
-        third = three .0;
-        fourth = four .0;
-        fifth = five .0;
-        sixth = six .0;
-        seventh = seven .0;
-      }
-
-  pub all-accepted : Passes net places x m room → answer net places x m room ≡ Accepted
-  unfolding answer judge judgeNumbers
-  all-accepted h = rw (h .first, h .second, h .third, h .fourth, h .fifth, h .sixth, h .seventh)

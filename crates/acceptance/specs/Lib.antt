@@ -7,3 +7,4 @@ pub mod Follows
 pub mod Kernel
 pub mod Exact
 pub mod Exactly
+pub mod InTurn

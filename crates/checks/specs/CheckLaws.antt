@@ -1,8 +1,9 @@
 -- What a sound book and an acceptance give: the ranges that the sheet's code asks for, and that 9 never comes.
-use Prim.Native.Nat.{ℕ, _*_, _≤_}
+use Prim.Native.Nat.{ℕ, _*_, _<_, _≤_}
 use mathlib.Core.Path.{_≡_, refl, ap}
 use mathlib.Core.Bool.{Bool, true, _&&_}
 use mathlib.Core.List.{List, _++_}
+use native.Mathlib.Omega.{arith}
 use borrow.Author.Tests.{le-leb, leb-true}
 use lib.Dec.{eqb}
 use lib.ListN.{length, drop}
@@ -17,7 +18,8 @@ use Rattle.normals.specs.Formulas.{matrixOf, rightOf}
 use Rattle.acceptance.specs.Tests.{at, byRows, lengthsFit}
 use Rattle.acceptance.specs.JudgeLaws.{Fit, lengths-of, corrections-small, inverse-small}
 use Rattle.acceptance.specs.Judge.{judge}
-use Rattle.acceptance.specs.Exactly.{answer, fit-of, kept-answer, accepted-all}
+use Rattle.acceptance.specs.Exactly.{n, answer, fit-of, kept-answer}
+use Rattle.acceptance.specs.InTurn.{computed, accepted-tests}
 use Rattle.acceptance.specs.declared.Answer.{Answer}
 use Rattle.acceptance.specs.declared.Answer.the-variants.{Accepted, Refused}
 use Rattle.acceptance.specs.declared.Refusal.{Refusal}
@@ -57,21 +59,27 @@ module _ (b : Book) (g : Parts.Sound b) where
 module _ (b : Book) (sure : sound b ≡ true) where
   module _ (x m : List ℤ) (r : Bool) where
     module _ (e : answer (b .network) (b .places) x m r ≡ Accepted) where
+      tests : (k : ℕ) → k < 7 → computed (b .network) (b .places) x m r k ≡ true
+      tests = accepted-tests (b .network) (b .places) x m r e
+
+      lengths : lengthsFit (n (b .network)) x m r ≡ true
+      unfolding computed
+      lengths = tests 0 (omega arith)
+
       pub solved : Solved (b .network) (b .places) x
+      unfolding computed
       solved =
-          let h = accepted-all (b .network) (b .places) x m r e in
           record {
-            moved = record { network = rules b sure .network; corrections = record { long = lengths-of _ x m r (h .first) .0; bound = corrections-small x (h .third) } };
+            moved = record { network = rules b sure .network; corrections = record { long = lengths-of _ x m r lengths .0; bound = corrections-small x (tests 2 (omega arith)) } };
             records = rules b sure .each;
           }
 
       pub inverse : Inverse (b .network) m
-      inverse =
-          let h = accepted-all (b .network) (b .places) x m r e in
-          record { long = lengths-of _ x m r (h .first) .1; bound = inverse-small m (h .fourth) }
+      unfolding computed
+      inverse = record { long = lengths-of _ x m r lengths .1; bound = inverse-small m (tests 3 (omega arith)) }
 
       pub has-room : r ≡ true
-      has-room = room-of-test _ x m r (accepted-all (b .network) (b .places) x m r e .first)
+      has-room = room-of-test _ x m r lengths
 
       pub sizes-fit : sizesFit (b .network) (b .places) x ≡ true
       unfolding sizesFit

@@ -2,31 +2,30 @@
 use Prim.Native.Nat.{ℕ, zero, suc, _+_, _*_, _<_}
 use mathlib.Core.Path.{_≡_, refl, sym, ap, _∙_, subst}
 use mathlib.Core.Bool.{Bool, true, false}
-use mathlib.Core.Logic.{_⊎_, inl, inr}
 use mathlib.Core.List.{List}
 use native.Mathlib.Nat.{le-trans}
-use native.Mathlib.Decide.{ℕ-discrete, decLt}
+use native.Mathlib.Decide.{decLt}
 use native.Mathlib.Omega.{arith}
 use lib.Dec.{lit≤}
 use lib.IntN.{ℤ, pos, natAbs, _-ℤ_, _*ℤ_}
 use Rattle.integers.specs.Sums.{δ}
-use Rattle.words.specs.Bools.{clash, true-or-false}
+use Rattle.words.specs.Bools.{clash}
 use Rattle.network.specs.Records.{recordAt, acts}
 use Rattle.normals.specs.Sound.{Sound}
 use Rattle.normals.specs.Sizes.{N-row, N-all}
 use Rattle.normals.specs.Symmetry.{N-sym}
-use Rattle.chains.specs.Chains.{allTied, firstUntied, FirstWithoutChain}
+use Rattle.chains.specs.Chains.{FirstWithoutChain}
 use Rattle.chains.specs.ChainLaws.{Ends, all-tied, tied-all, first-untied}
-use Rattle.acceptance.specs.Tests.{S, at, lengthsFit, correctionsSmall, inverseSmall, defectSmall, residualSmall, refinementSmall}
-use Rattle.acceptance.specs.Judge.{refusalNumber, refusalUnknown, numberOf, unknownOf, unless, judgeNumbers, judge}
+use Rattle.acceptance.specs.Tests.{S, at, defectSmall, refinementSmall}
+use Rattle.acceptance.specs.Judge.{refusalNumber, refusalUnknown, numberOf}
 use Rattle.acceptance.specs.JudgeLaws.{refusal-least}
 use Rattle.acceptance.specs.Follows.{RoundedAnswer, RoundedInverse, Moderate, correction, column, rounded-defect, rounded-residual, rounded-refinement}
 use Rattle.acceptance.specs.Exact.{exists, unique}
 use Rattle.acceptance.specs.Exactly.{answer, fit-of}
+use Rattle.acceptance.specs.InTurn.{Outcome, passes, fails, computed, refusal, settled, number-is}
 use Rattle.acceptance.specs.declared.Answer.{Answer}
 use Rattle.acceptance.specs.declared.Answer.the-variants.{Accepted, Refused}
 use Rattle.acceptance.specs.declared.Refusal.{Refusal}
-use Rattle.acceptance.specs.declared.Refusal.the-variants.{Lengths, Untied, Correction, Inverse, Defect, Residual, Refinement}
 use Rattle.book.specs.declared.Book.{Book}
 use Rattle.book.specs.Book.{sound}
 use Rattle.sheet.specs.Residuals.{residualVariance}
@@ -39,73 +38,20 @@ use Rattle.checks.specs.InverseWeights.{InverseWeights}
 use Rattle.checks.specs.ExactVariance.{exactResidualVariance, variance-near}
 use Rattle.checks.specs.Demand2.{n, N, u, M, Test, FirstHold, Promises, DemandOf, SheetDemand, Demand2}
 
--- ════ tests made in turn, from number k on: the first that fails settles the answer
-unfoldable inTurn : (ℕ → Bool) → (ℕ → Refusal) → ℕ → ℕ → Answer
-inTurn test refusal k zero = Accepted
-inTurn test refusal k (suc left) = unless (test k) (refusal k) (inTurn test refusal (suc k) left)
-
-data Outcome (test : ℕ → Bool) (refusal : ℕ → Refusal) (all : ℕ) : Answer → Type 0 where
-  passes : ((j : ℕ) → j < all → test j ≡ true) → Outcome test refusal all Accepted
-  fails : (k : ℕ) → k < all → ((j : ℕ) → j < k → test j ≡ true) → test k ≡ false → Outcome test refusal all (Refused (refusal k))
-
-outcome : (test : ℕ → Bool) (refusal : ℕ → Refusal) (all left k : ℕ) → k + left ≡ all → ((j : ℕ) → j < k → test j ≡ true) → Outcome test refusal all (inTurn test refusal k left)
-unfolding inTurn
-outcome test refusal all zero k e h = passes (λ j l. h j (omega arith))
-outcome test refusal all (suc left) k e h = go (λ p. outcome test refusal all left (suc k) (omega arith) (λ j l. more p j l (ℕ-discrete j k))) (true-or-false (test k))
-  where
-    more : test k ≡ true → (j : ℕ) → j < suc k → Dec (j ≡ k) → test j ≡ true
-    more p j l (yes q) = ap test q ∙ p
-    more p j l (no q) = h j (omega arith)
-
-    go : (test k ≡ true → Outcome test refusal all (inTurn test refusal (suc k) left)) → (test k ≡ true) ⊎ (test k ≡ false)
-        → Outcome test refusal all (unless (test k) (refusal k) (inTurn test refusal (suc k) left))
-    go rest (inl p) = rw p (rest p)
-    go rest (inr p) = rw p (fails k (omega arith) h p)
-
 module _ (b : Book) (x m : List ℤ) (fits : Bool) where
   -- test k + 1 as it is computed, and its refusal
-  unfoldable computed : ℕ → Bool
-  computed zero = lengthsFit (n b) x m fits
-  computed (suc zero) = allTied (b .network) (b .places)
-  computed (suc (suc zero)) = correctionsSmall x
-  computed (suc (suc (suc zero))) = inverseSmall m
-  computed (suc (suc (suc (suc zero)))) = defectSmall (n b) (N b) (M b m)
-  computed (suc (suc (suc (suc (suc zero))))) = residualSmall (n b) (N b) (u b) (at x)
-  computed (suc (suc (suc (suc (suc (suc k)))))) = refinementSmall (n b) (N b) (M b m) (u b) (at x)
+  abbrev test : ℕ → Bool
+  test = computed (b .network) (b .places) x m fits
 
-  unfoldable refusal : ℕ → Refusal
-  refusal zero = Lengths
-  refusal (suc zero) = Untied (firstUntied (b .network) (b .places))
-  refusal (suc (suc zero)) = Correction
-  refusal (suc (suc (suc zero))) = Inverse
-  refusal (suc (suc (suc (suc zero)))) = Defect
-  refusal (suc (suc (suc (suc (suc zero))))) = Residual
-  refusal (suc (suc (suc (suc (suc (suc k)))))) = Refinement
-
-  in-turn : answer (b .network) (b .places) x m fits ≡ inTurn computed refusal 0 7
-  unfolding answer judge judgeNumbers inTurn computed refusal
-  in-turn = refl
-
-  settled : Outcome computed refusal 7 (answer (b .network) (b .places) x m fits)
-  settled = subst (Outcome computed refusal 7) (sym in-turn) (outcome computed refusal 7 7 0 refl (λ j l. absurd (omega arith)))
-
-  number-is : (k : ℕ) → k < 7 → refusalNumber (refusal k) ≡ 10 + k
-  unfolding refusal
-  number-is zero l = refl
-  number-is (suc zero) l = refl
-  number-is (suc (suc zero)) l = refl
-  number-is (suc (suc (suc zero))) l = refl
-  number-is (suc (suc (suc (suc zero)))) l = refl
-  number-is (suc (suc (suc (suc (suc zero))))) l = refl
-  number-is (suc (suc (suc (suc (suc (suc zero)))))) l = refl
-  number-is (suc (suc (suc (suc (suc (suc (suc k))))))) l = absurd (omega arith)
+  abbrev reason : ℕ → Refusal
+  reason = refusal (b .network) (b .places) x m fits
 
   -- ════ the computed tests are document 01's
   module _ (g : Sound (b .network) (b .places)) where
     ends : Ends (b .network) (b .places)
     ends = fit-of (b .network) (b .places) g .ends
 
-    holds : (k : ℕ) → computed k ≡ true → Test b x m fits k
+    holds : (k : ℕ) → test k ≡ true → Test b x m fits k
     unfolding computed Test
     holds zero e = e
     holds (suc zero) e = all-tied (b .network) (b .places) ends e
@@ -115,7 +61,7 @@ module _ (b : Book) (x m : List ℤ) (fits : Bool) where
     holds (suc (suc (suc (suc (suc zero))))) e = e
     holds (suc (suc (suc (suc (suc (suc k)))))) e = e
 
-    tested : (k : ℕ) → Test b x m fits k → computed k ≡ true
+    tested : (k : ℕ) → Test b x m fits k → test k ≡ true
     unfolding computed Test
     tested zero e = e
     tested (suc zero) e = tied-all (b .network) (b .places) ends e
@@ -126,7 +72,7 @@ module _ (b : Book) (x m : List ℤ) (fits : Bool) where
     tested (suc (suc (suc (suc (suc (suc k)))))) e = e
 
     -- ════ what follows from acceptance
-    promises : ((j : ℕ) → j < 7 → computed j ≡ true) → Promises b x m
+    promises : ((j : ℕ) → j < 7 → test j ≡ true) → Promises b x m
     unfolding computed
     promises h =
         let five : defectSmall (n b) (N b) (M b m) ≡ true = h 4 (omega arith) in
@@ -169,13 +115,13 @@ module _ (b : Book) (x m : List ℤ) (fits : Bool) where
     variances i p h = variance-near (b .network) (g .network) (b .places) m i (recordAt (b .places) p) (g .each p h)
 
     -- ════ the answer
-    untied : (k : ℕ) → k ≡ 1 → computed k ≡ false → FirstWithoutChain (b .network) (b .places) (refusalUnknown (refusal k))
+    untied : (k : ℕ) → k ≡ 1 → test k ≡ false → FirstWithoutChain (b .network) (b .places) (refusalUnknown (reason k))
     unfolding computed refusal
     untied zero e f = absurd (omega arith)
     untied (suc zero) e f = first-untied (b .network) (b .places) ends f
     untied (suc (suc k)) e f = absurd (omega arith)
 
-    otherwise : (k : ℕ) → (k ≡ 1 → ⊥) → refusalUnknown (refusal k) ≡ 0
+    otherwise : (k : ℕ) → (k ≡ 1 → ⊥) → refusalUnknown (reason k) ≡ 0
     unfolding refusal
     otherwise zero e = refl
     otherwise (suc zero) e = absurd (e refl)
@@ -185,7 +131,7 @@ module _ (b : Book) (x m : List ℤ) (fits : Bool) where
     otherwise (suc (suc (suc (suc (suc zero))))) e = refl
     otherwise (suc (suc (suc (suc (suc (suc k)))))) e = refl
 
-    judged : (a : Answer) → Outcome computed refusal 7 a → DemandOf b x m fits a
+    judged : (a : Answer) → Outcome test reason 7 a → DemandOf b x m fits a
     judged a (passes h) =
         record {
           accepted = ((λ e j l. holds j (h j l)), (λ f. refl));
@@ -197,29 +143,29 @@ module _ (b : Book) (x m : List ℤ) (fits : Bool) where
           variances = variances;
         }
     judged a (fails k l before fail) =
-        let number = number-is k l in
+        let number = number-is (b .network) (b .places) x m fits k l in
         record {
           accepted = ((λ e. absurd (omega arith)), (λ f. clash (tested k (f k l)) fail));
           refused = λ i h. ((λ e. first i h (let s : k ≡ i = omega arith in s)), (λ f. same i f (decLt k i) (decLt i k)));
           untied = λ e. untied k (omega arith) fail;
-          otherwise = λ e. otherwise k (λ q. e (ap (λ (j : ℕ). refusalNumber (refusal j)) q ∙ number-is 1 (omega arith)));
+          otherwise = λ e. otherwise k (λ q. e (ap (λ (j : ℕ). refusalNumber (reason j)) q ∙ number-is (b .network) (b .places) x m fits 1 (omega arith)));
           promises = λ e. absurd (omega arith);
           complete = λ p q f j h. complete p q f j h (decLt j 4);
           variances = variances;
         }
       where
         first : (i : ℕ) → i < 7 → k ≡ i → FirstHold b x m fits i × (Test b x m fits i → ⊥)
-        first i h e = ((λ j q. holds j (before j (omega arith))), (λ t. clash (tested i t) (ap computed (sym e) ∙ fail)))
+        first i h e = ((λ j q. holds j (before j (omega arith))), (λ t. clash (tested i t) (ap test (sym e) ∙ fail)))
 
-        same : (i : ℕ) → FirstHold b x m fits i × (Test b x m fits i → ⊥) → Dec (k < i) → Dec (i < k) → refusalNumber (refusal k) ≡ 10 + i
+        same : (i : ℕ) → FirstHold b x m fits i × (Test b x m fits i → ⊥) → Dec (k < i) → Dec (i < k) → refusalNumber (reason k) ≡ 10 + i
         same i f (yes q) d = clash (tested k (f .0 k q)) fail
         same i f (no q) (yes d) = absurd (f .1 (holds i (before i d)))
-        same i f (no q) (no d) = number-is k l ∙ (let s : 10 + k ≡ 10 + i = omega arith in s)
+        same i f (no q) (no d) = number-is (b .network) (b .places) x m fits k l ∙ (let s : 10 + k ≡ 10 + i = omega arith in s)
 
 -- ════ a sound book
 module _ (b : Book) (sure : sound b ≡ true) (x m : List ℤ) where
   judged-by : (fits : Bool) → DemandOf b x m fits (checked b x m fits)
-  judged-by fits = subst (DemandOf b x m fits) (sym (checked-is b sure x m fits)) (judged b x m fits (rules b sure) (answer (b .network) (b .places) x m fits) (settled b x m fits))
+  judged-by fits = subst (DemandOf b x m fits) (sym (checked-is b sure x m fits)) (judged b x m fits (rules b sure) (answer (b .network) (b .places) x m fits) (settled (b .network) (b .places) x m fits))
 
   written : (sheet : List ℤ) (a : Answer) → checked b x m (hasRoom b sheet) ≡ a → SheetDemand b x m sheet (sheetAfter b x m sheet) (numberOf a)
   unfolding sheetAfter onAcceptance

@@ -13,7 +13,7 @@ use Rattle.acceptance.specs.declared.Answer.{Answer}
 use Rattle.acceptance.specs.declared.Answer.the-variants.{Accepted, Refused}
 use Rattle.book.specs.declared.Book.{Book}
 use Rattle.book.specs.declared.Edited.{Edited}
-use Rattle.book.specs.Calls.{Call, unless}
+use Rattle.book.specs.Calls.{unless}
 use Rattle.book.specs.Book.{openedBook, opening, outcome, bookSays, bookAccepts, sound}
 use Rattle.book.specs.Sound.{Sized, sound-parts, parts-sound}
 use Rattle.book.specs.SoundLaws.{sound-next}
@@ -22,7 +22,7 @@ use Rattle.checks.specs.Checks.{checked, hasRoom, onAcceptance, sheetAfter}
 use Rattle.engine.specs.Proposals.{Proposed}
 use Rattle.engine.specs.declared.Proposal.{Proposal}
 use Rattle.engine.specs.declared.Proposal.the-variants.{Made, Nothing}
-use Rattle.engine.specs.Demand1.{Asked, toOpen, toEdit, toCheck, toCheckSheet, toPropose, Kept, given, proposalNumber, Returns, Demand, Demand1}
+use Rattle.engine.specs.Demand1.{Asked, toOpen, toEdit, toCheck, toCheckSheet, toPropose, Kept, given, proposalNumber, Returns, Demand1}
 
 -- ════ a refused call leaves what it was given
 unless-refused : {A : Type 0} (n : ℕ) (a b : A) → (n ≡ 0 → ⊥) → unless n a b ≡ a

@@ -12,7 +12,6 @@ use Rattle.words.specs.Bools.{clash, true-or-false}
 use Rattle.words.specs.Runs.{wordsAt}
 use Rattle.acceptance.specs.declared.Answer.{Answer}
 use Rattle.acceptance.specs.declared.Answer.the-variants.{Accepted, Refused}
-use Rattle.book.specs.declared.Book.{Book}
 use Rattle.book.specs.declared.Edited.{Edited}
 use Rattle.book.specs.Calls.{Call, unless}
 use Rattle.book.specs.Book.{opening, outcome}
@@ -20,7 +19,7 @@ use Rattle.lent_checks.specs.LentChecks.{answerWord, checkedLent, sheetFits, on
 use Rattle.lent_checks.specs.Offers.{Offers}
 use Rattle.layout.specs.Bytes.{bookOf, bytesFit}
 use Rattle.host.specs.Calls.{Returned, refused, settled, through, edit, opens}
-use Rattle.host.specs.CheckCalls.{Judged, judgedLent, checkCall, sheetCall}
+use Rattle.host.specs.CheckCalls.{judgedLent, sheetCall}
 use Rattle.host.specs.Proposal.{Proposes}
 use Rattle.host.specs.Demand3Holds.{opened-fits-next, edited-fits-next}
 use Rattle.host.specs.Demand1.{Asked, toOpen, toEdit, toCheck, toCheckSheet, toPropose, Lent, given, Returns, Demand1}
