@@ -3,6 +3,8 @@ one test; the line before the last says how many were tried. Prints 'N passed, M
 
     python3 tests/host/flips.py FLIPS FOLDER
 """
+import functools
+import multiprocessing
 import os
 import random
 import subprocess
@@ -34,6 +36,13 @@ def full_book():
     return book
 
 
+def fits_flipped(data, bit):
+    """whether the reference takes the bytes with one bit flipped for a book by the rules"""
+    damaged = bytearray(data)
+    damaged[bit // 8] ^= 1 << bit % 8
+    return judge(bytes(damaged)) is not None
+
+
 def main():
     flips, folder = sys.argv[1:3]
     path = os.path.join(folder, 'full.book')
@@ -42,23 +51,18 @@ def main():
         f.write(data)
     ran = subprocess.run([flips, path], stdout=subprocess.PIPE, text=True)
     failed = ran.returncode
-    read = ran.stdout.split('\n')[:-1]
-    for line in read:
+    lines = ran.stdout.split('\n')[:-1]
+    read = {int(line) for line in lines if line.isdigit()}
+    for line in lines:
         if not line.isdigit():
             print(line)
             failed += 1
-            continue
-        damaged = bytearray(data)
-        damaged[int(line) // 8] ^= 1 << int(line) % 8
-        if judge(bytes(damaged)) is None:
-            print('bit %s reads, and is no book by the rules' % line)
-            failed += 1
-    # and the other way round: bits of words that may differ in another sound book
-    reads = set(read)
-    for bit in range(0, 8 * BYTES, 977):
-        damaged = bytearray(data)
-        damaged[bit // 8] ^= 1 << bit % 8
-        if (judge(bytes(damaged)) is not None) != (str(bit) in reads):
+    # each flip that reads, and the other way round bits of words that may differ in another sound book
+    bits = sorted(read | set(range(0, 8 * BYTES, 977)))
+    with multiprocessing.Pool() as pool:
+        fits = pool.map(functools.partial(fits_flipped, data), bits, chunksize=64)
+    for bit, fit in zip(bits, fits):
+        if fit != (bit in read):
             print('bit %d is judged otherwise' % bit)
             failed += 1
     print('%d flips tried, %d of them read as another book' % (8 * BYTES, len(read)))
