@@ -23,7 +23,7 @@ extern "C" {
 /* The bytes of a book. A longer slice may be lent: bytes beyond stay. The layout is in docs/BOOK.md; a program needs it only to look inside. */
 #define DOMBRELAT_BOOK_BYTES 56224
 
-/* The stack to give a thread that makes a call. tests/host/stack.c measured 331,208 bytes on x86-64 (propose on a full book; an edit takes 137,912); the rest is margin. */
+/* The stack to give a thread that makes a call. tests/host/stack.c measured 349,288 bytes on x86-64 (propose on a full book; an edit takes 137,912); the rest is margin. */
 #define DOMBRELAT_STACK_BYTES 393216
 
 /* Limits. */
