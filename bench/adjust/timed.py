@@ -1,6 +1,7 @@
 """Times the program on the network alone and on the network with the edits after it; prints edit lines a second, by elapsed time and, for a machine that is not idle, by processor time.
+Exit status 0 where the lines a second by processor time reach the budget.
 
-    timed.py PROGRAM NETWORK EDITS
+    timed.py PROGRAM NETWORK EDITS BUDGET
 """
 import resource
 import subprocess
@@ -14,9 +15,9 @@ def processor_time():
 
 
 def best(program, data):
-    """The least elapsed and the least processor time of five runs, and what was printed."""
+    """The least elapsed and the least processor time of twelve runs, and what was printed."""
     elapsed, used = [], []
-    for _ in range(5):
+    for _ in range(12):
         start, before = time.perf_counter(), processor_time()
         done = subprocess.run([program], input=data, stdout=subprocess.PIPE, check=True)
         elapsed.append(time.perf_counter() - start)
@@ -24,7 +25,7 @@ def best(program, data):
     return min(elapsed), min(used), done.stdout
 
 
-program, network, edits = sys.argv[1:]
+program, network, edits, budget = sys.argv[1:]
 with open(network, 'rb') as a, open(edits, 'rb') as b:
     head, tail = a.read(), b.read()
 alone, whole = best(program, head), best(program, head + tail)
@@ -33,4 +34,5 @@ if b'REFUSED' in whole[2] or b'UNREADABLE' in whole[2]:
 count = tail.count(b'\n')
 for name, k in (('elapsed', 0), ('processor', 1)):
     seconds = whole[k] - alone[k]
-    print('%d edit lines on a full book, %s time: %.0f lines a second, %.2f microseconds each' % (count, name, count / seconds, seconds / count * 1e6))
+    print('%d edit lines on a full book, %s time: %.0f lines a second (budget %s), %.2f microseconds each' % (count, name, count / seconds, budget, seconds / count * 1e6))
+sys.exit(count / seconds < float(budget))

@@ -10,7 +10,6 @@ enum { EDITS = 4000, ROWS = 256 + EDITS, WORDS = 14 };
 uint64_t bench_replay(const int64_t *list, size_t words, const int64_t *calls, size_t call_words, int64_t *answers, size_t room);
 
 static int64_t list[17 * 4], calls[ROWS * WORDS], answers[ROWS], twin_answers[ROWS];
-static size_t rows;
 static int failed;
 
 /* one known station and 16 free ones; baselines between them, every one of which enters; the last edits are struck, undone and refused ones too */
@@ -28,30 +27,43 @@ static void sample(void) {
     }
 }
 
-static void library(int k) {
-    (void)k;
-    bench_replay(list, 17 * 4, calls, rows * WORDS, answers, rows);
+static void library(int rows) {
+    bench_replay(list, 17 * 4, calls, (size_t)rows * WORDS, answers, (size_t)rows);
 }
 
-static void plain(int k) {
-    (void)k;
-    twin_replay(list, 17 * 4, calls, rows, twin_answers);
+static void plain(int rows) {
+    twin_replay(list, 17 * 4, calls, (size_t)rows, twin_answers);
 }
 
-static double edit(void (*replay)(int)) {
-    double all, adds;
-    rows = ROWS, all = least(replay, 20, 1);
-    rows = 256, adds = least(replay, 20, 1);
-    return (all - adds) / EDITS;
+static void library_all(int k) {
+    (void)k;
+    library(ROWS);
+}
+
+static void library_adds(int k) {
+    (void)k;
+    library(256);
+}
+
+static void plain_all(int k) {
+    (void)k;
+    plain(ROWS);
+}
+
+static void plain_adds(int k) {
+    (void)k;
+    plain(256);
 }
 
 static void *measure(void *unused) {
-    rows = ROWS;
-    library(0);
-    plain(0);
+    void (*const replays[])(int) = {library_all, library_adds, plain_all, plain_adds};
+    double best[4];
+    library(ROWS);
+    plain(ROWS);
     failed = memcmp(answers, twin_answers, sizeof answers) != 0;
     if (!failed) {
-        report("one edit of a full book by value", edit(library), edit(plain), 2);
+        least(replays, 4, 40, 1, best);
+        report("one edit of a full book by value", (best[0] - best[1]) / EDITS, (best[2] - best[3]) / EDITS, 2);
     }
     return unused;
 }

@@ -65,6 +65,6 @@ int main(void) {
     if (refused || memcmp(ours, theirs, sizeof ours)) {
         return fail("check: the two differ, or the pair is refused");
     }
-    report("check_sheet at full size, beside the 25 test", least(library, 7, 400) - least(decoding, 7, 400), least(plain, 7, 400), 1.3);
+    report_without("check_sheet at full size, beside the 25 test", library, decoding, plain, 1.3);
     return 0;
 }

@@ -17,11 +17,14 @@ static void plain(int k) {
 }
 
 int main(void) {
+    void (*const calls[])(int) = {library, plain};
+    double best[2];
     for (size_t k = 0; k < ENTRIES; k++) {
         if (bench_normals(k) != twin_normals(k)) {
             return fail("normals: an entry differs");
         }
     }
-    report("N and u of 256 baselines from scratch", least(library, 40, 500), least(plain, 40, 500), 2);
+    least(calls, 2, 300, 100, best);
+    report("N and u of 256 baselines from scratch", best[0], best[1], 2);
     return 0;
 }
