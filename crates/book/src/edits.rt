@@ -69,23 +69,19 @@ impl Book {
     }
 
     // The one core edit: r at place i, its share of N and u in, that of what the place held out, and the journal given.
-    fn put(self, i: usize, r: Record, journal: Journal) -> Book
+    fn put(mut self, i: usize, r: Record, journal: Journal) -> Book
         requires { ⌜ (i < 256) × (recordFits (self .network) r ≡ true) × Sound self ⌝ }
         ensures { λ b. ⌜ b ≡ withEntry self i r journal ⌝ }
     {
         let network = self.network;
-        let mut places = self.places;
-        let q = places[i];
+        let q = self.places[i];
         let old = q.entry;
-        places[i] = Place { entry: r };
-        let kept = self.normals;
-        let normals = kept.exchange(network, old, r);
-        Book {
-            network,
-            places,
-            journal,
-            normals,
-        }
+        self.places[i] = Place { entry: r };
+        let mut right = self.normals.right;
+        normals::exchange_shares(&mut self.normals.matrix, &mut right, network, old, r);
+        normals::set_right(&mut self.normals.right, &right);
+        self.journal = journal;
+        self
     }
 
     // The edit, unless it is refused.

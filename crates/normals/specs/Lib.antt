@@ -18,3 +18,4 @@ pub mod Equations
 pub mod EquationSizes
 pub mod Shares
 pub mod FirstPlaces
+pub mod Copied

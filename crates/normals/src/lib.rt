@@ -4,10 +4,11 @@ use network::Place;
 use network::Record;
 use network::Unit;
 ghost use mathlib.Core.Path.{_≡_};
+ghost use lib.ListN.{length};
 ghost use Rattle.normals.specs.Formulas.{normalsOf};
 ghost use Rattle.normals.specs.Sound.{Sound};
 ghost use Rattle.normals.specs.Blank.{blankNormals};
-ghost use Rattle.normals.specs.Exchange.{Exchangeable, exchangedN, exchangedU, exchanged};
+ghost use Rattle.normals.specs.Exchange.{Exchangeable, exchangedN, exchangedU};
 ghost use Rattle.normals.specs.Same.{sameNormals};
 
 mod compare;
@@ -72,20 +73,6 @@ impl Normals {
         }
     }
 
-    // One record's share taken off, and another's put on.
-    pub fn exchange(self, net: Network, old: Record, new: Record) -> Normals
-        requires { ⌜ Exchangeable net old new (self .matrix) (self .right) ⌝ }
-        ensures { λ r. ⌜ r ≡ exchanged (net .stations) old new self ⌝ }
-    {
-        let mut n = self.matrix;
-        let mut u = self.right;
-        exchange_shares(&mut n, &mut u, net, old, new);
-        Normals {
-            matrix: n,
-            right: u,
-        }
-    }
-
     // Whether N and u are the same.
     pub fn same(self, other: Normals) -> bool
         ensures { λ r. ⌜ r ≡ sameNormals self other ⌝ }
@@ -95,7 +82,7 @@ impl Normals {
     }
 }
 
-// The exchange in place: at most 72 entries of N and 12 of u are touched.
+// One record's share taken off N and u, and another's put on: at most 72 entries of N and 12 of u are touched.
 pub fn exchange_shares(
     n: &mut [i64; Normals::ENTRIES],
     u: &mut [i64; Normals::ROW],
@@ -115,4 +102,16 @@ pub fn exchange_shares(
     let q = records::equation_of(&at, &unknown, &coordinate, new);
     equations::add_equation(n, u, p, -1);
     equations::add_equation(n, u, q, 1);
+}
+
+// Makes u the numbers given. A book lends its own u: the prover does not cover the store of an array to a field of a field.
+pub fn set_right(u: &mut [i64; Normals::ROW], right: &[i64; Normals::ROW])
+    requires { ⌜ (length (now u) ≡ 48) × (length (now right) ≡ 48) ⌝ }
+    ensures { λ _. ⌜ now (u .exit) ≡ now (right .entry) ⌝ }
+{
+    let mut i = 0;
+    while i < Normals::ROW {
+        u[i] = right[i];
+        i = i + 1;
+    }
 }

@@ -1,15 +1,13 @@
 use native.Mathlib.Omega.{arith}
-use mathlib.Core.Path.{_≡_, refl, sym, _∙_}
-use Prim.Native.Nat.{ℕ, _+_, _-_, _≤_, _<_}
-use mathlib.Core.List.{List}
-use native.Mathlib.Numerals.{add-one}
-use lib.ListN.{length, take, getD, set}
-use lib.Seq.{take-suc, take-suc-set, take-all}
-use lib.IntN.{ℤ, pos}
+use mathlib.Core.Path.{_≡_, refl}
+use Prim.Native.Nat.{_-_, _≤_}
+use lib.ListN.{length, take, getD}
+use lib.IntN.{pos}
 use mir.Syntax.{w64}
 use mir.Val.{toZ, ofZ}
 use mir.Facts.{toZ-ofZ}
 use borrow.Author.Needs.{needs, sfits-of}
+use Rattle.normals.specs.Copied.{copied-more, copied-all}
 use Rattle.engine.proofs.copying.copy.Statement.{statement}
 use Rattle.engine.proofs.copying.copy.Tie as tie
 
@@ -18,14 +16,6 @@ Inv-loop from to₀ i₀ to i = (i ≤ length from) × ((length to ≡ length to
 
 abbrev μ-loop : tie.MeasureT-loop
 μ-loop from to₀ i₀ to i = length from - i
-
--- one more number copied
-copied : (f t : List ℤ) (i : ℕ) → i < length f → i < length t → take i t ≡ take i f → take (i + 1) (set t i (getD f i (pos 0))) ≡ take (i + 1) f
-copied f t i h k p = rw (add-one, take-suc-set t i _ k, take-suc f i (pos 0) h, p)
-
--- all copied
-whole : (f t : List ℤ) (i : ℕ) → length f ≤ i → length t ≤ i → take i t ≡ take i f → t ≡ f
-whole f t i h k p = sym (take-all i t k) ∙ p ∙ take-all i f h
 
 loop-holds : tie.Need-loop-holds Inv-loop μ-loop
 loop-holds c = (omega arith, (refl, refl))
@@ -53,7 +43,7 @@ loop-again c =
     let s = c .before .before in
     let f = s .before .args .from .now in
     let e : toZ w64 (ofZ w64 (getD f (s .loop .i) (pos 0))) ≡ getD f (s .loop .i) (pos 0) = toZ-ofZ {w = w64} (sfits-of (c .to .given)) in
-    (search needs, (search needs, rw e (copied f (s .loop .to) (s .loop .i) (omega arith) (omega arith) (s .loop .inv .1 .1))))
+    (search needs, (search needs, rw e (copied-more f (s .loop .to) (s .loop .i) (s .loop .inv .1 .1) (omega arith) (omega arith))))
 
 same-length : tie.Need-same-length Inv-loop μ-loop
 same-length c = search needs
@@ -61,7 +51,7 @@ same-length c = search needs
 returns : tie.Need-returns Inv-loop μ-loop
 returns c =
     let s = c .before in
-    whole (s .before .args .from .now) (s .loop .to) (s .loop .i) (omega arith) (omega arith) (s .loop .inv .1 .1)
+    copied-all (s .before .args .from .now) (s .loop .to) (s .loop .i) (s .loop .inv .1 .1) (omega arith) (omega arith)
 
 pub copy-spec : {M : Type 1} → statement M
 copy-spec =
