@@ -29,8 +29,8 @@ use Rattle.book.specs.Calls.{placesOf, first, placeNo, filledNo, emptyNo, undoN
 use Rattle.book.specs.Run.{final, answers}
 use Rattle.book.specs.Rows.{rowNext, rowSays}
 use Rattle.book.specs.Ledger.{standing, accepted}
-use Rattle.sheet.specs.Residuals.{correction, adjusted, covariance, residual, shareT, T, observations, isRecord, recordCount, D, observationVariance, differenceVariance, residualVariance, adjugate}
-use Rattle.sheet.specs.Verdicts.{verdictWord, localVerdict, globalVerdict, chiSquare}
+use Rattle.residuals.specs.Residuals.{correction, adjusted, covariance, residual, shareT, T, observations, isRecord, recordCount, D, observationVariance, differenceVariance, residualVariance, adjugate}
+use Rattle.residuals.specs.Verdicts.{verdictWord, localVerdict, globalVerdict, chiSquare}
 use Rattle.sheet.specs.Sheet.{stationWords, verdictAt, recordWords, stationLines, recordLines, globalWords, sheetWords, wordsOf, room}
 use Rattle.checks.specs.Checks.{onAcceptance}
 use Rattle.cases.specs.Table.{Case, stationList, table}

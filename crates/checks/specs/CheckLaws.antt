@@ -28,7 +28,7 @@ use Rattle.book.specs.Book.{sound}
 use Rattle.book.specs.Sound.{tested, parts-sound}
 use Rattle.book.specs.Sound as Parts
 use Rattle.sheet.specs.Sheet.{sheetWords, room}
-use Rattle.sheet.specs.Ranges.{Solved, Inverse}
+use Rattle.residuals.specs.Ranges.{Solved, Inverse}
 use Rattle.sheet.specs.Totals.{T-fits}
 use Rattle.checks.specs.Checks.{sizesFit, thenNine, checked, hasRoom, onAcceptance, sheetAfter}
 

@@ -13,7 +13,7 @@ use Rattle.acceptance.specs.declared.Answer.{Answer}
 use Rattle.acceptance.specs.declared.Answer.the-variants.{Accepted, Refused}
 use Rattle.acceptance.specs.declared.Refusal.the-variants.{TooLarge}
 use Rattle.book.specs.declared.Book.{Book}
-use Rattle.sheet.specs.Residuals.{T}
+use Rattle.residuals.specs.Residuals.{T}
 use Rattle.sheet.specs.Sheet.{sheetWords, room}
 
 -- ════ 9: "an entry of N or u, or T, beyond ±2^62"

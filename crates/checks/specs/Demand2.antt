@@ -29,7 +29,7 @@ use Rattle.acceptance.specs.Exact.{Solution}
 use Rattle.acceptance.specs.declared.Answer.{Answer}
 use Rattle.book.specs.declared.Book.{Book}
 use Rattle.book.specs.Book.{sound}
-use Rattle.sheet.specs.Residuals.{adjusted, variance, D, residualVariance}
+use Rattle.residuals.specs.Residuals.{adjusted, variance, D, residualVariance}
 use Rattle.sheet.specs.Sheet.{sheetWords, room}
 use Rattle.checks.specs.Checks.{checked, hasRoom, sheetAfter}
 use Rattle.checks.specs.InverseWeights.{InverseWeights}

@@ -28,9 +28,9 @@ use Rattle.acceptance.specs.declared.Answer.the-variants.{Accepted, Refused}
 use Rattle.acceptance.specs.declared.Refusal.{Refusal}
 use Rattle.book.specs.declared.Book.{Book}
 use Rattle.book.specs.Book.{sound}
-use Rattle.sheet.specs.Residuals.{residualVariance}
+use Rattle.residuals.specs.Residuals.{residualVariance}
 use Rattle.sheet.specs.SheetLaws.{sheet-length}
-use Rattle.sheet.specs.Held.{held-stays, held-exact}
+use Rattle.residuals.specs.Held.{held-stays, held-exact}
 use Rattle.checks.specs.Checks.{checked, hasRoom, onAcceptance, sheetAfter}
 use Rattle.checks.specs.CheckLaws.{rules, checked-is}
 use Rattle.checks.specs.Freedom.{freedom-nonnegative}

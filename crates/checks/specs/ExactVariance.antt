@@ -28,8 +28,8 @@ use Rattle.network.specs.declared.Record.the-variants.{Empty, Baseline as basel
 use Rattle.normals.specs.Formulas.{A, entryN}
 use Rattle.acceptance.specs.Tests.{byRows}
 use Rattle.acceptance.specs.Follows.{RoundedInverse}
-use Rattle.sheet.specs.Residuals.{S, covariance, differenceVariance, residualVariance}
-use Rattle.sheet.specs.Components.{atEnd, A-sum}
+use Rattle.residuals.specs.Residuals.{S, covariance, differenceVariance, residualVariance}
+use Rattle.residuals.specs.Components.{atEnd, A-sum}
 use Rattle.checks.specs.InverseWeights.{InverseWeights, weightAdjugate, weightDeterminant, inverse-weights, observation-quotient, proportional}
 
 -- ════ the diagonal of P⁻¹ − A N⁻¹ Aᵀ, in component a of record r, times p·D so that it is whole; P⁻¹ is Q over p, and N⁻¹ is Z over D

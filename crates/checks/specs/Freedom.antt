@@ -22,7 +22,7 @@ use Rattle.normals.specs.Acting.{A-not-acting}
 use Rattle.normals.specs.WholeMatrices.{rowA, blockP, N-whole}
 use Rattle.acceptance.specs.Tests.{defectSmall}
 use Rattle.acceptance.specs.Kernel.{kernel}
-use Rattle.sheet.specs.Residuals.{observations, D}
+use Rattle.residuals.specs.Residuals.{observations, D}
 
 -- ════ a record's observations are the components it acts in
 abbrev observes : Record → ℕ → ℕ

@@ -23,8 +23,8 @@ use Rattle.network.specs.declared.Record.the-variants.{Empty, Baseline as basel
 use Rattle.normals.specs.Formulas.{P}
 use Rattle.normals.specs.Symmetry.{P-sym}
 use Rattle.normals.specs.Acting.{P-not-acting}
-use Rattle.sheet.specs.Residuals.{S, adjugate, observationVariance}
-use Rattle.sheet.specs.Weights.{divisor, divisor-some, weights-by-rules}
+use Rattle.residuals.specs.Residuals.{S, adjugate, observationVariance}
+use Rattle.residuals.specs.Weights.{divisor, divisor-some, weights-by-rules}
 
 -- PQ = p·I where the record acts: of a baseline the whole of it, of a height difference weight·Q_UU = p
 pub record InverseWeights (r : Record) (Q : ℕ → ℕ → ℤ) (p : ℕ) : Type 0 where

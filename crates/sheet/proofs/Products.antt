@@ -1,26 +1,20 @@
--- What the code computes of two rows of weights and of a verdict, in machine integers.
+-- What the code computes of a quotient and of a verdict, in machine integers.
 use Prim.Native.Nat.{ℕ, _+_, _*_, _≤_}
-use mathlib.Core.Path.{_≡_, sym, ap, ap₂, _∙_, subst}
+use mathlib.Core.Path.{_≡_, ap, _∙_}
 use mathlib.Core.List.{List}
-use native.Mathlib.Omega.{arith}
 use lib.IntN.{ℤ, pos, natAbs, _-ℤ_, _*ℤ_}
 use mir.Syntax.{w64}
 use mir.Val.{SFits}
 use mir.ValLaws.{toZ-ofZ}
-use Rattle.integers.specs.Bounds.{bounds, absle}
 use Rattle.integers.specs.Division.{floorDiv}
-use Rattle.network.specs.Records.{fromOf, toOf, joins}
+use Rattle.network.specs.Records.{joins}
 use Rattle.network.specs.Stored.{stored, back}
 use Rattle.network.specs.declared.Record.{Record}
-use Rattle.sheet.specs.Residuals.{S, observationVariance}
-use Rattle.sheet.specs.Verdicts.{verdictWord, localVerdict}
-use Rattle.sheet.specs.Components.{differenceIn}
-use Rattle.sheet.specs.Weights.{Quotient, Ends}
+use Rattle.residuals.specs.Residuals.{S, observationVariance}
+use Rattle.residuals.specs.Verdicts.{verdictWord, localVerdict}
+use Rattle.residuals.specs.Components.{differenceIn}
+use Rattle.residuals.specs.Weights.{Quotient, Ends}
 use Rattle.sheet.specs.Lines.{verdictIn}
-
-pub product : (a b c d : ℤ) {v : ℤ} → natAbs a ≤ 10000 → natAbs b ≤ 10000 → natAbs c ≤ 10000 → natAbs d ≤ 10000
-    → v ≡ stored a *ℤ stored b -ℤ stored c *ℤ stored d → v ≡ a *ℤ b -ℤ c *ℤ d
-product a b c d p q r t e = e ∙ rw (back a p tt, back b q tt, back c r tt, back d t tt)
 
 -- a quotient of numbers that were stored
 module _ {A D x y : ℤ} (q : Quotient A D) (e : x ≡ A) (g : y ≡ D) where

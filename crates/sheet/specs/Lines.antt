@@ -15,10 +15,10 @@ use Rattle.network.specs.declared.Station.{Station}
 use Rattle.network.specs.declared.Place.{Place}
 use Rattle.network.specs.declared.Record.{Record}
 use Rattle.network.specs.declared.Record.the-variants.{Empty, Baseline as baseline, Height as height}
-use Rattle.sheet.specs.Residuals.{correction, adjusted, residual, observationVariance, residualVariance}
-use Rattle.sheet.specs.Verdicts.{verdictWord, localVerdict}
+use Rattle.residuals.specs.Residuals.{correction, adjusted, residual, observationVariance, residualVariance}
+use Rattle.residuals.specs.Verdicts.{verdictWord, localVerdict}
 use Rattle.sheet.specs.Sheet.{stationWords, stationLines, recordWords, recordLines, verdictAt, wordsOf}
-use Rattle.sheet.specs.Components.{unknownsOf, numbersOf, correctionsOf, covarianceIn, covariance-in, differenceIn, difference-in, residualsIn, residual-in}
+use Rattle.residuals.specs.Components.{unknownsOf, numbersOf, correctionsOf, covarianceIn, covariance-in, differenceIn, difference-in, residualsIn, residual-in}
 use Rattle.sheet.specs.Written.{written, written-none, written-then}
 
 -- ════ lines one after the other

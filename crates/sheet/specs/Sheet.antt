@@ -11,8 +11,8 @@ use Rattle.network.specs.declared.Network.{Network}
 use Rattle.network.specs.declared.Place.{Place}
 use Rattle.network.specs.declared.Record.{Record}
 use Rattle.network.specs.declared.Record.the-variants.{Empty, Baseline as baseline, Height as height}
-use Rattle.sheet.specs.Residuals.{adjusted, variance, residual, residualVariance, recordCount, T, D}
-use Rattle.sheet.specs.Verdicts.{verdictWord, localVerdict, globalVerdict}
+use Rattle.residuals.specs.Residuals.{adjusted, variance, residual, residualVariance, recordCount, T, D}
+use Rattle.residuals.specs.Verdicts.{verdictWord, localVerdict, globalVerdict}
 
 module _ (stations : List Station) (x m : List ℤ) where
   -- a station's line: its number, coordinates, variances

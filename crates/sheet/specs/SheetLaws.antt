@@ -13,8 +13,8 @@ use Rattle.network.specs.declared.Network.{Network}
 use Rattle.network.specs.declared.Place.{Place}
 use Rattle.network.specs.declared.Record.{Record}
 use Rattle.network.specs.declared.Record.the-variants.{Empty, Baseline as baseline, Height as height}
-use Rattle.sheet.specs.Residuals.{recordCount, T, D}
-use Rattle.sheet.specs.Verdicts.{verdictWord, globalVerdict}
+use Rattle.residuals.specs.Residuals.{recordCount, T, D}
+use Rattle.residuals.specs.Verdicts.{verdictWord, globalVerdict}
 use Rattle.sheet.specs.Sheet.{stationWords, stationLines, recordWords, recordLines, globalWords, sheetWords, wordsOf, room}
 use Rattle.sheet.specs.Written.{written, written-then, written-front}
 

@@ -22,10 +22,10 @@ use Rattle.network.specs.declared.Record.the-variants.{Empty, Baseline as basel
 use Rattle.normals.specs.Formulas.{P}
 use Rattle.normals.specs.Acting.{acting-only}
 use Rattle.sheet.specs.declared.totals.Counts.{Counts}
-use Rattle.sheet.specs.Residuals.{residual, shareT, T, isRecord, observations, recordCount}
+use Rattle.residuals.specs.Residuals.{residual, shareT, T, isRecord, observations, recordCount}
 use Rattle.sheet.specs.Sheet.{wordsOf}
-use Rattle.sheet.specs.Components.{residualIn, residualsIn, residual-in, residual-size, correctionsOf, Closes}
-use Rattle.sheet.specs.Ranges.{Solved, closes-at, sound-at}
+use Rattle.residuals.specs.Components.{residualIn, residualsIn, residual-in, residual-size, correctionsOf, Closes}
+use Rattle.residuals.specs.Ranges.{Solved, closes-at, sound-at}
 
 -- ════ counts
 abbrev pub observationCount : List Place → ℕ

@@ -1,5 +1,4 @@
 // The lines of a sheet: one function makes a line, and one stores it from an index on.
-use super::variances;
 use network::Baseline;
 use network::Level;
 use network::Record;
@@ -9,9 +8,9 @@ ghost use lib.IntN.{pos, natAbs, _+ℤ_};
 ghost use lib.ListN.{getD, length};
 ghost use Rattle.integers.specs.Tables.{Within};
 ghost use Rattle.network.specs.Records.{fromOf, toOf};
-ghost use Rattle.sheet.specs.Components.{Lookup};
+ghost use Rattle.residuals.specs.Components.{Lookup};
 ghost use Rattle.sheet.specs.Sheet.{wordsOf};
-ghost use Rattle.sheet.specs.Weights.{BaselineWeights, Quotient, RecordWeights, Ends};
+ghost use Rattle.residuals.specs.Weights.{BaselineWeights, Quotient, RecordWeights, Ends};
 ghost use Rattle.sheet.specs.Lines.{stationWordsIn, recordWordsIn};
 ghost use Rattle.sheet.specs.Written.{written};
 
@@ -61,9 +60,9 @@ pub fn station_line(
     let x = adjusted(coordinate, correction, q);
     let y = adjusted(coordinate, correction, q + 1);
     let z = adjusted(coordinate, correction, q + 2);
-    let e = variances::covariance(number, unknown, m, n, q, q);
-    let f = variances::covariance(number, unknown, m, n, q + 1, q + 1);
-    let g = variances::covariance(number, unknown, m, n, q + 2, q + 2);
+    let e = residuals::covariance(number, unknown, m, n, q, q);
+    let f = residuals::covariance(number, unknown, m, n, q + 1, q + 1);
+    let g = residuals::covariance(number, unknown, m, n, q + 2, q + 2);
     [k, x, y, z, e, f, g]
 }
 
@@ -83,13 +82,13 @@ fn baseline_line(
     ensures { λ r. ⌜ r ≡ recordWordsIn (now (number .entry)) (now (unknown .entry)) (now (m .entry)) n p (Record.Baseline b) v ⌝ }
 {
     let k = numbered(p);
-    let w = variances::adjugate_of(b);
+    let w = residuals::adjugate_of(b);
     let x = v[0];
     let y = v[1];
     let z = v[2];
-    let c = variances::verdict_at(x, w.east, w.determinant, number, unknown, m, n, t, f, 0, 1);
-    let d = variances::verdict_at(y, w.north, w.determinant, number, unknown, m, n, t, f, 1, 1);
-    let e = variances::verdict_at(z, w.up, w.determinant, number, unknown, m, n, t, f, 2, 1);
+    let c = residuals::verdict_at(x, w.east, w.determinant, number, unknown, m, n, t, f, 0, 1);
+    let d = residuals::verdict_at(y, w.north, w.determinant, number, unknown, m, n, t, f, 1, 1);
+    let e = residuals::verdict_at(z, w.up, w.determinant, number, unknown, m, n, t, f, 2, 1);
     [k, x, y, z, c, d, e]
 }
 
@@ -110,7 +109,7 @@ fn height_line(
 {
     let k = numbered(p);
     let z = v[2];
-    let e = variances::verdict_at(z, 1, h.weight, number, unknown, m, n, t, f, 2, 1);
+    let e = residuals::verdict_at(z, 1, h.weight, number, unknown, m, n, t, f, 2, 1);
     [k, z, e]
 }
 

@@ -1,8 +1,6 @@
 // The sheet of an accepted pair, written in its order.
 use super::lines;
-use super::residuals;
 use super::totals;
-use super::verdicts;
 use network::Network;
 use network::Place;
 ghost use mathlib.Core.Path.{_≡_};
@@ -10,10 +8,10 @@ ghost use mathlib.Core.List.{[], _∷_, _++_};
 ghost use Prim.Native.Nat.{_+_, _*_, _≤_};
 ghost use lib.IntN.{pos};
 ghost use lib.ListN.{length, drop};
-ghost use Rattle.sheet.specs.Ranges.{Moved, Solved, Inverse};
+ghost use Rattle.residuals.specs.Ranges.{Moved, Solved, Inverse};
 ghost use Rattle.sheet.specs.Sheet.{stationLines, recordLines, sheetWords, room};
 ghost use Rattle.sheet.specs.Totals.{wordCount};
-ghost use Rattle.sheet.specs.Verdicts.{verdictWord, globalVerdict};
+ghost use Rattle.residuals.specs.Verdicts.{verdictWord, globalVerdict};
 ghost use Rattle.sheet.specs.Written.{written};
 
 // The stations' lines, stored from index `from` on.
@@ -81,7 +79,7 @@ fn count_line(records: usize, n: usize) -> [i64; 2]
 fn global_line(t: i64, d: i64) -> [i64; 3]
     ensures { λ r. ⌜ r ≡ t ∷ d ∷ verdictWord (globalVerdict t d) ∷ [] ⌝ }
 {
-    let w = verdicts::verdict_word(verdicts::global_verdict(t, d));
+    let w = residuals::verdict_word(residuals::global_verdict(t, d));
     [t, d, w]
 }
 

@@ -10,10 +10,10 @@ ghost use lib.ListN.{getD};
 ghost use Rattle.integers.specs.Sums.{sum};
 ghost use Rattle.integers.specs.Tables.{Within};
 ghost use Rattle.network.specs.Stations.{unknownCount};
-ghost use Rattle.sheet.specs.Residuals.{isRecord, observations, T, D};
+ghost use Rattle.residuals.specs.Residuals.{isRecord, observations, T, D};
 ghost use Rattle.sheet.specs.Sheet.{wordsOf, room};
 ghost use Rattle.sheet.specs.Totals.{countsOf, freedom};
-ghost use Rattle.sheet.specs.Ranges.{Solved};
+ghost use Rattle.residuals.specs.Ranges.{Solved};
 
 // Of all places: records, observed components, and words of their lines.
 pub struct Counts {
@@ -114,13 +114,13 @@ pub fn t_of(net: Network, places: [Place; 256], x: &[i64]) -> i64
 {
     let stations = net.stations;
     let coordinate = network::coordinates_of(stations);
-    let correction = super::residuals::corrections_of(stations, x);
+    let correction = residuals::corrections_of(stations, x);
     let mut t: i64 = 0;
     let mut p = 0;
     while p < 256 {
         let e = places[p];
         let r = e.entry;
-        let v = super::residuals::residuals_of(&coordinate, &correction, r);
+        let v = residuals::residuals_of(&coordinate, &correction, r);
         let w = network::weights_of(r);
         t = t + weighted_squares(v, w);
         p = p + 1;

@@ -9,7 +9,7 @@ use mir.ValLaws.{toZ-ofZ}
 use Rattle.network.specs.Records.{joins}
 use Rattle.network.specs.Stored.{back, kept}
 use Rattle.network.specs.declared.Record.the-variants.{Baseline as baseline}
-use Rattle.sheet.specs.Residuals.{observationVariance, adjugate}
+use Rattle.residuals.specs.Residuals.{observationVariance, adjugate}
 use Rattle.sheet.specs.Lines.{recordWordsIn}
 use Rattle.sheet.proofs.Products.{stored-quotient, verdict-told}
 use Rattle.sheet.proofs.lines.baseline_line.Statement.{statement}

@@ -9,7 +9,7 @@ use mir.ValLaws.{toZ-ofZ}
 use Rattle.network.specs.Records.{joins}
 use Rattle.network.specs.Stored.{back, kept}
 use Rattle.network.specs.declared.Record.the-variants.{Height as height}
-use Rattle.sheet.specs.Residuals.{observationVariance}
+use Rattle.residuals.specs.Residuals.{observationVariance}
 use Rattle.sheet.specs.Lines.{recordWordsIn}
 use Rattle.sheet.proofs.Products.{stored-quotient, verdict-told}
 use Rattle.sheet.proofs.lines.height_line.Statement.{statement}

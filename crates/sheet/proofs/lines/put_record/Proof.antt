@@ -6,7 +6,7 @@ use lib.ListN.{length}
 use Rattle.network.specs.Records.{fromOf, toOf}
 use Rattle.network.specs.declared.Record.{Record}
 use Rattle.sheet.specs.Sheet.{wordsOf}
-use Rattle.sheet.specs.Weights.{RecordWeights}
+use Rattle.residuals.specs.Weights.{RecordWeights}
 use Rattle.sheet.specs.Lines.{recordWordsIn}
 use Rattle.sheet.specs.Written.{written, written-none}
 use Rattle.sheet.proofs.lines.put_record.Statement.{statement}

@@ -3,7 +3,7 @@ use mathlib.Core.Path.{refl, ap, ap₂, _∙_}
 use mathlib.Core.List.{_∷_}
 use mir.Syntax.{w64}
 use mir.ValLaws.{toZ-ofZ}
-use Rattle.sheet.specs.Verdicts.{verdictWord, globalVerdict}
+use Rattle.residuals.specs.Verdicts.{verdictWord, globalVerdict}
 use Rattle.sheet.proofs.sheet.global_line.Statement.{statement}
 use Rattle.sheet.proofs.sheet.global_line.Tie as tie
 

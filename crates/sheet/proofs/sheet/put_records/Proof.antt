@@ -9,9 +9,9 @@ use Rattle.integers.specs.Tables.{Within}
 use Rattle.network.specs.Stations.{unknownCount}
 use Rattle.network.specs.Records.{recordAt}
 use Rattle.network.specs.Filling.{length-mapped}
-use Rattle.sheet.specs.Components.{Lookup, Closes, residualsIn}
-use Rattle.sheet.specs.Ranges.{some-unknowns, lookup, sound-at, closes-at}
-use Rattle.sheet.specs.Weights.{weights-by-rules}
+use Rattle.residuals.specs.Components.{Lookup, Closes, residualsIn}
+use Rattle.residuals.specs.Ranges.{some-unknowns, lookup, sound-at, closes-at}
+use Rattle.residuals.specs.Weights.{weights-by-rules}
 use Rattle.sheet.specs.Totals.{residuals-within}
 use Rattle.sheet.specs.Written.{written}
 use Rattle.sheet.specs.Lines.{recordWordsIn, record-length, recordLinesIn, records-none, records-more, records-room, records-in, Put, put-none, put-more}

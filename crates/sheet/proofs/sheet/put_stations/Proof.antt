@@ -8,8 +8,8 @@ use lib.IntN.{ℤ}
 use Rattle.integers.specs.Tables.{Within}
 use Rattle.network.specs.Stations.{unknownCount}
 use Rattle.network.specs.RuleLaws.{sound-stations, network-few}
-use Rattle.sheet.specs.Components.{Lookup}
-use Rattle.sheet.specs.Ranges.{some-unknowns, corrections-within, lookup}
+use Rattle.residuals.specs.Components.{Lookup}
+use Rattle.residuals.specs.Ranges.{some-unknowns, corrections-within, lookup}
 use Rattle.sheet.specs.Written.{written}
 use Rattle.sheet.specs.Lines.{stationWordsIn, station-length, stationLinesIn, stations-none, stations-more, stations-length, stations-in, Put, put-none, put-more}
 use Rattle.sheet.proofs.sheet.put_stations.Statement.{statement}

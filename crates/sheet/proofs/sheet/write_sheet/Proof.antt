@@ -14,8 +14,8 @@ use Rattle.network.specs.Stored.{stored, back}
 use Rattle.network.specs.declared.Station.{Station}
 use Rattle.network.specs.declared.Place.{Place}
 use Rattle.sheet.specs.declared.totals.Counts.{Counts}
-use Rattle.sheet.specs.Residuals.{recordCount, T, D}
-use Rattle.sheet.specs.Verdicts.{verdictWord, globalVerdict}
+use Rattle.residuals.specs.Residuals.{recordCount, T, D}
+use Rattle.residuals.specs.Verdicts.{verdictWord, globalVerdict}
 use Rattle.sheet.specs.Sheet.{room, globalWords}
 use Rattle.sheet.specs.Totals.{countsOf, FewCounts, counts-few, T-size}
 use Rattle.sheet.specs.Written.{written}

@@ -1,5 +1,5 @@
 use borrow.Author.Needs.{needs}
-use Rattle.sheet.specs.Residuals.{isRecord}
+use Rattle.residuals.specs.Residuals.{isRecord}
 use Rattle.sheet.proofs.totals.is_record.Statement.{statement}
 use Rattle.sheet.proofs.totals.is_record.Tie as tie
 

@@ -1,5 +1,5 @@
 use borrow.Author.Needs.{needs}
-use Rattle.sheet.specs.Residuals.{observations}
+use Rattle.residuals.specs.Residuals.{observations}
 use Rattle.sheet.proofs.totals.observations_in.Statement.{statement}
 use Rattle.sheet.proofs.totals.observations_in.Tie as tie
 

@@ -6,7 +6,7 @@ use lib.ListN.{length}
 use lib.IntN.{ℤ}
 use Rattle.network.specs.Records.{recordAt}
 use Rattle.network.specs.Filling.{length-mapped}
-use Rattle.sheet.specs.Ranges.{some-unknowns}
+use Rattle.residuals.specs.Ranges.{some-unknowns}
 use Rattle.sheet.specs.Totals.{shareIn, Weighed, weighed-at, Summed, summed-none, summed, summed-fits, summed-more, share-of, residuals-within, weights-within, T-in}
 use Rattle.sheet.proofs.totals.t_of.Statement.{statement}
 use Rattle.sheet.proofs.totals.t_of.Tie as tie
