@@ -1,7 +1,7 @@
 /* A small levelling network, from the station list to the printed sheet. All that a program needs is include/dombrelat.h.
  *
- *     rt staticlib host
- *     gcc -std=c99 -Wall -Wextra -Iinclude examples/host.c target/staticlib/libhost.a -o host && ./host
+ *     rt staticlib dombrelat
+ *     gcc -std=c99 -Wall -Wextra -Iinclude examples/host.c target/staticlib/libdombrelat.a -o host && ./host
  *
  * It treats an array of int64_t as the bytes of words, which holds on a little-endian machine. */
 #include "dombrelat.h"

@@ -1,5 +1,5 @@
 -- Demand 1 over the calls in the language, the statement alone (specs/Demand1Holds.antt proves it): every call answers on every input; a refusal gives its number and changes nothing.
--- Document 01: "It changes neither book, history nor sheet. A refused opening makes no book". The crate host states it again over the C calls. Assumes nothing.
+-- Document 01: "It changes neither book, history nor sheet. A refused opening makes no book". The crate dombrelat states it again over the C calls. Assumes nothing.
 --   opening, outcome      book, specs/Book.antt      what the contracts of `Book::open` and of the edits promise: the answer, and the book afterwards
 --   checked, sheetAfter   checks, specs/Checks.antt  what those of `check` and `check_sheet` promise; numberOf (acceptance, specs/Judge.antt): the number of an answer
 --   Proposed              specs/Proposals.antt       what that of `propose` promises

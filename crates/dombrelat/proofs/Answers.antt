@@ -1,0 +1,45 @@
+-- The cases of a check, without and with a sheet. Assumes nothing.
+use Prim.Native.Nat.{ℕ}
+use mathlib.Core.Path.{_≡_, sym, ap, _∙_}
+use mathlib.Core.Bool.{Bool, true, false, cond}
+use mathlib.Core.List.{List}
+use lib.IntN.{pos}
+use Rattle.words.specs.Runs.{putWords}
+use Rattle.acceptance.specs.declared.Answer.{Answer}
+use Rattle.book.specs.declared.Book.{Book}
+use Rattle.sheet.specs.Sheet.{sheetWords}
+use Rattle.lent_checks.specs.LentChecks.{answerWord, checkedLent, onAccepted, allWords, sheetFits}
+use Rattle.layout.specs.Bytes.{bookOf, bytesFit}
+use Rattle.dombrelat.specs.CheckCalls.{checkCall, Judged, judgedLent, sheetCall}
+
+-- ════ a check
+module _ (s x m : List ℕ) where
+  pub check-unfit : bytesFit s ≡ false → pos 25 ≡ checkCall s x m
+  unfolding checkCall
+  check-unfit e = sym (ap (λ (t : Bool). cond t (answerWord (checkedLent (bookOf s) x m true)) (pos 25)) e)
+
+  pub check-fit : (b : Book) (a : Answer) → bytesFit s ≡ true → b ≡ bookOf s → a ≡ checkedLent b x m true → answerWord a ≡ checkCall s x m
+  unfolding checkCall
+  check-fit b a e p q =
+      ap answerWord (q ∙ ap (λ (y : Book). checkedLent y x m true) p) ∙ sym (ap (λ (t : Bool). cond t (answerWord (checkedLent (bookOf s) x m true)) (pos 25)) e)
+
+-- ════ a check with a sheet
+module _ (s x m o : List ℕ) where
+  abbrev tested : Bool → Judged
+  tested t = cond t (judgedLent (checkedLent (bookOf s) x m (sheetFits (bookOf s) o)) (bookOf s) x m o) (record { answer = pos 25; sheet = o })
+
+  pub sheet-unfit : bytesFit s ≡ false → (pos 25 ≡ sheetCall s x m o .answer) × (o ≡ sheetCall s x m o .sheet)
+  unfolding sheetCall
+  sheet-unfit e = let p = sym (ap tested e) in (ap (λ (j : Judged). j .answer) p, ap (λ (j : Judged). j .sheet) p)
+
+  pub sheet-fit : (b : Book) (a : Answer) (t : List ℕ) → bytesFit s ≡ true → b ≡ bookOf s → a ≡ checkedLent b x m (sheetFits b o)
+      → t ≡ onAccepted a (putWords o 0 (sheetWords (b .network) (b .places) (allWords x) (allWords m))) o → (answerWord a ≡ sheetCall s x m o .answer) × (t ≡ sheetCall s x m o .sheet)
+  unfolding sheetCall
+  sheet-fit b a t e p q r =
+      let f = sym (ap tested e) in
+      let is = q ∙ ap (λ (y : Book). checkedLent y x m (sheetFits y o)) p in (
+        ap answerWord is ∙ ap (λ (j : Judged). j .answer) f,
+        r ∙ ap (λ (y : Book). onAccepted a (putWords o 0 (sheetWords (y .network) (y .places) (allWords x) (allWords m))) o) p
+            ∙ ap (λ (y : Answer). onAccepted y (putWords o 0 (sheetWords (bookOf s .network) (bookOf s .places) (allWords x) (allWords m))) o) is
+            ∙ ap (λ (j : Judged). j .sheet) f,
+      )

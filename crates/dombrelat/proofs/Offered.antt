@@ -1,0 +1,18 @@
+-- A proposal on bytes that hold a book. Assumes nothing.
+use Prim.Native.Nat.{ℕ}
+use mathlib.Core.Path.{_≡_, sym, subst}
+use mathlib.Core.Bool.{true}
+use mathlib.Core.List.{List}
+use lib.IntN.{ℤ}
+use Rattle.words.specs.Bools.{clash}
+use Rattle.book.specs.declared.Book.{Book}
+use Rattle.lent_checks.specs.Offers.{Offers}
+use Rattle.layout.specs.Bytes.{bookOf, bytesFit}
+use Rattle.dombrelat.specs.Proposal.{Proposes}
+
+pub proposed : (s : List ℕ) (b : Book) (r r′ : ℤ) (x m x′ m′ : List ℕ) → bytesFit s ≡ true → b ≡ bookOf s → r′ ≡ r → Offers b r x m x′ m′ → Proposes s r′ x m x′ m′
+proposed s b r r′ x m x′ m′ e p q o =
+    record {
+      unfit = λ f. clash e f;
+      fit = λ f. subst (λ (y : Book). Offers y r′ x m x′ m′) p (subst (λ (z : ℤ). Offers b z x m x′ m′) (sym q) o);
+    }

@@ -1,0 +1,66 @@
+-- `enter` puts a record in, and the edit on the journal. Assumes nothing.
+use Prim.Native.Nat.{ℕ, _<_, _≤_}
+use mathlib.Core.Path.{sym, _∙_, subst}
+use native.Mathlib.Omega.{arith}
+use lib.ListN.{length}
+use Rattle.layout.specs.Bytes.{bookOf}
+use Rattle.layout.specs.CodecLaws.{fits-room, fits-sound}
+use Rattle.dombrelat.proofs.Changed.{entered}
+use borrow.Author.Needs.{needs}
+use Rattle.dombrelat.proofs.changes.enter.Statement.{statement}
+use Rattle.dombrelat.proofs.changes.enter.Tie as tie
+
+room : (s : tie.Start) → 56224 ≤ length (s .args .s .now)
+room s = fits-room (s .args .s .now) (s .pre .0)
+
+small : (n : tie.After-next-in) → n .next-in .result < 64
+small n =
+    let s = n .before .before .before .before .before in
+    subst (λ (k : ℕ). k < 64) (sym (n .next-in .ensures)) (fits-sound (s .args .s .now) (s .pre .0) .journal .next)
+
+record-in-requires : tie.Need-record-in-requires
+record-in-requires c κs = room (c .before .before)
+
+next-in-requires : tie.Need-next-in-requires
+next-in-requires c κs = room (c .before .before .before .before)
+
+held-in-requires : tie.Need-held-in-requires
+held-in-requires c κs = room (c .before .before .before .before .before .before)
+
+capped-requires : tie.Need-capped-requires
+capped-requires c κs = search needs
+
+add-put : tie.Need-add-put
+add-put c = let h = small (c .before .before .before .before) in omega arith
+
+put-requires : tie.Need-put-requires
+put-requires c κs =
+    let n = c .before .before .before .before in
+    let s = n .before .before .before .before .before in
+    (s .pre .0, s .pre .1 .inside, s .pre .1 .fits, small n)
+
+same-length : tie.Need-same-length
+same-length c = search needs
+
+returns : tie.Need-returns
+returns c =
+    let p = c .before .before in
+    let k = p .before .before in
+    let n = k .before .before .before in
+    let o = n .before .before in
+    let s = o .before .before .before in
+    p .put .ensures
+    ∙ entered (s .args .s .now) (bookOf (s .args .s .now)) (s .args .i) _ _ _ (s .args .r) _ (o .record-in .ensures) (n .next-in .ensures) (k .before .held-in .ensures) (k .capped .ensures)
+
+pub enter-spec : {M : Type 1} → statement M
+enter-spec =
+    tie.close
+    (tie.spec
+    record-in-requires
+    next-in-requires
+    held-in-requires
+    capped-requires
+    add-put
+    put-requires
+    same-length
+    returns)

@@ -1,0 +1,40 @@
+-- `undo` takes the latest edit back, or is refused. Assumes nothing.
+use native.Mathlib.Omega.{arith}
+use Rattle.layout.specs.CodecLaws.{fits-room}
+use Rattle.dombrelat.proofs.Changed.{undo-none, undo-done}
+use borrow.Author.Needs.{needs}
+use Rattle.dombrelat.proofs.changes.undo.Statement.{statement}
+use Rattle.dombrelat.proofs.changes.undo.Tie as tie
+
+held-in-requires : tie.Need-held-in-requires
+held-in-requires c κs = fits-room (c .before .before .args .s .now) (c .before .before .pre)
+
+same-length : tie.Need-same-length
+same-length c = search needs
+
+returns : tie.Need-returns
+returns c =
+    let h = c .before in
+    let s = h .before .before .before in
+    undo-none (s .args .s .now) (s .pre) _ (h .held-in .ensures) (c .if1 .taken)
+
+restore-requires : tie.Need-restore-requires
+restore-requires c κs =
+    let h = c .before .before in
+    (h .before .before .before .pre, h .held-in .ensures, omega arith)
+
+same-length-2 : tie.Need-same-length-2
+same-length-2 c = search needs
+
+returns-2 : tie.Need-returns-2
+returns-2 c =
+    let r = c .before .before in
+    let e = r .before .before in
+    let h = e .before in
+    let s = h .before .before .before in
+    undo-done (s .args .s .now) (s .pre) _ _ (h .held-in .ensures) (e .if1 .left) (r .restore .ensures)
+
+pub undo-spec : {M : Type 1} → statement M
+undo-spec =
+    tie.close
+    (tie.spec held-in-requires same-length returns restore-requires same-length-2 returns-2)

@@ -1,0 +1,58 @@
+-- What the C calls that open and edit a book answer, and the lent bytes afterwards. Assumes nothing.
+use Prim.Native.Nat.{ℕ, _/_, _%_}
+use mathlib.Core.Bool.{cond}
+use mathlib.Core.List.{List}
+use lib.Dec.{leb, eqb}
+use lib.ListN.{length}
+use lib.IntN.{ℤ, pos}
+use Rattle.words.specs.Runs.{wordsAt}
+use Rattle.network.specs.declared.Record.{Record}
+use Rattle.network.specs.declared.Record.the-variants.{Baseline as baseline, Height as height}
+use Rattle.book.specs.declared.Book.{Book}
+use Rattle.book.specs.declared.Edited.{Edited}
+use Rattle.book.specs.Calls.{Call, add, replace, strike, undo, unless}
+use Rattle.book.specs.Book.{opening, outcome}
+use Rattle.dombrelat.specs.declared.Request.{Request}
+use Rattle.dombrelat.specs.declared.Request.the-variants.{Add, Replace, Strike, Undo}
+use Rattle.layout.specs.Bytes.{bookOf, putBook, bytesFit}
+
+-- the answer of a call, and the lent book bytes as it leaves them
+pub record Returned : Type 0 where
+  pub answer : ℤ
+  pub bytes : List ℕ
+
+-- "A refusal returns its number", and writes nothing
+abbrev pub refused : ℕ → List ℕ → Returned
+refused n s = record { answer = pos n; bytes = s }
+
+-- an answer with the book that is left: it is written where the call is not refused
+abbrev pub settled : List ℕ → Edited → Returned
+settled s e = record { answer = pos (e .refusal); bytes = unless (e .refusal) s (putBook s (e .book)) }
+
+-- a call on the book that the bytes hold; 25 before all others
+unfoldable pub through : List ℕ → (Book → Edited) → Returned
+through s f = cond (bytesFit s) (settled s (f (bookOf s))) (refused 25 s)
+
+-- an edit or an undo
+abbrev pub edit : List ℕ → Call → Returned
+edit s c = through s (λ b. outcome b c)
+
+-- an opening, on the bytes of a station list: 25 where the book bytes are too short; a list that is not of whole stations, 32 bytes each, is refused with 1
+unfoldable pub opens : List ℕ → List ℕ → Returned
+opens list s =
+    cond (leb 56224 (length s)) (cond (eqb (length list % 32) 0) (settled s (opening (wordsAt list 0 (length list / 8)))) (refused 1 s)) (refused 25 s)
+
+-- the records that the numbers of a C call give, in the header's order
+abbrev pub baselineOf : ℤ → ℤ → ℤ → ℤ → ℤ → ℤ → ℤ → ℤ → ℤ → ℤ → ℤ → Record
+baselineOf from to east north up ee en eu nn nu uu =
+    baseline (record { from = from; to = to; east = east; north = north; up = up; ee = ee; en = en; eu = eu; nn = nn; nu = nu; uu = uu })
+
+abbrev pub heightOf : ℤ → ℤ → ℤ → ℤ → Record
+heightOf from to up weight = height (record { from = from; to = to; up = up; weight = weight })
+
+-- a request as the call of the book's table
+unfoldable pub callOf : Request → Call
+callOf (Add p r) = add p r
+callOf (Replace p r) = replace p r
+callOf (Strike p) = strike p
+callOf Undo = undo

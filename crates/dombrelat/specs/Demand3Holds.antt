@@ -1,0 +1,181 @@
+-- Demand 3 over bytes holds: what the bytes hold follows the book of the same calls, and the book follows the ledger. Assumes nothing.
+use Prim.Native.Nat.{ℕ, zero, suc, _/_, _%_, _≤_}
+use mathlib.Core.Path.{_≡_, refl, sym, ap, _∙_, subst}
+use mathlib.Core.Bool.{Bool, true, false, cond}
+use mathlib.Core.List.{List, [], _∷_, map}
+use mathlib.Core.Logic.{_⊎_, inl, inr}
+use native.Mathlib.Omega.{arith}
+use borrow.Author.Tests.{leb-true}
+use lib.Dec.{leb, eqb}
+use lib.ListN.{length, getD, take}
+use lib.IntN.{ℤ, pos, natAbs}
+use Rattle.integers.specs.Tables.{length-tabulate}
+use Rattle.words.specs.Bools.{true-or-false}
+use Rattle.words.specs.Runs.{wordsAt}
+use Rattle.network.specs.Stations.{networkOf}
+use Rattle.network.specs.Stations as stations
+use Rattle.network.specs.OpeningLaws.{opened-fits}
+use Rattle.network.specs.declared.Network.{Network}
+use Rattle.book.specs.declared.Book.{Book}
+use Rattle.book.specs.declared.Edited.{Edited}
+use Rattle.book.specs.Calls.{Call, add, replace, strike, undo, unless}
+use Rattle.book.specs.CallLaws.{unless-either}
+use Rattle.book.specs.Book.{openedBook, bookAccepts, bookSays, bookNext, outcome}
+use Rattle.book.specs.Sound.{Sound}
+use Rattle.book.specs.SoundLaws.{sound-next}
+use Rattle.book.specs.Opened.{sound-opened}
+use Rattle.book.specs.Rows.{Row, names, rowNext, rowSays}
+use Rattle.book.specs.Run.{final, answers, Alike, run-answers, run-final}
+use Rattle.book.specs.Demand3Holds.{demanded}
+use Rattle.layout.specs.Bytes.{bookOf, putBook, bytesFit}
+use Rattle.layout.specs.CodecLaws.{read-stations, fits-room, fits-sound, writes-reads, writes-fit, writes-beyond}
+use Rattle.dombrelat.specs.Calls.{Returned, refused, settled, through, opens}
+use Rattle.dombrelat.specs.Demand3.{bytesNext, bytesSays, bytesAfter, bytesAnswers, Demand3}
+
+-- ════ rows that are calls
+rows-answers : (b : Book) (cs : List Call) → answers bookNext (λ x c. pos (bookSays x c)) b cs ≡ answers (rowNext bookNext) (rowSays bookSays) b (map names cs)
+unfolding answers rowNext rowSays
+rows-answers b [] = refl
+rows-answers b (c ∷ cs) = ap (λ (l : List ℤ). pos (bookSays b c) ∷ l) (rows-answers (bookNext b c) cs)
+
+rows-final : (b : Book) (cs : List Call) → final bookNext b cs ≡ final (rowNext bookNext) b (map names cs)
+unfolding final rowNext
+rows-final b [] = refl
+rows-final b (c ∷ cs) = rows-final (bookNext b c) cs
+
+rows-take : (k : ℕ) (cs : List Call) → map names (take k cs) ≡ take k (map names cs)
+rows-take zero cs = refl
+rows-take (suc k) [] = refl
+rows-take (suc k) (c ∷ cs) = ap (λ (l : List Row). names c ∷ l) (rows-take k cs)
+
+-- ════ an edit keeps the station list
+accepts-network : (b : Book) (c : Call) → bookAccepts b c .network ≡ b .network
+unfolding bookAccepts
+accepts-network b (add p r) = refl
+accepts-network b (replace p r) = refl
+accepts-network b (strike p) = refl
+accepts-network b undo = refl
+
+next-network : (b : Book) (c : Call) → bookNext b c .network ≡ b .network
+next-network b c = unless-either (λ (x : Book). x .network ≡ b .network) (bookSays b c) b (bookAccepts b c) refl (λ e. accepts-network b c)
+
+-- ════ bytes hold a book, and are those of s₀ beyond it
+through-fits : (s : List ℕ) (f : Book → Edited) → bytesFit s ≡ true → through s f ≡ settled s (f (bookOf s))
+unfolding through
+through-fits s f e = ap (λ (t : Bool). cond t (settled s (f (bookOf s))) (refused 25 s)) e
+
+through-unfit : (s : List ℕ) (f : Book → Edited) → bytesFit s ≡ false → through s f ≡ refused 25 s
+unfolding through
+through-unfit s f e = ap (λ (t : Bool). cond t (settled s (f (bookOf s))) (refused 25 s)) e
+
+module _ (s₀ : List ℕ) where
+  record Holds (s : List ℕ) (b : Book) : Type 0 where
+    reads : bookOf s ≡ b
+    fits : bytesFit s ≡ true
+    beyond : (j : ℕ) → 56224 ≤ j → getD s j 0 ≡ getD s₀ j 0
+
+  -- what a call leaves: the bytes and the book as they were, or the next book written
+  leaves : (n : ℕ) (s : List ℕ) (b b′ : Book) → Holds s b → Sound (unless n b b′) → length (unless n b b′ .network .stations) ≡ 32
+      → Holds (unless n s (putBook s (unless n b b′))) (unless n b b′)
+  unfolding unless
+  leaves zero s b b′ h o l =
+      let room = fits-room s (h .fits) in
+      record {
+        reads = writes-reads s b′ o l room;
+        fits = writes-fit s b′ o l room;
+        beyond = λ j q. writes-beyond s b′ o l room j q ∙ h .beyond j q;
+      }
+  leaves (suc n) s b b′ h o l = h
+
+  says-same : (s : List ℕ) (b : Book) (c : Call) → Holds s b → bytesSays s c ≡ pos (bookSays b c)
+  says-same s b c h =
+      ap (λ (r : Returned). r .answer) (through-fits s (λ x. outcome x c) (h .fits)) ∙ ap (λ (x : Book). pos (bookSays x c)) (h .reads)
+
+  stays : (s : List ℕ) (b : Book) (c : Call) → Holds s b → Holds (bytesNext s c) (bookNext b c)
+  stays s b c h =
+      let x = bookOf s in
+      let o = fits-sound s (h .fits) in
+      let next : Holds (unless (bookSays x c) s (putBook s (bookNext x c))) (bookNext x c) =
+      leaves (bookSays x c) s x (bookAccepts x c) (record { reads = refl; fits = h .fits; beyond = h .beyond }) (sound-next x o c)
+      (ap (λ (net : Network). length (net .stations)) (next-network x c) ∙ read-stations s) in
+      subst (λ (y : Book). Holds (bytesNext s c) (bookNext y c)) (h .reads)
+      (subst (λ (t : List ℕ). Holds t (bookNext x c)) (sym (ap (λ (r : Returned). r .bytes) (through-fits s (λ y. outcome y c) (h .fits)))) next)
+
+  alike : Alike bytesNext bytesSays bookNext (λ b c. pos (bookSays b c)) Holds
+  alike = record { says-same = says-same; stays = stays }
+
+-- ════ an accepted opening
+record Opened (list s : List ℕ) : Type 0 where
+  room : 56224 ≤ length s
+  accepts : stations.opens (wordsAt list 0 (length list / 8)) ≡ true
+  written : opens list s .bytes ≡ putBook s (openedBook (networkOf (wordsAt list 0 (length list / 8))))
+
+not-zero : (n : ℕ) {X : Type 0} → pos (suc n) ≡ pos 0 → X
+not-zero n e = absurd (let z : suc n ≡ 0 = ap natAbs e in omega arith)
+
+-- the three tests of an opening
+abbrev tested : Bool → Bool → Bool → List ℕ → Book → Book → Returned
+tested t u v s b b′ = cond t (cond u (settled s (cond v (record { refusal = 0; book = b }) (record { refusal = 1; book = b′ }))) (refused 1 s)) (refused 25 s)
+
+tests-pass : (t u v : Bool) (s : List ℕ) (b b′ : Book) → tested t u v s b b′ .answer ≡ pos 0 → (t ≡ true) × (v ≡ true) × (tested t u v s b b′ .bytes ≡ putBook s b)
+unfolding unless
+tests-pass true true true s b b′ e = (refl, refl, refl)
+tests-pass true true false s b b′ e = not-zero 0 e
+tests-pass true false v s b b′ e = not-zero 0 e
+tests-pass false u v s b b′ e = not-zero 24 e
+
+accepted : (list s : List ℕ) → opens list s .answer ≡ pos 0 → Opened list s
+unfolding opens
+accepted list s a =
+    let words = wordsAt list 0 (length list / 8) in
+    let w = tests-pass (leb 56224 (length s)) (eqb (length list % 32) 0) (stations.opens words) s (openedBook (networkOf words)) (openedBook (networkOf [])) a in
+    record { room = leb-true _ _ (w .0); accepts = w .1; written = w .2 }
+
+-- ════ the statement
+holds-opened : (list s : List ℕ) → Opened list s → Holds s (opens list s .bytes) (openedBook (networkOf (wordsAt list 0 (length list / 8))))
+unfolding networkOf
+holds-opened list s o =
+    let words = wordsAt list 0 (length list / 8) in
+    let b = openedBook (networkOf words) in
+    let sound : Sound b = sound-opened (networkOf words) (opened-fits words (o .accepts)) in
+    let long : length (b .network .stations) ≡ 32 = length-tabulate 32 _ in
+    subst (λ (t : List ℕ). Holds s t b) (sym (o .written))
+    (record { reads = writes-reads s b sound long (o .room); fits = writes-fit s b sound long (o .room); beyond = writes-beyond s b sound long (o .room) })
+
+module _ (list s : List ℕ) (o : Opened list s) where
+  net : Network
+  net = networkOf (wordsAt list 0 (length list / 8))
+
+  left : (calls : List Call) → Holds s (bytesAfter list s calls) (final bookNext (openedBook net) calls)
+  unfolding net
+  left calls = run-final bytesNext bytesSays bookNext (λ b c. pos (bookSays b c)) (Holds s) (alike s) (opens list s .bytes) (openedBook net) calls (holds-opened list s o)
+
+  said : (calls : List Call) → bytesAnswers list s calls ≡ answers bookNext (λ b c. pos (bookSays b c)) (openedBook net) calls
+  unfolding net
+  said calls = run-answers bytesNext bytesSays bookNext (λ b c. pos (bookSays b c)) (Holds s) (alike s) (opens list s .bytes) (openedBook net) calls (holds-opened list s o)
+
+-- ════ what an accepted opening or edit leaves is a book that the next call takes
+pub opened-fits-next : (list s : List ℕ) → opens list s .answer ≡ pos 0 → bytesFit (opens list s .bytes) ≡ true
+opened-fits-next list s a = holds-opened list s (accepted list s a) .fits
+
+pub edited-fits-next : (s : List ℕ) (c : Call) → bytesSays s c ≡ pos 0 → bytesFit (bytesNext s c) ≡ true
+edited-fits-next s c a = go (true-or-false (bytesFit s))
+  where
+    go : (bytesFit s ≡ true) ⊎ (bytesFit s ≡ false) → bytesFit (bytesNext s c) ≡ true
+    go (inl e) = stays s s (bookOf s) c (record { reads = refl; fits = e; beyond = λ j q. refl }) .fits
+    go (inr e) = not-zero 24 (sym (ap (λ (r : Returned). r .answer) (through-unfit s (λ b. outcome b c) e)) ∙ a)
+
+pub demand-3 : Demand3
+unfolding net
+demand-3 list s a calls =
+    let o = accepted list s a in
+    let b = openedBook (net list s o) in
+    record {
+      ledger =
+          demanded (net list s o) (opened-fits (wordsAt list 0 (length list / 8)) (o .accepts)) (map names calls) _ _ _
+          (said list s o calls ∙ rows-answers b calls)
+          (λ k. left list s o (take k calls) .reads ∙ rows-final b (take k calls) ∙ ap (final (rowNext bookNext) b) (rows-take k calls))
+          (left list s o calls .reads ∙ rows-final b calls);
+      fits = left list s o calls .fits;
+      beyond = left list s o calls .beyond;
+    }

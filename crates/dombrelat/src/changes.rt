@@ -1,0 +1,114 @@
+// Edits and undos on bytes that hold a book, in place: refusals in front of one core edit, as in crate book.
+use book::Reversal;
+use network::Record;
+ghost use mathlib.Core.Path.{_≡_};
+ghost use mathlib.Core.Bool.{true};
+ghost use Prim.Native.Nat.{_≤_, _<_, _+_, min};
+ghost use lib.IntN.{pos};
+ghost use Rattle.book.specs.Book.{edited, undone};
+ghost use Rattle.book.specs.Calls.{Call, unless};
+ghost use Rattle.book.specs.SoundLaws.{Enters};
+ghost use Rattle.layout.specs.Bytes.{bookOf, putBook, bytesFit};
+ghost use Rattle.dombrelat.specs.Calls.{edit};
+
+// One more, but not above 64.
+fn capped(n: usize) -> usize
+    ensures { λ r. ⌜ r ≡ min (n + 1) 64 ⌝ }
+{
+    if n < 64 { n + 1 } else { 64 }
+}
+
+// r enters place i, and the edit goes on the journal.
+fn enter(s: &mut [u8], i: usize, r: Record)
+    requires { ⌜ (bytesFit (now s) ≡ true) × Enters (bookOf (now s)) i r ⌝ }
+    ensures { λ _. ⌜ now (s .exit) ≡ putBook (now (s .entry)) (edited (bookOf (now (s .entry))) i r) ⌝ }
+{
+    let old = layout::record_in(s, i);
+    let next = layout::next_in(s);
+    let held = capped(layout::held_in(s));
+    let u = Reversal {
+        place: i,
+        prior: old,
+    };
+    layout::put(s, i, r, next, u, (next + 1) % 64, held);
+}
+
+// The edit, unless it is refused.
+fn settle(s: &mut [u8], n: u64, i: usize, r: Record) -> i64
+    requires { ⌜ (bytesFit (now s) ≡ true) × (n ≤ 9) × (n ≡ 0 → Enters (bookOf (now s)) i r) ⌝ }
+    ensures { λ a. ⌜ (a ≡ pos n) × (now (s .exit) ≡ unless n (now (s .entry)) (putBook (now (s .entry)) (edited (bookOf (now (s .entry))) i r))) ⌝ }
+{
+    if n == 0 {
+        enter(s, i, r);
+        return 0;
+    }
+    n as i64
+}
+
+// Fills an empty place.
+pub fn add(s: &mut [u8], place: i64, entry: Record) -> i64
+    requires { ⌜ bytesFit (now s) ≡ true ⌝ }
+    ensures { λ a. ⌜ (a ≡ edit (now (s .entry)) (Call.add place entry) .answer) × (now (s .exit) ≡ edit (now (s .entry)) (Call.add place entry) .bytes) ⌝ }
+{
+    let net = layout::network_in(s);
+    let i = words::index_in(place, 256);
+    let held = layout::record_in(s, i);
+    let rules = network::record_no(net, entry);
+    let n = book::add_no(place, rules, held);
+    settle(s, n, i, entry)
+}
+
+// Changes a filled place.
+pub fn replace(s: &mut [u8], place: i64, entry: Record) -> i64
+    requires { ⌜ bytesFit (now s) ≡ true ⌝ }
+    ensures { λ a. ⌜ (a ≡ edit (now (s .entry)) (Call.replace place entry) .answer) × (now (s .exit) ≡ edit (now (s .entry)) (Call.replace place entry) .bytes) ⌝ }
+{
+    let net = layout::network_in(s);
+    let i = words::index_in(place, 256);
+    let held = layout::record_in(s, i);
+    let rules = network::record_no(net, entry);
+    let n = book::replace_no(place, rules, held);
+    settle(s, n, i, entry)
+}
+
+// Empties a filled place.
+pub fn strike(s: &mut [u8], place: i64) -> i64
+    requires { ⌜ bytesFit (now s) ≡ true ⌝ }
+    ensures { λ a. ⌜ (a ≡ edit (now (s .entry)) (Call.strike place) .answer) × (now (s .exit) ≡ edit (now (s .entry)) (Call.strike place) .bytes) ⌝ }
+{
+    let i = words::index_in(place, 256);
+    let held = layout::record_in(s, i);
+    let n = book::strike_no(place, held);
+    settle(s, n, i, Record::Empty)
+}
+
+// The latest edit comes off the journal, and its place holds again what it held before.
+fn restore(s: &mut [u8], held: usize)
+    requires { ⌜ (bytesFit (now s) ≡ true) × (held ≡ bookOf (now s) .journal .held) × (0 < held) ⌝ }
+    ensures { λ _. ⌜ now (s .exit) ≡ putBook (now (s .entry)) (undone (bookOf (now (s .entry)))) ⌝ }
+{
+    let next = layout::next_in(s);
+    let slot = (next + 63) % 64;
+    let last = layout::slot_in(s, slot);
+    let place = last.place;
+    let prior = last.prior;
+    let none = Record::Empty;
+    let free = Reversal {
+        place: 0,
+        prior: none,
+    };
+    layout::put(s, place, prior, slot, free, slot, held - 1);
+}
+
+// Takes the latest edit back.
+pub fn undo(s: &mut [u8]) -> i64
+    requires { ⌜ bytesFit (now s) ≡ true ⌝ }
+    ensures { λ a. ⌜ (a ≡ edit (now (s .entry)) Call.undo .answer) × (now (s .exit) ≡ edit (now (s .entry)) Call.undo .bytes) ⌝ }
+{
+    let held = layout::held_in(s);
+    if held == 0 {
+        return 8;
+    }
+    restore(s, held);
+    0
+}

@@ -1,0 +1,17 @@
+// The C call for a proposal.
+ghost use Rattle.dombrelat.specs.Proposal.{Proposes};
+
+// Proposes a pair that the check accepts.
+#[no_mangle]
+pub extern "C" fn dombrelat_propose(book: &[u8], x: &mut [u8], m: &mut [u8]) -> i64
+    ensures { λ r. ⌜ Proposes (now (book .entry)) r (now (x .entry)) (now (m .entry)) (now (x .exit)) (now (m .exit)) ⌝ }
+{
+    if book.len() < layout::BOOK_BYTES {
+        return 25;
+    }
+    if !layout::fits(book) {
+        return 25;
+    }
+    let b = layout::book_in(book);
+    lent_checks::propose_lent(b, x, m)
+}
