@@ -9,8 +9,11 @@ use Rattle.text.specs.Fields.{letterOf}
 use Rattle.text.specs.Lines.{linesAfter}
 use Rattle.commands.specs.Messages.{refused}
 use Rattle.reports.specs.Reports.{none}
-use Rattle.input_lines.specs.Runs.{phaseOpened, openingSays, entered, enteringSays, phaseAfter, phaseSays, next, says, runAfter, saysAll}
-use Rattle.adjustment.specs.Ends.{phaseEnds, endSays, printed}
+use Rattle.network.specs.StationWords.{flat}
+use Rattle.commands.specs.Commands.{commandOf}
+use Rattle.input_lines.specs.Runs.{phaseOpened, openingSays, phaseAfter, phaseSays}
+use Rattle.adjustment.specs.Ends.{phaseEnds}
+use Rattle.adjustment.specs.Print.{enters, entersSaying, lineNext, lineSays, linesNext, linesSay, endPrints, printed}
 
 -- `REFUSED 1`
 REFUSED-1 : List ℕ
@@ -18,10 +21,10 @@ REFUSED-1 = 82 ∷ 69 ∷ 70 ∷ 85 ∷ 83 ∷ 69 ∷ 68 ∷ 32 ∷ 49 ∷ 10 �
 
 -- no lines: the end opens, on no stations
 empty-text : printed [] none ≡ REFUSED-1
-unfolding REFUSED-1 printed linesAfter saysAll runAfter endSays openingSays phaseOpened phaseEnds opens wholeStations refused decimalIn
+unfolding REFUSED-1 printed linesAfter linesSay linesNext endPrints flat openingSays phaseOpened phaseEnds opens wholeStations refused decimalIn
 empty-text = refl
 
 -- an empty line is no S line, so it opens; the refusal ends the run, and neither it nor the `U` after it gets a message
 blank-line : printed (10 ∷ 85 ∷ 10 ∷ []) none ≡ REFUSED-1
-unfolding REFUSED-1 printed linesAfter saysAll says runAfter next entered enteringSays endSays openingSays phaseOpened phaseEnds phaseSays phaseAfter opens wholeStations refused decimalIn letterOf before
+unfolding REFUSED-1 printed linesAfter linesSay lineSays linesNext lineNext enters entersSaying endPrints flat openingSays phaseOpened phaseEnds phaseSays phaseAfter opens wholeStations refused decimalIn letterOf before
 blank-line = refl

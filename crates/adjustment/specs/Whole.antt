@@ -1,17 +1,18 @@
 -- A whole text, however it is cut into chunks: what the calls print one after the other is what `printed` says of the text. Assumes nothing.
-use Prim.Native.Nat.{ℕ, suc, _≤_}
+use Prim.Native.Nat.{ℕ, suc}
 use mathlib.Core.Path.{_≡_, refl, sym, ap, _∙_}
 use mathlib.Core.Bool.{Bool, true, false, cond}
-use mathlib.Core.List.{List, [], _∷_, _++_, append-assoc, append-nil}
-use lib.ListN.{length, take}
-use Rattle.text.specs.Lines.{Kept, blank, came, cameAll, concat, isLine, lastKept}
+use mathlib.Core.List.{List, [], _∷_, _++_, append-assoc, append-nil, map}
+use lib.ListN.{take}
+use Rattle.text.specs.Lines.{Kept, kept, blank, came, cameAll, concat, lastKept, linesOf}
 use Rattle.text.specs.LineLaws.{lines-of-chunks}
 use Rattle.commands.specs.Commands.{isStationLine}
 use Rattle.reports.specs.Reports.{Offer, none, no-pair}
 use Rattle.input_lines.specs.Runs.{ended, Run, start, phaseOpened, openingSays, openRun, entered, enteringSays, asked, phaseAfter, phaseSays, next, says, runAfter, saysAll}
 use Rattle.adjustment.specs.Chunks.{Takes}
-use Rattle.adjustment.specs.Ends.{phaseEnds, endSays, OffersAt, Ends, keptLines, printed}
-use Rattle.input_lines.specs.StateLaws.{written-front}
+use Rattle.adjustment.specs.Ends.{phaseEnds, endSays, OffersAt, Closes}
+use Rattle.adjustment.specs.Print.{afterLines, printed, Prints}
+use Rattle.adjustment.specs.PrintLaws.{keptRun, text-run, text-says, open-kept, end-kept}
 
 -- ════ the statement
 -- chunks ss taken one after the other from the run r, with k held of a line: they print t, and leave the run r′ with k′ held
@@ -22,17 +23,6 @@ pub data Chunks : Run → Kept → List (List ℕ) → List ℕ → Run → Kept
       Takes r k s before r₁ k₁ p after →
       Chunks r₁ k₁ ss t r₂ k₂ →
       Chunks r k (s ∷ ss) (take p after ++ t) r₂ k₂
-
--- at the end of the input a line that is held is taken as if its LF (10) had come
-pub data Last : Run → Kept → List ℕ → Run → Type 0 where
-  no-line : {r : Run} {k : Kept} → isLine k ≡ false → Last r k [] r
-  a-line : {r r₁ : Run} {k k₁ : Kept} {before after : List ℕ} {p : ℕ} → isLine k ≡ true → Takes r k (10 ∷ []) before r₁ k₁ p after → Last r k (take p after) r₁
-
--- the bytes are what the text prints, with an offer of the engine's that is named: a pair that the check accepts, or none
-pub record Prints (text bytes : List ℕ) : Type 0 where
-  pub offer : Offer
-  pub offers : OffersAt (runAfter start (keptLines text)) offer
-  pub are : bytes ≡ printed text offer
 
 -- ════ one list of lines after another
 run-append : (r : Run) (a b : List Kept) → runAfter r (a ++ b) ≡ runAfter (runAfter r a) b
@@ -65,33 +55,41 @@ chunks-came {r} {k = k} (then-a-chunk {s = s} {ss = ss} h c) =
           (sym (says-append r (came 50000 k s .ended) (cameAll 50000 (came 50000 k s .going) ss .ended)));
     }
 
-last-came : {r r₁ : Run} {k : Kept} {u : List ℕ} → Last r k u r₁ → (r₁ ≡ runAfter r (lastKept k)) × (u ≡ saysAll r (lastKept k))
-unfolding runAfter saysAll came
-last-came (no-line e) = rw e (refl, refl)
-last-came (a-line e h) = rw e (h .run, h .printed)
+-- ════ the lines of a text, each kept up to 50,000 bytes, print what the text prints
+keptLines : List ℕ → List Kept
+keptLines text = map (kept 50000) (linesOf text)
+
+-- a run over the kept lines of a text that ends at r, having printed t: with what the end prints it is what the text prints
+prints-kept :
+    {text t : List ℕ} {r : Run} {offer : Offer} →
+    r ≡ runAfter start (keptLines text) →
+    t ≡ saysAll start (keptLines text) →
+    OffersAt r offer →
+    Prints text (t ++ endSays r offer)
+unfolding keptLines printed
+prints-kept {text} {t} {r} {offer} e s o =
+    let run : r ≡ keptRun (afterLines text) = e ∙ text-run text in
+    record {
+      offer = offer;
+      offers = λ b z. o b (ap (λ (q : Run). openRun q .phase) run ∙ open-kept (afterLines text) ∙ z);
+      are = rw (s ∙ text-says text, run, end-kept (afterLines text) offer);
+    }
 
 -- ════ the theorem
 pub whole-text :
-    {ss : List (List ℕ)} {t u before after : List ℕ} {r r₁ : Run} {k : Kept} {n : ℕ} →
+    {ss : List (List ℕ)} {t before after : List ℕ} {r : Run} {k : Kept} {n : ℕ} →
     Chunks start blank ss t r k →
-    Last r k u r₁ →
-    Ends r₁ before n after →
-    n ≤ length before →
-    Prints (concat ss) (t ++ u ++ take n after)
-unfolding printed
-whole-text {ss} {t} {u} {before} {after} {r} {r₁} {k} {n} c l e room =
+    Closes r k before n after →
+    Prints (concat ss) (t ++ take n after)
+unfolding keptLines
+whole-text {ss} {t} {before} {after} {r} {k} {n} c e =
     let d = chunks-came c in
-    let b = last-came l in
     let all : cameAll 50000 blank ss .ended ++ lastKept k ≡ keptLines (concat ss) = rw (d .going) (lines-of-chunks 50000 ss) in
-    let run : r₁ ≡ runAfter start (keptLines (concat ss)) =
-    b .0 ∙ ap (λ (q : Run). runAfter q (lastKept k)) (d .run) ∙ sym (run-append start (cameAll 50000 blank ss .ended) (lastKept k)) ∙ ap (runAfter start) all in
-    let said : t ++ u ≡ saysAll start (keptLines (concat ss)) =
-    rw (d .said, b .1, d .run) (sym (says-append start (cameAll 50000 blank ss .ended) (lastKept k)) ∙ ap (saysAll start) all) in
-    record {
-      offer = e .offer;
-      offers = rw run at (e .offers);
-      are = rw said (ap (λ (v : List ℕ). saysAll start (keptLines (concat ss)) ++ v) (written-front (e .written) room ∙ ap (λ (q : Run). endSays q (e .offer)) run));
-    }
+    let run : runAfter r (lastKept k) ≡ runAfter start (keptLines (concat ss)) =
+    ap (λ (q : Run). runAfter q (lastKept k)) (d .run) ∙ sym (run-append start (cameAll 50000 blank ss .ended) (lastKept k)) ∙ ap (runAfter start) all in
+    let said : t ++ saysAll r (lastKept k) ≡ saysAll start (keptLines (concat ss)) =
+    rw (d .said, d .run) (sym (says-append start (cameAll 50000 blank ss .ended) (lastKept k)) ∙ ap (saysAll start) all) in
+    rw (e .printed) (rw append-assoc at (prints-kept run said (e .offers)))
 
 -- ════ a refused opening ends the run: nothing is printed after it, whatever comes
 silent : (r : Run) (k : Kept) → r .phase ≡ ended → (says r k ≡ []) × (next r k .phase ≡ ended)
@@ -123,7 +121,7 @@ came-append k (s ∷ a) b =
 -- so a program that stops reading there has printed what the whole text prints, whatever chunks `rest` would have come
 pub stopped-text :
     {ss : List (List ℕ)} {t : List ℕ} {r : Run} {k : Kept} (rest : List (List ℕ)) → Chunks start blank ss t r k → r .phase ≡ ended → Prints (concat (ss ++ rest)) t
-unfolding printed endSays openingSays phaseEnds phaseOpened
+unfolding keptLines endSays openingSays phaseEnds phaseOpened
 stopped-text {ss} {t} {r} {k} rest c e =
     let d = chunks-came c in
     let more : List Kept = cameAll 50000 (cameAll 50000 blank ss .going) rest .ended ++ lastKept (cameAll 50000 blank (ss ++ rest) .going) in
@@ -132,13 +130,11 @@ stopped-text {ss} {t} {r} {k} rest c e =
     ∙ ap (λ (l : List Kept). l ++ lastKept (cameAll 50000 blank (ss ++ rest) .going)) (sym (came-append blank ss rest))
     ∙ lines-of-chunks 50000 (ss ++ rest) in
     let q = ended-silent r more e in
-    let run : runAfter start (keptLines (concat (ss ++ rest))) ≡ runAfter r more =
-    ap (runAfter start) (sym all) ∙ run-append start (cameAll 50000 blank ss .ended) more ∙ ap (λ (x : Run). runAfter x more) (sym (d .run)) in
-    let said : saysAll start (keptLines (concat (ss ++ rest))) ≡ t =
-    ap (saysAll start) (sym all) ∙ says-append start (cameAll 50000 blank ss .ended) more
-    ∙ rw (← d .run, ← d .said, q .0) (append-nil t) in
-    record {
-      offer = none;
-      offers = λ b z. no-pair;
-      are = rw (said, run, q .1) (sym (append-nil t));
-    }
+    let run : runAfter r more ≡ runAfter start (keptLines (concat (ss ++ rest))) =
+    ap (λ (x : Run). runAfter x more) (d .run) ∙ sym (run-append start (cameAll 50000 blank ss .ended) more) ∙ ap (runAfter start) all in
+    let said : t ≡ saysAll start (keptLines (concat (ss ++ rest))) =
+    sym (append-nil t) ∙ ap (λ (l : List ℕ). t ++ l) (sym (q .0))
+    ∙ rw (d .said, d .run) (sym (says-append start (cameAll 50000 blank ss .ended) more))
+    ∙ ap (saysAll start) all in
+    let silent-end : endSays (runAfter r more) none ≡ [] = rw (q .1) in
+    rw (silent-end, append-nil) at (prints-kept run said (λ b z. no-pair))

@@ -22,7 +22,7 @@ unfoldable pub notedAll : List ℤ → List Station → List ℤ
 notedAll l [] = l
 notedAll l (s ∷ ss) = notedAll (noted l s) ss
 
-noted-one : (l : List ℤ) (n : ℕ) (s : Station) → length l ≡ n * 4 → noted (take 132 l) s ≡ take 132 (l ++ stationWords s)
+pub noted-one : (l : List ℤ) (n : ℕ) (s : Station) → length l ≡ n * 4 → noted (take 132 l) s ≡ take 132 (l ++ stationWords s)
 unfolding noted
 noted-one l n s e = by (decLe n 32)
   where
