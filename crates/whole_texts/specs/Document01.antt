@@ -1,0 +1,287 @@
+-- Document 01's "The night print": for its own six lines of input the program prints exactly its own six lines of output. Assumes nothing.
+--   printed    adjustment, Print   what the program prints for a text
+--   cases-hold cases, CasesHold    what the calls and the check give for these lines, "As printed, accepted"
+use Prim.Native.Nat.{ℕ}
+use mathlib.Core.Path.{_≡_, refl, sym, ap, _∙_}
+use mathlib.Core.Bool.{true}
+use mathlib.Core.List.{List, [], _∷_, _++_}
+use native.Mathlib.Omega.{arith}
+use lib.Dec.{lit<, lit≤}
+use lib.ListN.{length, getD, take, drop, replicate}
+use lib.Seq.{take-at}
+use lib.IntN.{ℤ, pos, natAbs}
+use Rattle.network.specs.Stations.{networkOf}
+use Rattle.network.specs.StationWords.{kindWord, stationWords, flat}
+use Rattle.network.specs.OpeningLaws.{opened-fits}
+use Rattle.network.specs.declared.Station.{Station}
+use Rattle.network.specs.declared.Kind.the-variants as kind
+use Rattle.network.specs.declared.Network.{Network}
+use Rattle.acceptance.specs.Judge.{numberOf}
+use Rattle.acceptance.specs.declared.Answer.{Answer}
+use Rattle.acceptance.specs.declared.Answer.the-variants.{Accepted, Refused}
+use Rattle.acceptance.specs.declared.Refusal.the-variants.{Lengths, Untied, Correction, Inverse, Defect, Residual, Refinement, TooLarge}
+use Rattle.book.specs.declared.Book.{Book}
+use Rattle.book.specs.Book.{openedBook, bookNext, bookSays}
+use Rattle.book.specs.Calls.{Call, add}
+use Rattle.book.specs.Run.{final, answers}
+use Rattle.book.specs.Rows.{rowNext, rowSays}
+use Rattle.sheet.specs.Sheet.{sheetWords, room}
+use Rattle.sheet.specs.SheetLaws.{sheet-length}
+use Rattle.checks.specs.Checks.{checked, hasRoom, onAcceptance, sheetAfter}
+use Rattle.cases.specs.Table.{stationList, level, table}
+use Rattle.cases.specs.Cases.{rowsOf, bookOf, xOf, mOf, filled, enough, Holds, first}
+use Rattle.cases.specs.Brief.{brief-follows}
+use Rattle.cases.specs.CasesHold.{cases-hold}
+use Rattle.text.specs.Before.{before}
+use Rattle.text.specs.Numbers.{allDigits, isDecimal, valueAfter, signedOf, numberOf as fieldNumber, decimalIn, decimal}
+use Rattle.text.specs.Fields.{fieldsOf, restFields, letterOf, numbersOf, atMost}
+use Rattle.text.specs.Lines.{linesOf, linesAfter}
+use Rattle.commands.specs.Commands.{exactly, entryOf, added, counted, kindOf, inTurn, stationOf, otherOf, fieldsCommand, commandOf}
+use Rattle.commands.specs.Brings.{brings}
+use Rattle.commands.specs.Sheet.{spaced, highVerdict, verdict, headLine, stationLine, baselineLine, heightLine, globalLine, stationLines, recordLine, recordWords, recordStart, recordLines, globalStart, sheetText}
+use Rattle.reports.specs.Reports.{Offer, kindsAt, kindsBelow, kindsOf, answerSays, checkSays}
+use Rattle.reports.specs.ReportLaws.{kinds-room}
+use Rattle.input_lines.specs.Runs.{unopened, opened, Given, none, given, phaseOpened, openingSays, isUnopened, edits, phaseAfter, givenBy, commandSays, phaseSays}
+use Rattle.adjustment.specs.Ends.{bookEnds, phaseEnds}
+use Rattle.adjustment.specs.Print.{WholeRun, atStart, enters, entersSaying, stationsAfter, lineNext, lineSays, linesNext, linesSay, endPrints, printed}
+
+-- ════ the input, line by line
+-- `S 1 K 0 0 100000`
+unfoldable pub STATION-1 : List ℕ
+STATION-1 = 83 ∷ 32 ∷ 49 ∷ 32 ∷ 75 ∷ 32 ∷ 48 ∷ 32 ∷ 48 ∷ 32 ∷ 49 ∷ 48 ∷ 48 ∷ 48 ∷ 48 ∷ 48 ∷ []
+
+-- `S 2 V 0 0 101000`
+unfoldable pub STATION-2 : List ℕ
+STATION-2 = 83 ∷ 32 ∷ 50 ∷ 32 ∷ 86 ∷ 32 ∷ 48 ∷ 32 ∷ 48 ∷ 32 ∷ 49 ∷ 48 ∷ 49 ∷ 48 ∷ 48 ∷ 48 ∷ []
+
+-- `H 1 1 2 1000 100`
+unfoldable pub HEIGHT-1 : List ℕ
+HEIGHT-1 = 72 ∷ 32 ∷ 49 ∷ 32 ∷ 49 ∷ 32 ∷ 50 ∷ 32 ∷ 49 ∷ 48 ∷ 48 ∷ 48 ∷ 32 ∷ 49 ∷ 48 ∷ 48 ∷ []
+
+-- `H 2 1 2 1100 100`
+unfoldable pub HEIGHT-2 : List ℕ
+HEIGHT-2 = 72 ∷ 32 ∷ 50 ∷ 32 ∷ 49 ∷ 32 ∷ 50 ∷ 32 ∷ 49 ∷ 49 ∷ 48 ∷ 48 ∷ 32 ∷ 49 ∷ 48 ∷ 48 ∷ []
+
+-- `X 50`
+unfoldable pub CORRECTIONS : List ℕ
+CORRECTIONS = 88 ∷ 32 ∷ 53 ∷ 48 ∷ []
+
+-- `M 5368709`
+unfoldable pub MATRIX : List ℕ
+MATRIX = 77 ∷ 32 ∷ 53 ∷ 51 ∷ 54 ∷ 56 ∷ 55 ∷ 48 ∷ 57 ∷ []
+
+abbrev pub LF : List ℕ
+LF = 10 ∷ []
+
+-- "lines end in LF (the last may lack it)"
+unfoldable pub INPUT-WITHOUT-LAST-LF : List ℕ
+INPUT-WITHOUT-LAST-LF = STATION-1 ++ LF ++ STATION-2 ++ LF ++ HEIGHT-1 ++ LF ++ HEIGHT-2 ++ LF ++ CORRECTIONS ++ LF ++ MATRIX
+
+unfoldable pub INPUT : List ℕ
+INPUT = INPUT-WITHOUT-LAST-LF ++ LF
+
+-- ════ "It prints exactly", line by line
+unfoldable pub OUTPUT : List ℕ
+OUTPUT =
+    -- `SHEET 2 RECORDS 1 UNKNOWNS`
+    (83 ∷ 72 ∷ 69 ∷ 69 ∷ 84 ∷ 32 ∷ 50 ∷ 32 ∷ 82 ∷ 69 ∷ 67 ∷ 79 ∷ 82 ∷ 68 ∷ 83 ∷ 32 ∷ 49 ∷ 32 ∷ 85 ∷ 78 ∷ 75 ∷ 78 ∷ 79 ∷ 87 ∷ 78 ∷ 83 ∷ 10 ∷ [])
+    -- `1 0 0 100000 0 0 0`
+    ++ (49 ∷ 32 ∷ 48 ∷ 32 ∷ 48 ∷ 32 ∷ 49 ∷ 48 ∷ 48 ∷ 48 ∷ 48 ∷ 48 ∷ 32 ∷ 48 ∷ 32 ∷ 48 ∷ 32 ∷ 48 ∷ 10 ∷ [])
+    -- `2 0 0 101050 0 0 5368709`
+    ++ (50 ∷ 32 ∷ 48 ∷ 32 ∷ 48 ∷ 32 ∷ 49 ∷ 48 ∷ 49 ∷ 48 ∷ 53 ∷ 48 ∷ 32 ∷ 48 ∷ 32 ∷ 48 ∷ 32 ∷ 53 ∷ 51 ∷ 54 ∷ 56 ∷ 55 ∷ 48 ∷ 57 ∷ 10 ∷ [])
+    -- `1 -50 PASS`
+    ++ (49 ∷ 32 ∷ 45 ∷ 53 ∷ 48 ∷ 32 ∷ 80 ∷ 65 ∷ 83 ∷ 83 ∷ 10 ∷ [])
+    -- `2 50 PASS`
+    ++ (50 ∷ 32 ∷ 53 ∷ 48 ∷ 32 ∷ 80 ∷ 65 ∷ 83 ∷ 83 ∷ 10 ∷ [])
+    -- `GLOBAL 500000 1 PASS`
+    ++ (71 ∷ 76 ∷ 79 ∷ 66 ∷ 65 ∷ 76 ∷ 32 ∷ 53 ∷ 48 ∷ 48 ∷ 48 ∷ 48 ∷ 48 ∷ 32 ∷ 49 ∷ 32 ∷ 80 ∷ 65 ∷ 83 ∷ 83 ∷ 10 ∷ [])
+
+-- ════ the lines of the text
+editLines : List (List ℕ)
+editLines = HEIGHT-1 ∷ HEIGHT-2 ∷ CORRECTIONS ∷ MATRIX ∷ []
+
+lines : List (List ℕ)
+lines = STATION-1 ∷ STATION-2 ∷ editLines
+
+lines-are : linesOf INPUT ≡ lines
+unfolding lines editLines INPUT INPUT-WITHOUT-LAST-LF STATION-1 STATION-2 HEIGHT-1 HEIGHT-2 CORRECTIONS MATRIX linesAfter
+lines-are = refl
+
+lines-without : linesOf INPUT-WITHOUT-LAST-LF ≡ lines
+unfolding lines editLines INPUT-WITHOUT-LAST-LF STATION-1 STATION-2 HEIGHT-1 HEIGHT-2 CORRECTIONS MATRIX linesAfter
+lines-without = refl
+
+-- ════ the stations are read
+stations : List Station
+stations =
+    record { kind = kind.Known; east = pos 0; north = pos 0; up = pos 100000 }
+    ∷ record { kind = kind.Height; east = pos 0; north = pos 0; up = pos 101000 }
+    ∷ []
+
+station-words : flat stations ≡ stationList
+unfolding stations flat stationWords kindWord stationList
+station-words = refl
+
+abbrev stationsRead : WholeRun
+stationsRead = record { stations = stations; lines = 2; phase = unopened; corrections = none; matrix = none }
+
+module _ (more : List (List ℕ)) where
+  read-next : linesNext atStart (STATION-1 ∷ STATION-2 ∷ more) ≡ linesNext stationsRead more
+  unfolding stations STATION-1 STATION-2 linesNext lineNext enters stationsAfter phaseAfter isUnopened brings commandOf fieldsCommand stationOf inTurn kindOf exactly letterOf restFields fieldsOf before numbersOf fieldNumber signedOf isDecimal allDigits valueAfter
+  read-next = refl
+
+  read-says : linesSay atStart (STATION-1 ∷ STATION-2 ∷ more) ≡ linesSay stationsRead more
+  unfolding stations STATION-1 STATION-2 linesSay lineSays lineNext enters entersSaying stationsAfter phaseAfter phaseSays commandSays isUnopened brings commandOf fieldsCommand stationOf inTurn kindOf exactly letterOf restFields fieldsOf before numbersOf fieldNumber signedOf isDecimal allDigits valueAfter
+  read-says = refl
+
+-- ════ the other lines, on an opened book b
+abbrev withBook : Book → ℕ → Given → Given → WholeRun
+withBook b k x m = record { stations = stations; lines = k; phase = opened b; corrections = x; matrix = m }
+
+-- the calls of the two H lines
+abbrev call1 : Call
+call1 = add (pos 1) (level 1000)
+
+abbrev call2 : Call
+call2 = add (pos 2) (level 1100)
+
+module _ (b : Book) where
+  -- the first H line opens
+  module _ (o : phaseOpened (flat stations) unopened ≡ opened b) (s : openingSays (flat stations) unopened ≡ []) where
+    entered : enters stationsRead HEIGHT-1 ≡ enters (withBook b 2 none none) HEIGHT-1
+    unfolding enters phaseOpened HEIGHT-1 letterOf before
+    entered = rw o
+
+    opened-next : linesNext stationsRead editLines ≡ linesNext (withBook b 2 none none) editLines
+    unfolding editLines linesNext lineNext
+    opened-next = rw entered
+
+    opened-says : linesSay stationsRead editLines ≡ linesSay (withBook b 2 none none) editLines
+    unfolding editLines linesSay lineSays lineNext entersSaying openingSays HEIGHT-1 letterOf before
+    opened-says = rw (s, entered)
+
+  edits-next : linesNext (withBook b 2 none none) editLines ≡ withBook (bookNext (bookNext b call1) call2) 6 (given (xOf first)) (given (mOf first))
+  unfolding editLines HEIGHT-1 HEIGHT-2 CORRECTIONS MATRIX linesNext lineNext enters stationsAfter phaseOpened phaseAfter edits isUnopened brings givenBy counted atMost commandOf fieldsCommand otherOf added entryOf exactly letterOf restFields fieldsOf before numbersOf fieldNumber signedOf isDecimal allDigits valueAfter
+  edits-next = refl
+
+  -- where neither call is refused, nothing is printed
+  edits-say : bookSays b call1 ≡ 0 → bookSays (bookNext b call1) call2 ≡ 0 → linesSay (withBook b 2 none none) editLines ≡ []
+  unfolding editLines HEIGHT-1 HEIGHT-2 CORRECTIONS MATRIX linesSay lineSays lineNext enters entersSaying stationsAfter phaseOpened openingSays phaseAfter phaseSays commandSays edits isUnopened brings givenBy counted atMost commandOf fieldsCommand otherOf added entryOf exactly letterOf restFields fieldsOf before numbersOf fieldNumber signedOf isDecimal allDigits valueAfter
+  edits-say p q = rw (q, p)
+
+  -- X and M are given: the end checks them
+  end-checks : (x m : List ℤ) (offer : Offer) → endPrints (withBook b 6 (given x) (given m)) offer ≡ checkSays b x m
+  unfolding endPrints openingSays phaseOpened phaseEnds bookEnds
+  end-checks x m offer = refl
+
+-- ════ the book: what is proved of these calls
+holds : Holds first
+unfolding table
+holds = cases-hold 0 (lit< tt)
+
+abbrev newBook : Book
+newBook = openedBook (networkOf stationList)
+
+opening-phase : phaseOpened (flat stations) unopened ≡ opened newBook
+unfolding phaseOpened
+opening-phase = rw (station-words, holds .opened)
+
+opening-silent : openingSays (flat stations) unopened ≡ []
+unfolding openingSays
+opening-silent = rw (station-words, holds .opened)
+
+-- neither call is refused
+module _ (b : Book) (e : answers (rowNext bookNext) (rowSays bookSays) b (rowsOf first) ≡ pos 0 ∷ pos 0 ∷ []) where
+  answer-1 : bookSays b call1 ≡ 0
+  unfolding answers rowSays
+  answer-1 = ap (λ (l : List ℤ). natAbs (getD l 0 (pos 0))) e
+
+  answer-2 : bookSays (bookNext b call1) call2 ≡ 0
+  unfolding answers rowSays rowNext
+  answer-2 = ap (λ (l : List ℤ). natAbs (getD l 1 (pos 0))) e
+
+book-is : bookNext (bookNext newBook call1) call2 ≡ bookOf first
+unfolding final rowNext
+book-is = refl
+
+two-stations : bookOf first .network .count ≡ 2
+unfolding networkOf stationList
+two-stations = ap (λ (n : Network). n .count) (brief-follows (networkOf stationList) (opened-fits stationList (holds .opened)) (rowsOf first) .network)
+
+two-heights : kindsOf (bookOf first .places) ≡ 2 ∷ 2 ∷ []
+unfolding filled kindsBelow kindsAt
+two-heights = ap kindsOf (holds .records)
+
+-- ════ the check: what is proved of it
+-- only an acceptance has number 0
+accepted-0 : (a : Answer) → numberOf a ≡ 0 → a ≡ Accepted
+accepted-0 Accepted e = refl
+accepted-0 (Refused Lengths) e = absurd (omega arith)
+accepted-0 (Refused (Untied unknown)) e = absurd (omega arith)
+accepted-0 (Refused Correction) e = absurd (omega arith)
+accepted-0 (Refused Inverse) e = absurd (omega arith)
+accepted-0 (Refused Defect) e = absurd (omega arith)
+accepted-0 (Refused Residual) e = absurd (omega arith)
+accepted-0 (Refused Refinement) e = absurd (omega arith)
+accepted-0 (Refused TooLarge) e = absurd (omega arith)
+
+room-is : room (bookOf first .network) (bookOf first .places) ≡ length (first .sheet)
+unfolding globalStart recordStart recordWords
+room-is = sym (kinds-room (bookOf first .network) (bookOf first .places)) ∙ rw (two-stations, two-heights)
+
+-- the words of a sheet are those that it leaves at the front of lent ones
+module _ (b : Book) (x m lent sheet : List ℤ) where
+  words-from : checked b x m (hasRoom b lent) ≡ Accepted → room (b .network) (b .places) ≡ length sheet → sheetAfter b x m lent ≡ sheet ++ drop (length sheet) lent
+      → sheetWords (b .network) (b .places) x m ≡ sheet
+  unfolding sheetAfter onAcceptance
+  words-from accepts long leaves =
+      let words = sheetWords (b .network) (b .places) x m in
+      sym (take-at words (drop (room (b .network) (b .places)) lent) (length sheet) (sheet-length (b .network) (b .places) x m ∙ long))
+      ∙ ap (take (length sheet)) (rw accepts at leaves)
+      ∙ take-at sheet (drop (length sheet) lent) (length sheet) refl
+
+words-are : sheetWords (bookOf first .network) (bookOf first .places) (xOf first) (mOf first) ≡ first .sheet
+words-are =
+    let lent = replicate enough (pos 0) in
+    words-from (bookOf first) (xOf first) (mOf first) lent (first .sheet)
+    (accepted-0 (checked (bookOf first) (xOf first) (mOf first) (hasRoom (bookOf first) lent)) (holds .checkSheet lent (lit≤ tt) .number))
+    room-is
+    (holds .written lent (lit≤ tt))
+
+sheet-text : sheetText (first .sheet) 2 (2 ∷ 2 ∷ []) ≡ OUTPUT
+unfolding OUTPUT sheetText headLine stationLines stationLine recordLines recordLine recordStart recordWords heightLine baselineLine globalStart globalLine spaced verdict highVerdict decimal decimalIn
+sheet-text = refl
+
+check-prints : checkSays (bookOf first) (xOf first) (mOf first) ≡ OUTPUT
+unfolding checkSays answerSays
+check-prints =
+    let accepts = accepted-0 (checked (bookOf first) (xOf first) (mOf first) true) (holds .check .number) in
+    rw (accepts, words-are, two-stations, two-heights) sheet-text
+
+-- ════ the text
+all-next : linesNext atStart lines ≡ withBook (bookOf first) 6 (given (xOf first)) (given (mOf first))
+unfolding lines
+all-next =
+    read-next editLines
+    ∙ opened-next newBook opening-phase opening-silent
+    ∙ edits-next newBook
+    ∙ ap (λ (b : Book). withBook b 6 (given (xOf first)) (given (mOf first))) book-is
+
+all-say : linesSay atStart lines ≡ []
+unfolding lines
+all-say =
+    read-says editLines
+    ∙ opened-says newBook opening-phase opening-silent
+    ∙ edits-say newBook (answer-1 newBook (holds .answered)) (answer-2 newBook (holds .answered))
+
+lines-print : (text : List ℕ) → linesOf text ≡ lines → (offer : Offer) → printed text offer ≡ OUTPUT
+unfolding printed
+lines-print text are offer = rw (are, all-say, all-next) (end-checks (bookOf first) (xOf first) (mOf first) offer ∙ check-prints)
+
+-- ════ the theorems, whatever the engine's offer is: X and M are given, so it is not asked
+pub document-01 : (offer : Offer) → printed INPUT offer ≡ OUTPUT
+document-01 = lines-print INPUT lines-are
+
+-- "the last may lack it"
+pub document-01-without-last-lf : (offer : Offer) → printed INPUT-WITHOUT-LAST-LF offer ≡ OUTPUT
+document-01-without-last-lf = lines-print INPUT-WITHOUT-LAST-LF lines-without
