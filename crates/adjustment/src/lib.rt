@@ -1,11 +1,16 @@
 // The run of an input, chunk by chunk, and its end: all of document 01's "The night print" but for reading and writing.
 mod chunks;
+mod closing;
 mod ending;
+mod stepping;
 
 use book::Book;
 pub use chunks::begin;
 pub use chunks::take_chunk;
+pub use closing::close;
+pub use closing::print_text;
 pub use ending::finish;
+pub use stepping::step;
 use input_lines::State;
 
 // A run between two chunks of its input: its state and book, how many bytes are held of the line that goes on and whether it had more, and how
@@ -16,4 +21,23 @@ pub struct Taken {
     pub len: usize,
     pub over: bool,
     pub printed: usize,
+}
+
+// The print of a whole text: so many bytes at the front of the lent ones, or too little room for whatever it might print.
+pub enum Printing {
+    Bytes(usize),
+    NoRoom,
+}
+
+// How a run goes on: it reads the next chunk; all is printed, at the end of its input or where its opening was refused; or its input could not be read.
+pub enum Progress {
+    Reading,
+    Finished,
+    Unread,
+}
+
+// A run after a step, and how it goes on.
+pub struct Stepped {
+    pub taken: Taken,
+    pub progress: Progress,
 }

@@ -1,0 +1,73 @@
+-- `closing::print_text` meets its contract. Assumes nothing.
+use native.Mathlib.Omega.{arith}
+use Rattle.adjustment.specs.Texts.{Printed}
+use borrow.Author.Tests.{not-true, not-false, leb-true}
+use mathlib.Core.Path.{refl, sym, _∙_}
+use borrow.Author.Needs.{needs}
+use Rattle.adjustment.proofs.closing.print_text.Statement.{statement}
+use Rattle.adjustment.proofs.closing.print_text.Tie as tie
+
+has-room-requires : tie.Need-has-room-requires
+has-room-requires c κs = search needs
+
+returns : tie.Need-returns
+unfolding Printed
+returns c = (sym (c .before .has-room .ensures) ∙ not-true _ (c .if1 .taken), refl)
+
+line-room-requires : tie.Need-line-room-requires
+line-room-requires c κs = search needs
+
+list-room-requires : tie.Need-list-room-requires
+list-room-requires c κs = search needs
+
+corrections-room-requires : tie.Need-corrections-room-requires
+corrections-room-requires c κs = search needs
+
+matrix-room-requires : tie.Need-matrix-room-requires
+matrix-room-requires c κs = search needs
+
+slice-aggregate-print-all : tie.Need-slice-aggregate-print-all
+slice-aggregate-print-all c = search needs
+
+slice-aggregate-print-all-2 : tie.Need-slice-aggregate-print-all-2
+slice-aggregate-print-all-2 c = search needs
+
+slice-aggregate-print-all-3 : tie.Need-slice-aggregate-print-all-3
+slice-aggregate-print-all-3 c = search needs
+
+slice-aggregate-print-all-4 : tie.Need-slice-aggregate-print-all-4
+slice-aggregate-print-all-4 c = search needs
+
+print-all-requires : tie.Need-print-all-requires
+print-all-requires c κs = (
+      sym (c .before .before .before .before .before .before .before .before .line-room .ensures),
+      omega (arith, c .before .before .before .before .before .before .before .list-room .ensures),
+      omega (arith, c .before .before .before .before .before .before .corrections-room .ensures),
+      omega (arith, c .before .before .before .before .before .matrix-room .ensures),
+      leb-true _ _ (sym (c .before .before .before .before .before .before .before .before .before .before .has-room .ensures) ∙ not-false _ (c .before .before .before .before .before .before .before .before .before .if1 .left)),
+    )
+
+same-length : tie.Need-same-length
+same-length c = search needs
+
+returns-2 : tie.Need-returns-2
+unfolding Printed
+returns-2 c = (sym (c .before .before .before .before .before .before .before .before .before .before .before .before .before .before .before .before .before .has-room .ensures) ∙ not-false _ (c .before .before .before .before .before .before .before .before .before .before .before .before .before .before .before .before .if1 .left), c .before .before .before .before .before .before .print-all .ensures)
+
+pub print-text-spec : {M : Type 1} → statement M
+print-text-spec =
+    tie.close
+    (tie.spec
+    has-room-requires
+    returns
+    line-room-requires
+    list-room-requires
+    corrections-room-requires
+    matrix-room-requires
+    slice-aggregate-print-all
+    slice-aggregate-print-all-2
+    slice-aggregate-print-all-3
+    slice-aggregate-print-all-4
+    print-all-requires
+    same-length
+    returns-2)

@@ -1,0 +1,25 @@
+-- What the print of a whole text leaves in a lent buffer. Assumes nothing.
+use Prim.Native.Nat.{ℕ, _+_, _*_, _≤_}
+use mathlib.Core.Path.{_≡_}
+use mathlib.Core.Bool.{Bool, true, false}
+use mathlib.Core.List.{List}
+use lib.Dec.{leb}
+use lib.ListN.{length, take, drop}
+use Rattle.adjustment.specs.declared.Printing.{Printing}
+use Rattle.adjustment.specs.declared.Printing.the-variants.{Bytes, NoRoom}
+use Rattle.adjustment.specs.Print.{Prints}
+
+-- the text's print stands at the front of `before`, which leaves `after`; bytes beyond stay
+pub record PrintsAll (text before : List ℕ) (n : ℕ) (after : List ℕ) : Type 0 where
+  pub prints : Prints text (take n after)
+  pub beyond : drop n after ≡ drop n before
+  pub within : n ≤ length after
+
+-- room for whatever a text prints: 84 bytes for each of its own (two messages: a refused opening's and the line's), and the last line and the end
+abbrev pub hasRoom : List ℕ → List ℕ → Bool
+hasRoom text out = leb (84 * length text + 32272) (length out)
+
+-- how many bytes it has, or that there is too little room, and then nothing is written
+unfoldable pub Printed : List ℕ → List ℕ → Printing → List ℕ → Type 0
+Printed text before (Bytes n) after = (hasRoom text before ≡ true) × PrintsAll text before n after
+Printed text before NoRoom after = (hasRoom text before ≡ false) × (after ≡ before)
