@@ -13,7 +13,7 @@ use Rattle.input_lines.specs.States.{phaseOf, endedPhase}
 use Rattle.input_lines.specs.declared.Phase as code-phase
 use Rattle.input_lines.specs.declared.Phase.the-variants.{Unopened, Opened, Ended}
 use Rattle.adjustment.specs.declared.Progress.{Progress}
-use Rattle.adjustment.specs.declared.Progress.the-variants.{Reading, Finished, Unread}
+use Rattle.adjustment.specs.declared.Progress.the-variants.{Reading, Finished, Refused, Unread}
 use Rattle.adjustment.specs.Chunks.{Takes}
 use Rattle.adjustment.specs.Ends.{Closes}
 use Rattle.adjustment.specs.declared.Taken.{Taken}
@@ -49,7 +49,7 @@ module _ {r r₁ : Run} {k k₁ : Kept} {failed : Bool} {came before : List ℕ}
         takes = λ f c. absurd (c (none-left came z));
       }
 
-  pub step-takes : {p : Progress} {n : ℕ} {after : List ℕ} → failed ≡ false → (length came ≡ 0 → ⊥) → p ≡ cond (isEnded (r₁ .phase)) Finished Reading → Takes r k came before r₁ k₁ n after → Steps r k failed came before p r₁ k₁ n after
+  pub step-takes : {p : Progress} {n : ℕ} {after : List ℕ} → failed ≡ false → (length came ≡ 0 → ⊥) → p ≡ cond (isEnded (r₁ .phase)) Refused Reading → Takes r k came before r₁ k₁ n after → Steps r k failed came before p r₁ k₁ n after
   step-takes e z p h =
       record {
         unread = λ f. never (sym f ∙ e);

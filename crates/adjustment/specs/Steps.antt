@@ -10,7 +10,7 @@ use Rattle.input_lines.specs.Runs.{Phase, unopened, opened, ended, Run}
 use Rattle.input_lines.specs.States.{Ready}
 use Rattle.adjustment.specs.declared.Taken.{Taken}
 use Rattle.adjustment.specs.declared.Progress.{Progress}
-use Rattle.adjustment.specs.declared.Progress.the-variants.{Reading, Finished, Unread}
+use Rattle.adjustment.specs.declared.Progress.the-variants.{Reading, Finished, Refused, Unread}
 use Rattle.adjustment.specs.Chunks.{Takes}
 use Rattle.adjustment.specs.Ends.{Closes}
 
@@ -26,7 +26,7 @@ pub record Steps (r : Run) (k : Kept) (failed : Bool) (came before : List ℕ) (
   -- the end of the input: the last line, where it lacks its LF, and the end; r₁ and k₁ are free
   pub ends : failed ≡ false → came ≡ [] → (p ≡ Finished) × Closes r k before n after
   -- a chunk: its lines are taken, and the run reads on unless its opening was refused
-  pub takes : failed ≡ false → (came ≡ [] → ⊥) → (p ≡ cond (isEnded (r₁ .phase)) Finished Reading) × Takes r k came before r₁ k₁ n after
+  pub takes : failed ≡ false → (came ≡ [] → ⊥) → (p ≡ cond (isEnded (r₁ .phase)) Refused Reading) × Takes r k came before r₁ k₁ n after
 
 -- what the next step asks, where there is one
 pub record Goes (t : Taken) (came : List ℕ) (p : Progress) (t₁ : Taken) (list x m : List ℤ) (out : List ℕ) : Type 0 where

@@ -24,6 +24,15 @@ pub data Chunks : Run → Kept → List (List ℕ) → List ℕ → Run → Kept
       Chunks r₁ k₁ ss t r₂ k₂ →
       Chunks r k (s ∷ ss) (take p after ++ t) r₂ k₂
 
+-- one chunk more
+pub chunks-more :
+    {r r₁ r₂ : Run} {k k₁ k₂ : Kept} {s before after t : List ℕ} {ss : List (List ℕ)} {p : ℕ} →
+    Chunks r k ss t r₁ k₁ →
+    Takes r₁ k₁ s before r₂ k₂ p after →
+    Chunks r k (ss ++ (s ∷ [])) (t ++ take p after) r₂ k₂
+chunks-more {after = after} {p = p} no-more h = rw (append-nil (take p after)) at (then-a-chunk h no-more)
+chunks-more {after = after} {p = p} (then-a-chunk {after = a} {t = t} {p = q} g c) h = rw (append-assoc (take q a) t (take p after)) (then-a-chunk g (chunks-more c h))
+
 -- ════ one list of lines after another
 run-append : (r : Run) (a b : List Kept) → runAfter r (a ++ b) ≡ runAfter (runAfter r a) b
 unfolding runAfter

@@ -29,10 +29,11 @@ pub enum Printing {
     NoRoom,
 }
 
-// How a run goes on: it reads the next chunk; all is printed, at the end of its input or where its opening was refused; or its input could not be read.
+// How a run goes on: it reads the next chunk; all is printed, since its input has ended, or since its opening was refused; or its input could not be read.
 pub enum Progress {
     Reading,
     Finished,
+    Refused,
     Unread,
 }
 

@@ -10,15 +10,15 @@ ghost use mathlib.Core.Bool.{cond};
 ghost use lib.ListN.{length};
 ghost use Rattle.text.specs.Lines.{holds};
 ghost use Rattle.input_lines.specs.States.{runOf, Ready};
-ghost use Rattle.adjustment.specs.declared.Progress.the-variants.{Reading, Finished};
+ghost use Rattle.adjustment.specs.declared.Progress.the-variants.{Reading, Refused};
 ghost use Rattle.adjustment.specs.Steps.{Steps, Goes};
 
 // A refused opening ends a run.
 fn progress_of(ended: bool) -> Progress
-    ensures { λ r. ⌜ r ≡ cond ended Finished Reading ⌝ }
+    ensures { λ r. ⌜ r ≡ cond ended Refused Reading ⌝ }
 {
     if ended {
-        return Progress::Finished;
+        return Progress::Refused;
     }
     Progress::Reading
 }

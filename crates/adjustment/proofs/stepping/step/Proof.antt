@@ -1,6 +1,6 @@
 -- `stepping::step` meets its contract. Assumes nothing.
 use mathlib.Core.Bool.{Bool, cond}
-use Rattle.adjustment.specs.declared.Progress.the-variants.{Reading, Finished}
+use Rattle.adjustment.specs.declared.Progress.the-variants.{Reading, Refused}
 use Rattle.adjustment.specs.StepLaws.{ended-phase, step-unread, step-ends, step-takes, goes-unread, goes-finished}
 use native.Mathlib.Omega.{arith}
 use mathlib.Core.Path.{sym, ap, _∙_}
@@ -65,7 +65,7 @@ returns-3 c = let s = c .before .before .before .before .before .before .before 
       step-takes
       (c .before .before .before .before .before .before .before .before .before .before .before .before .before .before .before .before .if1 .left)
       (λ e. c .before .before .before .before .before .before .before .before .before .before .before .before .before .before .before .if2 .left e)
-      (c .progress-of .ensures ∙ ap (λ (b : Bool). cond b Finished Reading) (c .before .is-ended .ensures ∙ sym (ended-phase (t .result .state .phase) (t .result .book))))
+      (c .progress-of .ensures ∙ ap (λ (b : Bool). cond b Refused Reading) (c .before .is-ended .ensures ∙ sym (ended-phase (t .result .state .phase) (t .result .book))))
       (t .ensures .0),
       record {
         ready = λ e. t .ensures .1 .0;
