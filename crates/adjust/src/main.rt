@@ -138,7 +138,10 @@ fn tell(finish: Finish) {
         Finish::Refused => {}
         Finish::Unwritten => {}
         Finish::Unread => {
-            io::write_all(2, b"adjust: the input could not be read to its end; nothing after this point was applied, and no sheet is printed\n");
+            io::write_all(
+                2,
+                b"adjust: the input could not be read to its end; nothing after this point was applied, and no sheet is printed\n",
+            );
         }
     }
 }

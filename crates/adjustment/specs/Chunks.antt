@@ -11,7 +11,8 @@ use Rattle.input_lines.specs.States.{runOf, Ready}
 use Rattle.adjustment.specs.declared.Taken.{Taken}
 
 -- ════ a chunk taken, with the run r₀ and what was held of a line, k₀, before it: the lines that end in it are obeyed, what they print is the
--- front of `after`, up to p, and the rest of it is as before
+-- front of `after`, up to p, and the rest of it is as before. Free is only what no later call looks at: the line buffer beyond the bytes that are held, and the lists of stations, corrections
+-- and matrix entries beyond what the state counts
 pub record Takes (r₀ : Run) (k₀ : Kept) (chunk before : List ℕ) (r : Run) (k : Kept) (p : ℕ) (after : List ℕ) : Type 0 where
   pub run : r ≡ runAfter r₀ (came 50000 k₀ chunk .ended)
   pub going : k ≡ came 50000 k₀ chunk .going
@@ -25,10 +26,11 @@ pub record Ahead (r₀ : Run) (k₀ : Kept) (chunk before : List ℕ) (r : Run) 
   pub printed : take p after ++ saysAll r (came 50000 k (drop at chunk) .ended) ≡ saysAll r₀ (came 50000 k₀ chunk .ended)
   pub beyond : drop p after ≡ drop p before
 
--- a run before its first byte
+-- a run before its first byte, whatever the lent lists and the line buffer hold. Its book is free: there is none before the opening
 pub record Begun (t : Taken) : Type 0 where
   pub run : (list x m : List ℤ) → runOf (t .state) (t .book) list x m ≡ start
   pub blank : (line : List ℕ) → holds line (t .len) (t .over) ≡ lines.blank
   pub ready : (list x m : List ℤ) → 132 ≤ length list → 48 ≤ length x → 2304 ≤ length m → Ready (t .state) (t .book) list x m
   pub lines : t .state .lines ≡ 0
   pub short : t .len ≡ 0
+  pub silent : t .printed ≡ 0

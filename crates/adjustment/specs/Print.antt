@@ -1,5 +1,5 @@
 -- Document 01's "The night print", over the lines of a text: all of them, each whole, with all the stations that they give. The code keeps less of both
--- (input_lines, Runs); that it prints the same is `printed-kept` in specs/PrintLaws.antt. Assumes nothing.
+-- (input_lines, Runs); that it prints the same is proved in specs/PrintLaws.antt (`text-says`, `end-kept`). Assumes nothing.
 --   linesOf                    text, Lines           "lines end in LF (the last may lack it)"
 --   commandOf, isStationLine   commands, Commands    what a line asks, and whether its first field is S
 --   flat                       network, StationWords the words of a station list

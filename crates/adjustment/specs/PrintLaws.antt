@@ -1,18 +1,17 @@
 -- What the code keeps of lines and stations prints what they print whole. Assumes nothing.
-use Prim.Native.Nat.{ℕ, suc, _*_, _≤_}
+use Prim.Native.Nat.{ℕ, _≤_}
 use mathlib.Core.Path.{_≡_, refl, sym, ap, _∙_}
 use mathlib.Core.Bool.{Bool, true, false, cond}
-use mathlib.Core.List.{List, [], _∷_, _++_, append-nil, map}
+use mathlib.Core.List.{List, [], _∷_, map}
 use native.Mathlib.Omega.{arith}
 use native.Mathlib.Decide.{decLe}
 use borrow.Author.Tests.{lt-ltb}
-use lib.Dec.{ltb, eqb}
+use lib.Dec.{eqb}
 use lib.ListN.{length, take, length-append}
 use lib.Seq.{take-all}
 use lib.IntN.{ℤ}
-use Rattle.network.specs.StationWords.{stationWords, flat}
+use Rattle.network.specs.StationWords.{flat, flat-length, flat-one}
 use Rattle.network.specs.declared.Station as station
-use Rattle.book.specs.Book.{opening}
 use Rattle.text.specs.Fields.{restFields}
 use Rattle.text.specs.Lines.{Kept, kept, linesOf}
 use Rattle.commands.specs.Brings.{brings}
@@ -52,16 +51,6 @@ says-cut l (opened b) = refl
 says-cut l ended = refl
 
 -- ════ stations
-flat-length : (ss : List station.Station) → length (flat ss) ≡ length ss * 4
-unfolding flat stationWords
-flat-length [] = refl
-flat-length (s ∷ ss) = omega (arith, flat-length ss)
-
-flat-one : (ss : List station.Station) (s : station.Station) → flat (ss ++ (s ∷ [])) ≡ flat ss ++ stationWords s
-unfolding flat stationWords
-flat-one [] s = refl
-flat-one (q ∷ ss) s = rw (flat-one ss s)
-
 words-kept : (ss : List station.Station) (c : Command) → wordsAfter (take 132 (flat ss)) c ≡ take 132 (flat (stationsAfter ss c))
 unfolding wordsAfter stationsAfter
 words-kept ss (Station s) = noted-one (flat ss) (length ss) s (flat-length ss) ∙ ap (take 132) (sym (flat-one ss s))
@@ -118,11 +107,13 @@ module _ (r : WholeRun) (line : List ℕ) where
 
   obeyed-kept : obeyed (keptRun r) (kept 50000 line) (asked (keptRun r) (kept 50000 line)) ≡ keptRun (follows r line (asks r line))
   obeyed-kept =
-      rw (kept-command (length (r .stations)) (isUnopened (r .phase)) line,
+      rw (
+        kept-command (length (r .stations)) (isUnopened (r .phase)) line,
         words-kept (r .stations) (asks r line),
         read-kept (r .stations) (asks r line),
         given-kept (length (r .stations)) (isUnopened (r .phase)) line 1 refl (λ fields. givenBy (correctionsIn fields)) (r .corrections),
-        given-kept (length (r .stations)) (isUnopened (r .phase)) line 2 refl (λ fields. givenBy (matrixIn fields)) (r .matrix))
+        given-kept (length (r .stations)) (isUnopened (r .phase)) line 2 refl (λ fields. givenBy (matrixIn fields)) (r .matrix),
+      )
 
 next-kept : (r : WholeRun) (line : List ℕ) → next (keptRun r) (kept 50000 line) ≡ keptRun (lineNext r line)
 unfolding next lineNext

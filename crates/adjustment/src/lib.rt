@@ -6,12 +6,9 @@ mod stepping;
 
 use book::Book;
 pub use chunks::begin;
-pub use chunks::take_chunk;
-pub use closing::close;
 pub use closing::print_text;
-pub use ending::finish;
-pub use stepping::step;
 use input_lines::State;
+pub use stepping::step;
 
 // A run between two chunks of its input: its state and book, how many bytes are held of the line that goes on and whether it had more, and how
 // many bytes were printed.

@@ -1,8 +1,8 @@
 -- That the words of 33 stations are kept, and no more, changes no opening: more than 32 are refused, whatever they are. Assumes nothing.
-use Prim.Native.Nat.{ℕ, suc, _+_, _*_, _/_, _≤_}
-use mathlib.Core.Path.{_≡_, refl, sym, ap, _∙_}
+use Prim.Native.Nat.{ℕ, _*_, _/_, _≤_}
+use mathlib.Core.Path.{_≡_, refl, sym}
 use mathlib.Core.Bool.{false, cond, and-false}
-use mathlib.Core.List.{List, [], _∷_, _++_, append-nil, append-assoc}
+use mathlib.Core.List.{List, _++_}
 use native.Mathlib.Omega.{arith}
 use native.Mathlib.Decide.{decLe}
 use borrow.Author.Tests.{le-leb, lt-leb}
@@ -13,15 +13,11 @@ use lib.IntN.{ℤ}
 use Rattle.network.specs.declared.Station.{Station}
 use Rattle.network.specs.Stations.{opens}
 use Rattle.book.specs.Book.{opening}
-use Rattle.network.specs.StationWords.{stationWords, flat}
+use Rattle.network.specs.StationWords.{stationWords}
 use Rattle.input_lines.specs.Runs.{noted}
 use Rattle.input_lines.specs.StateLaws.{four}
 
--- those of the words of stations that are kept
-unfoldable pub notedAll : List ℤ → List Station → List ℤ
-notedAll l [] = l
-notedAll l (s ∷ ss) = notedAll (noted l s) ss
-
+-- a station noted, of the words l of all the stations before it: the words of 33 stations are kept
 pub noted-one : (l : List ℤ) (n : ℕ) (s : Station) → length l ≡ n * 4 → noted (take 132 l) s ≡ take 132 (l ++ stationWords s)
 unfolding noted
 noted-one l n s e = by (decLe n 32)
@@ -32,14 +28,6 @@ noted-one l n s e = by (decLe n 32)
         rw (take-all 132 l (omega arith), le-leb (length l) 128 (omega arith)) (sym (take-all 132 (l ++ stationWords s) (rw length-append (omega arith))))
     by (no h) =
         rw (length-take-le 132 l (omega arith)) (sym (take-append-le 132 l (stationWords s) (omega arith)))
-
-pub noted-all : (l : List ℤ) (n : ℕ) (ss : List Station) → length l ≡ n * 4 → notedAll (take 132 l) ss ≡ take 132 (l ++ flat ss)
-unfolding notedAll flat
-noted-all l n [] e = ap (take 132) (sym (append-nil l))
-noted-all l n (s ∷ ss) e =
-    let f = four s in
-    rw (noted-one l n s e)
-    (noted-all (l ++ stationWords s) (suc n) ss (rw length-append (omega arith)) ∙ ap (take 132) (append-assoc l (stationWords s) (flat ss)))
 
 -- more than 32 stations do not open
 too-many : (l : List ℤ) → 132 ≤ length l → opens l ≡ false

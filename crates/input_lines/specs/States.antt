@@ -105,7 +105,7 @@ pub record WordsNoted (list : List ℤ) (words : ℕ) (c : Command) (r : ℕ) (a
 abbrev pub givenCount : ℕ → code-given.Given → Command → code-given.Given
 givenCount kind g c = cond (eqb (brings c) kind) (Numbers (howMany c)) g
 
--- what a line asks, and what it leaves of the state and the lent lists
+-- what a line asks, and what it leaves of the state and the lent lists. Beyond what the state counts the lists are free: no later call looks there
 pub record Reads (s : State) (k : Kept) (list x m : List ℤ) (a : Asked) (list′ x′ m′ : List ℤ) : Type 0 where
   pub command : a .command ≡ keptCommand (s .read) (unopenedPhase (s .phase)) k
   pub words : take (a .state .words) list′ ≡ wordsAfter (take (s .words) list) (a .command)

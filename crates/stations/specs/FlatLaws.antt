@@ -1,4 +1,4 @@
--- The flat numbers of a list of stations: their length, one station more, and why none of a list that is too long need be read. Assumes nothing.
+-- The flat numbers of a list of stations: one station more, and why none of a list that is too long need be read. Assumes nothing.
 use Prim.Native.Nat.{ℕ, suc, _+_, _*_, _/_, _%_, _<_, _≤_}
 use mathlib.Core.Path.{_≡_, refl, _∙_, subst}
 use mathlib.Core.Bool.{true, false}
@@ -14,23 +14,12 @@ use Rattle.network.specs.Stations.{blank, wholeStations, countFits, opens}
 use Rattle.network.specs.declared.Station.{Station}
 use Rattle.book.specs.Book.{opening, sound}
 use Rattle.book.specs.declared.Edited.{Edited}
-use Rattle.network.specs.StationWords.{stationWords, flat}
+use Rattle.network.specs.StationWords.{stationWords, flat, flat-length, flat-one}
 use Rattle.stations.specs.Flat.{readCount}
-
-pub flat-length : (ys : List Station) → length (flat ys) ≡ length ys * 4
-unfolding flat stationWords
-flat-length [] = refl
-flat-length (s ∷ ss) = omega (arith, flat-length ss)
-
-flat-append : (xs ys : List Station) → flat (xs ++ ys) ≡ flat xs ++ flat ys
-unfolding flat stationWords
-flat-append [] ys = refl
-flat-append (s ∷ ss) ys = rw (flat-append ss ys)
 
 -- one station more
 pub flat-more : (ys : List Station) (i : ℕ) → i < length ys → flat (take (i + 1) ys) ≡ flat (take i ys) ++ stationWords (getD ys i blank)
-unfolding flat stationWords
-flat-more ys i h = rw (add-one, take-suc ys i blank, flat-append) (simp append-nil)
+flat-more ys i h = rw (add-one, take-suc ys i blank, flat-one)
 
 -- the same as the reader's loop has it: w holds the first i stations, and the next one's numbers are put after them
 pub flat-step : (ys : List Station) (i : ℕ) (w next : List ℤ) (s : Station) → i < length ys → s ≡ getD ys i blank → take (i * 4) w ≡ flat (take i ys)

@@ -14,8 +14,7 @@ use Rattle.network.specs.declared.Kind.{Kind}
 use Rattle.network.specs.declared.Kind.the-variants.{Known, Free, Height}
 use Rattle.network.specs.declared.Station.{Station}
 use Rattle.book.specs.Book.{opening}
-use Rattle.network.specs.StationWords.{kindWord, stationWords, flat, kind-back}
-use Rattle.stations.specs.FlatLaws.{flat-length}
+use Rattle.network.specs.StationWords.{kindWord, stationWords, flat, kind-back, flat-length}
 
 -- the numbers of the stations after the first
 after : (x : Station) (xs : List Station) (i j : ℕ) → j ≡ 4 + i → getD (flat (x ∷ xs)) j (pos 0) ≡ getD (flat xs) i (pos 0)

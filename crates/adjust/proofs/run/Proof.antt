@@ -151,8 +151,7 @@ loop-again c = let s = c .before .before .before .before .before .before .before
     let k : length (t .last .1 .1 .1 .1 .1 .0) ≡ 1024 = t .kept .1 .1 .1 .1 .1 .0 ∙ i .4 ∙ s .pre .4 in
     let few = t .ensures .1 .1 in
     let came = length-take-le (t .result .got) (t .last .1 .1 .1 .1 .1 .0) (omega arith) in
-    let lines = t .ensures .1 .0 .lines e in
-    (
+    let lines = t .ensures .1 .0 .lines e in (
       t .kept .1 .0 ∙ i .0,
       t .kept .1 .1 .0 ∙ i .1,
       t .kept .1 .1 .1 .0 ∙ i .2,

@@ -28,6 +28,7 @@ returns c =
       ready = λ list x m p q r. record { room-list = p; room-x = q; room-m = r; words = omega arith; corrections = omega arith; matrix = omega arith; read = omega arith; sound = λ h. let z : false ≡ true = h in cc };
       lines = refl;
       short = refl;
+      silent = refl;
     }
 
 pub begin-spec : {M : Type 1} → statement M

@@ -43,13 +43,15 @@ part-close-end c = search needs
 
 close-requires : tie.Need-close-requires
 close-requires c κs = let s = c .before .before .before .before .before .before .before .before .before .before .before .before .before .before .before .before .before .before .before .before .before .before in
-    let t = c .before .before .before .before .before .before .before .before .before .before .before .before in
-    (t .take-chunk .ensures .1 .0, (
-      t .take-chunk .kept .1 .0 ∙ s .pre .0,
-      t .take-chunk .ensures .1 .1,
-      omega (arith, t .take-chunk .ensures .1 .2, c .before .before .before .before .before .before .before .before .before .before .before .before .before .before .before .before .before .before .begin .ensures .lines, s .pre .4),
-      omega (arith, lent-length (t .take-chunk .result .printed) (t .take-chunk .last .1 .1 .1 .1 .1 .1 .0) (inside t), few t, kept t, room t),
-    ))
+    let t = c .before .before .before .before .before .before .before .before .before .before .before .before in (
+      t .take-chunk .ensures .1 .0,
+      (
+        t .take-chunk .kept .1 .0 ∙ s .pre .0,
+        t .take-chunk .ensures .1 .1,
+        omega (arith, t .take-chunk .ensures .1 .2, c .before .before .before .before .before .before .before .before .before .before .before .before .before .before .before .before .before .before .begin .ensures .lines, s .pre .4),
+        omega (arith, lent-length (t .take-chunk .result .printed) (t .take-chunk .last .1 .1 .1 .1 .1 .1 .0) (inside t), few t, kept t, room t),
+      ),
+    )
 
 add-result : tie.Need-add-result
 add-result c = omega (arith, few (c .before .before .before .before .before .before .before .before .before .before .before .before .before .before .before .before .before .before .before .before), room (c .before .before .before .before .before .before .before .before .before .before .before .before .before .before .before .before .before .before .before .before), bound (c .before .before .before .before .before .before .before .before .before .before .before .before .before .before .before .before .before .before .before .before .before .before .before .before .before .before .before .before .before .before), c .before .before .before .before .before .before .before .close .ensures .small)

@@ -40,12 +40,12 @@ slice-aggregate-print-all-4 c = search needs
 
 print-all-requires : tie.Need-print-all-requires
 print-all-requires c κs = (
-      sym (c .before .before .before .before .before .before .before .before .line-room .ensures),
-      omega (arith, c .before .before .before .before .before .before .before .list-room .ensures),
-      omega (arith, c .before .before .before .before .before .before .corrections-room .ensures),
-      omega (arith, c .before .before .before .before .before .matrix-room .ensures),
-      leb-true _ _ (sym (c .before .before .before .before .before .before .before .before .before .before .has-room .ensures) ∙ not-false _ (c .before .before .before .before .before .before .before .before .before .if1 .left)),
-    )
+  sym (c .before .before .before .before .before .before .before .before .line-room .ensures),
+  omega (arith, c .before .before .before .before .before .before .before .list-room .ensures),
+  omega (arith, c .before .before .before .before .before .before .corrections-room .ensures),
+  omega (arith, c .before .before .before .before .before .matrix-room .ensures),
+  leb-true _ _ (sym (c .before .before .before .before .before .before .before .before .before .before .has-room .ensures) ∙ not-false _ (c .before .before .before .before .before .before .before .before .before .if1 .left)),
+)
 
 same-length : tie.Need-same-length
 same-length c = search needs

@@ -60,13 +60,12 @@ same-length-10 c = search needs
 
 returns-3 : tie.Need-returns-3
 returns-3 c = let s = c .before .before .before .before .before .before .before .before .before .before .before .before .before .before .before .before .before .before .before .before .before .before in
-    let t = c .before .before .before .before .before .before .before .before .before .take-chunk in
-    (
+    let t = c .before .before .before .before .before .before .before .before .before .take-chunk in (
       step-takes
-      (c .before .before .before .before .before .before .before .before .before .before .before .before .before .before .before .before .if1 .left)
-      (λ e. c .before .before .before .before .before .before .before .before .before .before .before .before .before .before .before .if2 .left e)
-      (c .progress-of .ensures ∙ ap (λ (b : Bool). cond b Refused Reading) (c .before .is-ended .ensures ∙ sym (ended-phase (t .result .state .phase) (t .result .book))))
-      (t .ensures .0),
+          (c .before .before .before .before .before .before .before .before .before .before .before .before .before .before .before .before .if1 .left)
+          (λ e. c .before .before .before .before .before .before .before .before .before .before .before .before .before .before .before .if2 .left e)
+          (c .progress-of .ensures ∙ ap (λ (b : Bool). cond b Refused Reading) (c .before .is-ended .ensures ∙ sym (ended-phase (t .result .state .phase) (t .result .book))))
+          (t .ensures .0),
       record {
         ready = λ e. t .ensures .1 .0;
         short = λ e. t .ensures .1 .1;
