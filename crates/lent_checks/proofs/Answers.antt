@@ -1,16 +1,17 @@
 -- Lent slices of a size that fits, and what is delivered. Assumes nothing.
 use Prim.Native.Nat.{ℕ, _*_, _/_, _%_, _≤_}
-use mathlib.Core.Path.{_≡_, sym, ap, _∙_}
+use mathlib.Core.Path.{_≡_, refl, ap, _∙_}
 use mathlib.Core.Bool.{Bool, true, _&&_}
 use mathlib.Core.List.{List}
 use native.Mathlib.Omega.{arith}
-use borrow.Author.Tests.{leb-true, eqb-true}
+use borrow.Author.Tests.{leb-true}
 use lib.Dec.{leb, eqb}
 use lib.ListN.{length}
 use Rattle.words.specs.Bools.{and-left, and-right}
+use Rattle.acceptance.specs.Judge.{numberOf}
+use Rattle.acceptance.specs.JudgeLaws.{refusal-least}
 use Rattle.acceptance.specs.declared.Answer.{Answer}
 use Rattle.acceptance.specs.declared.Answer.the-variants.{Accepted, Refused}
-use Rattle.acceptance.specs.declared.Refusal.{Refusal}
 use Rattle.book.specs.declared.Book.{Book}
 use Rattle.sheet.specs.Sheet.{room}
 use Rattle.lent_checks.specs.LentChecks.{isWhole, onAccepted, sheetFits}
@@ -21,15 +22,17 @@ lengths-fit x m e =
     let three = and-left (isWhole x && isWhole m && leb (length x) 384) (leb (length m) 18432) e in
     (leb-true _ _ (and-right (isWhole x && isWhole m) (leb (length x) 384) three), leb-true _ _ (and-right (isWhole x && isWhole m && leb (length x) 384) (leb (length m) 18432) e))
 
--- ════ what is delivered
-module _ (a : Answer) (new old : List ℕ) where
-  pub deliver-accepted : (o : List ℕ) → a ≡ Accepted → o ≡ new → (Accepted ≡ a) × (o ≡ onAccepted a new old)
+-- ════ what is delivered: an answer whose number is 0 is acceptance
+module _ (new old : List ℕ) where
+  pub delivered : (a : Answer) → numberOf a ≡ 0 → new ≡ onAccepted a new old
   unfolding onAccepted
-  deliver-accepted o e p = (sym e, p ∙ ap (λ (x : Answer). onAccepted x new old) (sym e))
+  delivered Accepted e = refl
+  delivered (Refused refusal) e = absurd (omega (arith, refusal-least refusal))
 
-  pub deliver-refused : (refusal : Refusal) → a ≡ Refused refusal → (Refused refusal ≡ a) × (old ≡ onAccepted a new old)
+  pub withheld : (a : Answer) → (numberOf a ≡ 0 → ⊥) → old ≡ onAccepted a new old
   unfolding onAccepted
-  deliver-refused refusal e = (sym e, ap (λ (x : Answer). onAccepted x new old) (sym e))
+  withheld Accepted h = absurd (h refl)
+  withheld (Refused refusal) h = refl
 
 -- the sheet's test, of the number n of words that it takes
 pub sheet-test : (b : Book) (o : List ℕ) (n : ℕ) (t : Bool) → n ≡ room (b .network) (b .places) → t ≡ (eqb (length o % 8) 0 && leb n (length o / 8)) → t ≡ sheetFits b o
@@ -37,8 +40,3 @@ sheet-test b o n t p q = q ∙ ap (λ (k : ℕ). eqb (length o % 8) 0 && leb k (
 
 pub sheet-long : (o : List ℕ) (n : ℕ) → eqb (length o % 8) 0 && leb n (length o / 8) ≡ true → 8 * n ≤ length o
 sheet-long o n e = let h : n ≤ length o / 8 = leb-true _ _ (and-right (eqb (length o % 8) 0) (leb n (length o / 8)) e) in omega arith
-
-pub wholes : (x m : List ℕ) → isWhole x && isWhole m && leb (length x) 384 && leb (length m) 18432 ≡ true → (length x % 8 ≡ 0) × (length m % 8 ≡ 0)
-wholes x m e =
-    let two = and-left (isWhole x && isWhole m) (leb (length x) 384) (and-left (isWhole x && isWhole m && leb (length x) 384) (leb (length m) 18432) e) in
-    (eqb-true _ _ (and-left (isWhole x) (isWhole m) two), eqb-true _ _ (and-right (isWhole x) (isWhole m) two))

@@ -36,7 +36,7 @@ pub fn inverse() -> [i64; 2304]
 }
 
 // Whole words, and no more than a book can ask for.
-pub fn sizes_fit(x: &[u8], m: &[u8]) -> bool
+fn sizes_fit(x: &[u8], m: &[u8]) -> bool
     ensures { λ r. ⌜ r ≡ (isWhole (now (x .entry)) && isWhole (now (m .entry)) && leb (length (now (x .entry))) 384 && leb (length (now (m .entry))) 18432) ⌝ }
 {
     (x.len() % 8 == 0) & (m.len() % 8 == 0) & (x.len() <= 384) & (m.len() <= 18432)
@@ -78,13 +78,10 @@ fn deliver(a: Answer, out: &mut [u8], w: &[i64]) -> Answer
     requires { ⌜ 8 * length (now w) ≤ length (now out) ⌝ }
     ensures { λ r. ⌜ (r ≡ a) × (now (out .exit) ≡ onAccepted a (putWords (now (out .entry)) 0 (now (w .entry))) (now (out .entry))) ⌝ }
 {
-    match a {
-        Answer::Accepted => {
-            words::write_words(out, 0, w);
-            Answer::Accepted
-        }
-        Answer::Refused(refusal) => Answer::Refused(refusal),
+    if acceptance::number(a) == 0 {
+        words::write_words(out, 0, w);
     }
+    a
 }
 
 // The check of the first words of x and m, as many as xs and ms hold, with a sheet of as many words as ws holds.

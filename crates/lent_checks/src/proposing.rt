@@ -4,10 +4,10 @@ use book::Book;
 use engine::Proposal;
 ghost use mathlib.Core.Path.{_≡_};
 ghost use mathlib.Core.Bool.{true};
-ghost use Prim.Native.Nat.{_*_};
+ghost use Prim.Native.Nat.{_*_, _≤_};
 ghost use lib.ListN.{length};
 ghost use Rattle.book.specs.Book.{sound};
-ghost use Rattle.lent_checks.specs.Offers.{Offers};
+ghost use Rattle.lent_checks.specs.Offers.{Offers, OffersLent, lentLengths};
 
 // What the engine works in.
 fn work_room() -> [f64; 4608]
@@ -39,13 +39,25 @@ fn propose_words(
     }
 }
 
-// No proposal where a size does not fit.
+// x and m hold n and n·n whole words.
+fn lengths_fit(n: usize, x: &[u8], m: &[u8]) -> bool
+    requires { ⌜ n ≤ 48 ⌝ }
+    ensures { λ r. ⌜ r ≡ lentLengths n (now (x .entry)) (now (m .entry)) ⌝ }
+{
+    let entries = n * n;
+    (x.len() / 8 == n) & (m.len() / 8 == entries) & (x.len() % 8 == 0) & (m.len() % 8 == 0)
+}
+
+// A proposal, or 10 where the lengths do not fit.
 pub fn propose_lent(b: Book, x: &mut [u8], m: &mut [u8]) -> i64
     requires { ⌜ sound b ≡ true ⌝ }
-    ensures { λ r. ⌜ Offers b r (now (x .entry)) (now (m .entry)) (now (x .exit)) (now (m .exit)) ⌝ }
+    ensures { λ r. ⌜ OffersLent b r (now (x .entry)) (now (m .entry)) (now (x .exit)) (now (m .exit)) ⌝ }
 {
-    if !checking::sizes_fit(x, m) {
-        return -1;
+    let net = b.network;
+    let stations = net.stations;
+    let n = network::number_of(stations, 96);
+    if !lengths_fit(n, x, m) {
+        return 10;
     }
     let i = x.len() / 8;
     let j = m.len() / 8;

@@ -1,21 +1,42 @@
 use Prim.Native.Nat.{_-_, _/_, _≤_}
-use mathlib.Core.Path.{_≡_, refl, sym, _∙_}
-use mathlib.Core.Logic.{inr}
-use mathlib.Core.Bool.{true, _&&_}
+use mathlib.Core.Path.{_≡_, sym, _∙_}
+use mathlib.Core.Bool.{true}
 use native.Mathlib.Omega.{arith}
-use borrow.Author.Tests.{not-false}
+use borrow.Author.Tests.{not-true, not-false}
 use denote.Ref.{now}
-use lib.Dec.{leb}
+use mir.Syntax.{w64}
+use mir.Facts.{toZ-ofZ}
 use lib.ListN.{length}
 use lib.Seq.{length-take-le}
-use Rattle.lent_checks.specs.LentChecks.{isWhole}
-use Rattle.lent_checks.proofs.Answers.{lengths-fit, wholes}
-use borrow.Author.Needs.{needs}
+use Rattle.network.specs.Filling.{length-mapped}
+use Rattle.network.specs.RuleLaws.{sound-stations}
+use Rattle.book.specs.Sound.{Sound, sound-parts}
+use Rattle.lent_checks.specs.Offers.{lentLengths}
+use Rattle.lent_checks.proofs.Offered.{lengths-are, lengths-most, offers-none, offers-some}
+use borrow.Author.Needs.{needs, sfits-of}
 use Rattle.lent_checks.proofs.proposing.propose_lent.Statement.{statement}
 use Rattle.lent_checks.proofs.proposing.propose_lent.Tie as tie
 
-sizes-fit-requires : tie.Need-sizes-fit-requires
-sizes-fit-requires c κs = search needs
+sound-book : (s : tie.Start) → Sound (s .args .b)
+sound-book s =
+    sound-parts (s .args .b) (record { places = search (needs, length-mapped); entries = search (needs, length-mapped); matrix = search needs; right = search needs }) (s .pre)
+
+few : (a : tie.After-number-of) → a .number-of .result ≤ 48
+few a =
+    let s = a .before .before .before .before .before in
+    omega (arith, a .number-of .ensures, sound-stations (s .args .b .network) (sound-book s .network) .few)
+
+fit : (e : tie.Else1) → lentLengths (e .before .before .before .before .number-of .result) (now (e .before .before .before .before .before .before .before .before .before .args .x)) (now (e .before .before .before .before .before .before .before .before .before .args .m)) ≡ true
+fit e = sym (e .before .lengths-fit .ensures) ∙ not-false _ (e .if1 .left)
+
+most : (e : tie.Else1) → (length (now (e .before .before .before .before .before .before .before .before .before .args .x)) ≤ 384) × (length (now (e .before .before .before .before .before .before .before .before .before .args .m)) ≤ 18432)
+most e = lengths-most _ _ _ (few (e .before .before .before .before)) (fit e)
+
+number-of-requires : tie.Need-number-of-requires
+number-of-requires c κs = search needs
+
+lengths-fit-requires : tie.Need-lengths-fit-requires
+lengths-fit-requires c κs = few (c .before .before)
 
 same-length : tie.Need-same-length
 same-length c = search needs
@@ -24,7 +45,7 @@ same-length-2 : tie.Need-same-length-2
 same-length-2 c = search needs
 
 returns : tie.Need-returns
-returns c = inr (refl, refl, refl)
+returns c = offers-none _ _ _ _ (c .before .before .before .before .number-of .ensures) (sym (c .before .lengths-fit .ensures) ∙ not-true _ (c .if1 .taken))
 
 corrections-requires : tie.Need-corrections-requires
 corrections-requires c κs = search needs
@@ -42,7 +63,7 @@ part-xs-start : tie.Need-part-xs-start
 part-xs-start c = search needs
 
 part-xs-end : tie.Need-part-xs-end
-part-xs-end c = omega (arith, lengths-fit (now (c .before .before .before .before .before .before .before .before .before .before .before .args .x)) (now (c .before .before .before .before .before .before .before .before .before .before .before .args .m)) (sym (c .before .before .before .before .before .before .sizes-fit .ensures) ∙ not-false _ (c .before .before .before .before .before .if1 .left)), c .before .before .before .before .corrections .ensures)
+part-xs-end c = omega (arith, most (c .before .before .before .before .before), c .before .before .before .before .corrections .ensures)
 
 sub-propose-words-2 : tie.Need-sub-propose-words-2
 sub-propose-words-2 c = search needs
@@ -51,23 +72,22 @@ part-ms-start : tie.Need-part-ms-start
 part-ms-start c = search needs
 
 part-ms-end : tie.Need-part-ms-end
-part-ms-end c = omega (arith, lengths-fit (now (c .before .before .before .before .before .before .before .before .before .before .before .before .args .x)) (now (c .before .before .before .before .before .before .before .before .before .before .before .before .args .m)) (sym (c .before .before .before .before .before .before .before .sizes-fit .ensures) ∙ not-false _ (c .before .before .before .before .before .before .if1 .left)), c .before .before .before .before .inverse .ensures)
+part-ms-end c = omega (arith, most (c .before .before .before .before .before .before), c .before .before .before .before .inverse .ensures)
 
 slice-aggregate-propose-words : tie.Need-slice-aggregate-propose-words
 slice-aggregate-propose-words c = search needs
 
 propose-words-requires : tie.Need-propose-words-requires
 propose-words-requires c κs =
-    let s = c .before .before .before .before .before .before .before .before .before .before .before .before .before .before in
+    let e = c .before .before .before .before .before .before .before .before in
+    let s = e .before .before .before .before .before .before .before .before .before in
     let x = now (s .args .x) in
     let m = now (s .args .m) in
-    let fit : isWhole x && isWhole m && leb (length x) 384 && leb (length m) 18432 ≡ true = (sym (c .before .before .before .before .before .before .before .before .before .sizes-fit .ensures) ∙ not-false _ (c .before .before .before .before .before .before .before .before .if1 .left)) in
-    let few = lengths-fit x m fit in
-    let even = wholes x m fit in
     let p = c .before .before .before .before .before .before .before .corrections in
     let q = c .before .before .before .before .before .before .inverse in
-    let roomx : length x / 8 - 0 ≤ length (p .result) = omega (arith, p .ensures) in
-    let roomm : length m / 8 - 0 ≤ length (q .result) = omega (arith, q .ensures) in
+    let long = lengths-are _ x m (fit e) in
+    let roomx : length x / 8 - 0 ≤ length (p .result) = omega (arith, p .ensures, most e) in
+    let roomm : length m / 8 - 0 ≤ length (q .result) = omega (arith, q .ensures, most e) in
     (s .pre, omega (arith, length-take-le (length x / 8 - 0) (p .result) roomx), omega (arith, length-take-le (length m / 8 - 0) (q .result) roomm))
 
 same-length-3 : tie.Need-same-length-3
@@ -77,13 +97,17 @@ same-length-4 : tie.Need-same-length-4
 same-length-4 c = search needs
 
 returns-2 : tie.Need-returns-2
-returns-2 c = search needs
+returns-2 c =
+    let e = c .before .before .before .before .before .before .before .before .before .before .before .before .before .before .before .before in
+    let p = c .before .before .before .before .before .before .before .propose-words in
+    offers-some _ _ _ (e .before .before .before .before .before .before .before .before .before .args .b) (e .before .before .before .before .number-of .ensures) (p .result) _ _ _ (toZ-ofZ {w = w64} {z = p .result} (sfits-of (p .ok))) (fit e) (p .ensures)
 
 pub propose-lent-spec : {M : Type 1} → statement M
 propose-lent-spec =
     tie.close
     (tie.spec
-    sizes-fit-requires
+    number-of-requires
+    lengths-fit-requires
     same-length
     same-length-2
     returns
