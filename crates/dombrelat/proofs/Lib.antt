@@ -4,3 +4,4 @@ mod Changed
 mod Lent
 mod Offered
 mod Openings
+mod Readings

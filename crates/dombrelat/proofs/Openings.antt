@@ -1,6 +1,6 @@
 -- The cases of an opening on lent bytes. Assumes nothing.
 use Prim.Native.Nat.{ℕ, _/_, _%_, _<_, _≤_}
-use mathlib.Core.Path.{_≡_, refl, sym, ap, _∙_, subst}
+use mathlib.Core.Path.{_≡_, refl, sym, ap, _∙_}
 use mathlib.Core.Bool.{Bool, true, false, cond}
 use mathlib.Core.List.{List, []}
 use native.Mathlib.Omega.{arith}
@@ -13,22 +13,10 @@ use Rattle.words.specs.Runs.{wordsAt}
 use Rattle.words.specs.RunLaws.{length-words}
 use Rattle.network.specs.Stations.{countFits, kindsFit, coordinatesFit, unknownsFit, wholeStations, networkOf}
 use Rattle.network.specs.Stations.{opens as allOpens}
-use Rattle.book.specs.declared.Book.{Book}
 use Rattle.book.specs.declared.Edited.{Edited}
 use Rattle.book.specs.Calls.{unless}
 use Rattle.book.specs.Book.{openedBook, opening}
 use Rattle.dombrelat.specs.Calls.{Returned, refused, settled, opens}
-
--- an opening's number is 0 or 1
-abbrev pick : Bool → Book → Book → Edited
-pick t a b = cond t (record { refusal = 0; book = a }) (record { refusal = 1; book = b })
-
-pub opening-small : (w : List ℤ) (e : Edited) → e ≡ opening w → e .refusal ≤ 9
-opening-small w e p = subst (λ (x : Edited). x .refusal ≤ 9) (sym p) (go (allOpens w) (openedBook (networkOf w)) (openedBook (networkOf [])))
-  where
-    go : (t : Bool) (a b : Book) → pick t a b .refusal ≤ 9
-    go true a b = let h : 0 ≤ 9 = omega arith in h
-    go false a b = let h : 1 ≤ 9 = omega arith in h
 
 too-many : (w : List ℤ) → 32 < length w / 4 → allOpens w ≡ false
 unfolding allOpens
@@ -61,4 +49,4 @@ module _ (list s : List ℕ) where
           let words = wordsAt list 0 (length list / 8) in
           let n = length-words list 0 (length list / 8) in
           let no : allOpens words ≡ false = too-many words (omega (arith, n)) in
-          sym (ap (λ (t : Bool). settled s (pick t (openedBook (networkOf words)) (openedBook (networkOf [])))) no) ∙ opens-done (opening words) refl
+          sym (ap (λ (t : Bool). settled s (cond t (record { refusal = 0; book = openedBook (networkOf words) }) (record { refusal = 1; book = openedBook (networkOf []) }))) no) ∙ opens-done (opening words) refl

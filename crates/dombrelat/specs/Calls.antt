@@ -16,7 +16,7 @@ use Rattle.dombrelat.specs.declared.Request.{Request}
 use Rattle.dombrelat.specs.declared.Request.the-variants.{Add, Replace, Strike, Undo}
 use Rattle.layout.specs.Bytes.{bookOf, putBook, bytesFit}
 
--- the answer of a call, and the lent book bytes as it leaves them
+-- the answer of a call, and the lent bytes as it leaves them: those of the book, or of a slice that it reads into
 pub record Returned : Type 0 where
   pub answer : ℤ
   pub bytes : List ℕ

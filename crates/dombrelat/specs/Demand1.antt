@@ -3,17 +3,21 @@
 --   opens, edit            specs/Calls.antt       what the contracts of the C calls promise: the answer, and the lent bytes afterwards
 --   checkCall, sheetCall   specs/CheckCalls.antt
 --   Proposes               specs/Proposal.antt
+--   unknownsCall, sheetBytesCall, stationsCall, recordCall   specs/Reading.antt; numbered: 256 · the number that a call gives
 --   bytesFit               layout, specs/Bytes.antt   what 25 tests of lent book bytes
-use Prim.Native.Nat.{ℕ}
+use Prim.Native.Nat.{ℕ, _*_, _%_}
 use mathlib.Core.Path.{_≡_}
 use mathlib.Core.Bool.{true}
 use mathlib.Core.List.{List, [], _∷_}
-use lib.IntN.{ℤ, pos}
+use lib.IntN.{ℤ, pos, negsuc}
 use Rattle.book.specs.Calls.{Call}
-use Rattle.layout.specs.Bytes.{bytesFit}
+use Rattle.network.specs.Stations.{unknownCount}
+use Rattle.sheet.specs.Sheet.{room}
+use Rattle.layout.specs.Bytes.{bookOf, bytesFit}
 use Rattle.dombrelat.specs.Calls.{edit, opens}
 use Rattle.dombrelat.specs.CheckCalls.{checkCall, sheetCall}
 use Rattle.dombrelat.specs.Proposal.{Proposes}
+use Rattle.dombrelat.specs.Reading.{numbered, unknownsCall, sheetBytesCall, stationsCall, recordCall}
 
 -- ════ a C call with all that it is lent: a later call joins by a line here, and by one in each definition below
 pub data Asked : Type 0 where
@@ -22,6 +26,10 @@ pub data Asked : Type 0 where
   toCheck : (book x m : List ℕ) → Asked
   toCheckSheet : (book x m sheet : List ℕ) → Asked
   toPropose : (book x m : List ℕ) → Asked
+  toReadUnknowns : (book : List ℕ) → Asked
+  toReadSheetBytes : (book : List ℕ) → Asked
+  toReadStations : (book list : List ℕ) → Asked
+  toReadRecord : (book : List ℕ) → (place : ℤ) → (out : List ℕ) → Asked
 
 -- the book bytes that it is lent to write on, if it is, and every other slice that it may write on. Slices that are lent to read cannot change
 pub record Lent : Type 0 where
@@ -35,8 +43,12 @@ given (toEdit book c) = record { books = book ∷ []; others = [] }
 given (toCheck book x m) = record { books = []; others = [] }
 given (toCheckSheet book x m sheet) = record { books = []; others = sheet ∷ [] }
 given (toPropose book x m) = record { books = []; others = x ∷ m ∷ [] }
+given (toReadUnknowns book) = record { books = []; others = [] }
+given (toReadSheetBytes book) = record { books = []; others = [] }
+given (toReadStations book list) = record { books = []; others = list ∷ [] }
+given (toReadRecord book place out) = record { books = []; others = out ∷ [] }
 
--- the answer r, 0 where the call is not refused, and the slices afterwards: as the contracts have it
+-- the answer r, and the slices afterwards: as the contracts have it
 unfoldable pub Returns : Asked → ℤ → Lent → Type 0
 Returns (toOpen list book) r left = (r ≡ opens list book .answer) × (left ≡ record { books = opens list book .bytes ∷ []; others = [] })
 Returns (toEdit book c) r left = (r ≡ edit book c .answer) × (left ≡ record { books = edit book c .bytes ∷ []; others = [] })
@@ -44,13 +56,39 @@ Returns (toCheck book x m) r left = (r ≡ checkCall book x m) × (left ≡ reco
 Returns (toCheckSheet book x m sheet) r left =
     (r ≡ sheetCall book x m sheet .answer) × (left ≡ record { books = []; others = sheetCall book x m sheet .sheet ∷ [] })
 Returns (toPropose book x m) r left = (x′ : List ℕ) × (m′ : List ℕ) × Proposes book r x m x′ m′ × (left ≡ record { books = []; others = x′ ∷ m′ ∷ [] })
+Returns (toReadUnknowns book) r left = (r ≡ unknownsCall book) × (left ≡ record { books = []; others = [] })
+Returns (toReadSheetBytes book) r left = (r ≡ sheetBytesCall book) × (left ≡ record { books = []; others = [] })
+Returns (toReadStations book list) r left =
+    (r ≡ stationsCall book list .answer) × (left ≡ record { books = []; others = stationsCall book list .bytes ∷ [] })
+Returns (toReadRecord book place out) r left =
+    (r ≡ recordCall book place out .answer) × (left ≡ record { books = []; others = recordCall book place out .bytes ∷ [] })
+
+-- ════ an answer taken apart: refusal + 256 · number
+-- the refusal, as the header's DOMBRELAT_REFUSAL gives it: 0 where the call is not refused. −1, no proposal, is one by itself
+unfoldable pub refusalIn : ℤ → ℤ
+refusalIn (pos n) = pos (n % 256)
+refusalIn (negsuc n) = negsuc n
+
+-- the number that a call gives where it is not refused: 0 but for those that count
+unfoldable pub number : Asked → ℕ
+number (toOpen list book) = 0
+number (toEdit book c) = 0
+number (toCheck book x m) = 0
+number (toCheckSheet book x m sheet) = 0
+number (toPropose book x m) = 0
+number (toReadUnknowns book) = unknownCount (bookOf book .network .stations)
+number (toReadSheetBytes book) = 8 * room (bookOf book .network) (bookOf book .places)
+number (toReadStations book list) = bookOf book .network .count
+number (toReadRecord book place out) = 0
 
 -- ════ the demand
 pub record Demand (asked : Asked) : Type 0 where
   -- every call answers on every input
   pub answers : (r : ℤ) × (left : Lent) × Returns asked r left
-  -- whatever answer is not 0 leaves the book's bytes, its history among them, and every other slice as they came
-  pub refused : (r : ℤ) (left : Lent) → Returns asked r left → (r ≡ pos 0 → ⊥) → left ≡ given asked
+  -- an answer without a refusal is just the number that the call gives
+  pub told : (r : ℤ) (left : Lent) → Returns asked r left → refusalIn r ≡ pos 0 → r ≡ numbered (number asked)
+  -- whatever answer has a refusal leaves the book's bytes, its history among them, and every other slice as they came
+  pub refused : (r : ℤ) (left : Lent) → Returns asked r left → (refusalIn r ≡ pos 0 → ⊥) → left ≡ given asked
   -- an accepted opening or edit leaves bytes that the next call takes
   pub accepted : (left : Lent) (book : List ℕ) → Returns asked (pos 0) left → left .books ≡ book ∷ [] → bytesFit book ≡ true
 

@@ -1,5 +1,5 @@
 -- Demand 1 holds of the C calls: each definition that a contract equals gives the slices that came where it refuses. Assumes nothing.
-use Prim.Native.Nat.{ℕ, zero, suc, _/_, _%_}
+use Prim.Native.Nat.{ℕ, zero, suc, _+_, _*_, _/_, _%_, _<_, _≤_}
 use mathlib.Core.Path.{_≡_, refl, sym, ap, _∙_, subst}
 use mathlib.Core.Bool.{Bool, true, false, cond}
 use mathlib.Core.List.{List, [], _∷_}
@@ -7,95 +7,247 @@ use mathlib.Core.Logic.{_⊎_, inl, inr}
 use native.Mathlib.Omega.{arith}
 use lib.Dec.{leb, eqb}
 use lib.ListN.{length}
-use lib.IntN.{ℤ, pos, negsuc}
+use lib.IntN.{ℤ, pos, negsuc, natAbs}
 use Rattle.words.specs.Bools.{clash, true-or-false}
-use Rattle.words.specs.Runs.{wordsAt}
+use Rattle.words.specs.Runs.{wordsAt, putWords}
+use Rattle.network.specs.Stations.{unknownCount}
+use Rattle.network.specs.Stations as stations
+use Rattle.network.specs.Records.{recordAt}
+use Rattle.network.specs.Rules.{inList}
+use Rattle.acceptance.specs.Judge.{refusalNumber, refusalUnknown}
+use Rattle.acceptance.specs.JudgeLaws.{refusal-least, refusal-most}
 use Rattle.acceptance.specs.declared.Answer.{Answer}
 use Rattle.acceptance.specs.declared.Answer.the-variants.{Accepted, Refused}
+use Rattle.book.specs.declared.Book.{Book}
 use Rattle.book.specs.declared.Edited.{Edited}
-use Rattle.book.specs.Calls.{Call, unless}
-use Rattle.book.specs.Book.{opening, outcome}
+use Rattle.book.specs.Calls.{Call, placeOf, unless}
+use Rattle.book.specs.CallLaws.{call-small}
+use Rattle.book.specs.Book.{openedBook, opening, outcome}
+use Rattle.sheet.specs.Sheet.{room}
 use Rattle.lent_checks.specs.LentChecks.{answerWord, checkedLent, sheetFits, onAccepted}
-use Rattle.lent_checks.specs.Offers.{Offers}
+use Rattle.lent_checks.specs.Offers.{Offers, OffersLent, lentLengths}
+use Rattle.layout.specs.Layout.{recordWords}
 use Rattle.layout.specs.Bytes.{bookOf, bytesFit}
 use Rattle.dombrelat.specs.Calls.{Returned, refused, settled, through, edit, opens}
-use Rattle.dombrelat.specs.CheckCalls.{judgedLent, sheetCall}
+use Rattle.dombrelat.specs.CheckCalls.{Judged, judgedLent, checkCall, sheetCall}
 use Rattle.dombrelat.specs.Proposal.{Proposes}
-use Rattle.dombrelat.specs.Demand3Holds.{opened-fits-next, edited-fits-next}
-use Rattle.dombrelat.specs.Demand1.{Asked, toOpen, toEdit, toCheck, toCheckSheet, toPropose, Lent, given, Returns, Demand1}
+use Rattle.dombrelat.specs.Reading.{numbered, gives, listWords, unknownsCall, sheetBytesCall, stationsCall, recordCall}
+use Rattle.dombrelat.specs.Demand3Holds.{opened-fits-next, edited-next}
+use Rattle.dombrelat.specs.Demand1.{Asked, toOpen, toEdit, toCheck, toCheckSheet, toPropose, toReadUnknowns, toReadSheetBytes, toReadStations, toReadRecord, Lent, given, Returns, refusalIn, number, Demand1}
 
--- ════ book bytes that stay where the answer is not 0
-Stays : List ℕ → Returned → Type 0
-Stays s r = (r .answer ≡ pos 0 → ⊥) → r .bytes ≡ s
+-- ════ answers taken apart
+Told : ℕ → ℤ → Type 0
+Told k r = refusalIn r ≡ pos 0 → r ≡ numbered k
 
-either : (s : List ℕ) (t : Bool) (p q : Returned) → Stays s p → Stays s q → Stays s (cond t p q)
-either s true p q a b = a
-either s false p q a b = b
+remainder : (n : ℕ) → refusalIn (pos n) ≡ pos 0 → n % 256 ≡ 0
+unfolding refusalIn
+remainder n e = ap natAbs e
 
-refused-stays : (s : List ℕ) (n : ℕ) → Stays s (refused n s)
-unfolding Stays
-refused-stays s n h = refl
+-- a refusal; a number of the table, 0 among them; and a number that is given
+told-refusal : (k n : ℕ) → 0 < n → n < 256 → Told k (pos n)
+unfolding Told
+told-refusal k n h l e = absurd (let z = remainder n e in omega arith)
 
-settled-stays : (s : List ℕ) (e : Edited) → Stays s (settled s e)
-unfolding Stays unless
-settled-stays s e = go (e .refusal) _
+told-small : (n : ℕ) → n < 256 → Told 0 (pos n)
+unfolding Told
+told-small n l e = ap pos (let z = remainder n e in omega arith)
+
+told-number : (k : ℕ) → Told k (numbered k)
+unfolding Told
+told-number k e = refl
+
+told-either : (k : ℕ) (t : Bool) (p q : ℤ) → Told k p → Told k q → Told k (cond t p q)
+told-either k true p q a b = a
+told-either k false p q a b = b
+
+told-25 : (k : ℕ) → Told k (pos 25)
+told-25 k = told-refusal k 25 (omega arith) (omega arith)
+
+-- an answer that is no refusal gives 0 as its remainder
+given-none : (k : ℕ) → refusalIn (numbered k) ≡ pos 0
+unfolding refusalIn
+given-none k = ap pos (let z : 256 * k % 256 ≡ 0 = omega arith in z)
+
+-- ════ a call that may write on one slice, which came as s: its answer tells a refusal, and then the slice stays
+record Right (k : ℕ) (s : List ℕ) (r : Returned) : Type 0 where
+  told : Told k (r .answer)
+  stays : (refusalIn (r .answer) ≡ pos 0 → ⊥) → r .bytes ≡ s
+
+either : (k : ℕ) (s : List ℕ) (t : Bool) (p q : Returned) → Right k s p → Right k s q → Right k s (cond t p q)
+either k s true p q a b = a
+either k s false p q a b = b
+
+refused-right : (k : ℕ) (s : List ℕ) (n : ℕ) → 0 < n → n < 256 → Right k s (refused n s)
+refused-right k s n h l = record { told = told-refusal k n h l; stays = λ z. refl }
+
+unfit-right : (k : ℕ) (s : List ℕ) → Right k s (refused 25 s)
+unfit-right k s = refused-right k s 25 (omega arith) (omega arith)
+
+settled-right : (s : List ℕ) (e : Edited) → e .refusal < 256 → Right 0 s (settled s e)
+unfolding unless
+settled-right s e l = record { told = told-small (e .refusal) l; stays = go (e .refusal) _ }
   where
-    go : (n : ℕ) (new : List ℕ) → (pos n ≡ pos 0 → ⊥) → unless n s new ≡ s
-    go zero new h = absurd (h refl)
+    go : (n : ℕ) (new : List ℕ) → (refusalIn (pos n) ≡ pos 0 → ⊥) → unless n s new ≡ s
+    go zero new h = absurd (h (given-none 0))
     go (suc n) new h = refl
 
-opens-stays : (list s : List ℕ) → Stays s (opens list s)
-unfolding opens
-opens-stays list s =
-    let e = opening (wordsAt list 0 (length list / 8)) in
-    either s (leb 56224 (length s)) (cond (eqb (length list % 32) 0) (settled s e) (refused 1 s)) (refused 25 s)
-    (either s (eqb (length list % 32) 0) (settled s e) (refused 1 s) (settled-stays s e) (refused-stays s 1)) (refused-stays s 25)
-
-edit-stays : (s : List ℕ) (c : Call) → Stays s (edit s c)
-unfolding through
-edit-stays s c = either s (bytesFit s) (settled s (outcome (bookOf s) c)) (refused 25 s) (settled-stays s (outcome (bookOf s) c)) (refused-stays s 25)
-
--- ════ a sheet
-sheet-stays : (s x m sheet : List ℕ) → (sheetCall s x m sheet .answer ≡ pos 0 → ⊥) → sheetCall s x m sheet .sheet ≡ sheet
-unfolding sheetCall onAccepted answerWord
-sheet-stays s x m sheet = go (bytesFit s) (checkedLent (bookOf s) x m (sheetFits (bookOf s) sheet))
+-- ════ openings and edits
+-- an opening's number is 0 or 1
+pub opening-small : (w : List ℤ) → opening w .refusal ≤ 9
+opening-small w = go (stations.opens w) (openedBook (stations.networkOf w)) (openedBook (stations.networkOf []))
   where
-    go : (t : Bool) (a : Answer) → (cond t (judgedLent a (bookOf s) x m sheet) (record { answer = pos 25; sheet = sheet }) .answer ≡ pos 0 → ⊥)
-        → cond t (judgedLent a (bookOf s) x m sheet) (record { answer = pos 25; sheet = sheet }) .sheet ≡ sheet
-    go true Accepted h = absurd (h refl)
-    go true (Refused r) h = refl
-    go false a h = refl
+    go : (t : Bool) (a b : Book) → cond {A = Edited} t (record { refusal = 0; book = a }) (record { refusal = 1; book = b }) .refusal ≤ 9
+    go true a b = let h : 0 ≤ 9 = omega arith in h
+    go false a b = let h : 1 ≤ 9 = omega arith in h
+
+opens-right : (list s : List ℕ) → Right 0 s (opens list s)
+unfolding opens
+opens-right list s =
+    let e = opening (wordsAt list 0 (length list / 8)) in
+    either 0 s (leb 56224 (length s)) (cond (eqb (length list % 32) 0) (settled s e) (refused 1 s)) (refused 25 s)
+    (either 0 s (eqb (length list % 32) 0) (settled s e) (refused 1 s) (settled-right s e (let h = opening-small (wordsAt list 0 (length list / 8)) in omega arith)) (refused-right 0 s 1 (omega arith) (omega arith)))
+    (unfit-right 0 s)
+
+edit-right : (s : List ℕ) (c : Call) → Right 0 s (edit s c)
+unfolding through
+edit-right s c =
+    let b = bookOf s in
+    either 0 s (bytesFit s) (settled s (outcome b c)) (refused 25 s)
+    (settled-right s (outcome b c) (let h = call-small (b .network) (recordAt (b .places)) (b .journal .held) c in omega arith))
+    (unfit-right 0 s)
+
+-- ════ checks
+answer-told : (a : Answer) → Told 0 (answerWord a)
+unfolding Told answerWord
+answer-told Accepted e = refl
+answer-told (Refused r) e = absurd (let z : (refusalNumber r + 256 * refusalUnknown r) % 256 ≡ 0 = remainder _ e in omega (arith, refusal-least r, refusal-most r))
+
+check-told : (s x m : List ℕ) → Told 0 (checkCall s x m)
+unfolding checkCall
+check-told s x m = told-either 0 (bytesFit s) (answerWord (checkedLent (bookOf s) x m true)) (pos 25) (answer-told _) (told-25 0)
+
+judged-right : (a : Answer) (new old : List ℕ) → Right 0 old (record { answer = answerWord a; bytes = onAccepted a new old })
+unfolding onAccepted answerWord
+judged-right a new old = record { told = answer-told a; stays = go a }
+  where
+    go : (a : Answer) → (refusalIn (answerWord a) ≡ pos 0 → ⊥) → onAccepted a new old ≡ old
+    go Accepted h = absurd (h (given-none 0))
+    go (Refused r) h = refl
+
+sheet-right : (s x m sheet : List ℕ) → Right 0 sheet (record { answer = sheetCall s x m sheet .answer; bytes = sheetCall s x m sheet .sheet })
+unfolding sheetCall
+sheet-right s x m sheet = go (bytesFit s) (judgedLent (checkedLent (bookOf s) x m (sheetFits (bookOf s) sheet)) (bookOf s) x m sheet) (judged-right _ _ sheet)
+  where
+    go : (t : Bool) (j : Judged) → Right 0 sheet (record { answer = j .answer; bytes = j .sheet })
+        → Right 0 sheet (record { answer = cond t j (record { answer = pos 25; sheet = sheet }) .answer; bytes = cond t j (record { answer = pos 25; sheet = sheet }) .sheet })
+    go true j o = o
+    go false j o = unfit-right 0 sheet
 
 -- ════ a proposal
-proposal-stays : (s : List ℕ) (r : ℤ) (x m x′ m′ : List ℕ) → Proposes s r x m x′ m′ → (r ≡ pos 0 → ⊥) → (x′ ≡ x) × (m′ ≡ m)
-proposal-stays s r x m x′ m′ p h = go (true-or-false (bytesFit s))
+record Offered (r : ℤ) (x m x′ m′ : List ℕ) : Type 0 where
+  told : Told 0 r
+  stays : (refusalIn r ≡ pos 0 → ⊥) → (x′ ≡ x) × (m′ ≡ m)
+
+abbrev lengthsRight : List ℕ → List ℕ → List ℕ → Bool
+lengthsRight s x m = lentLengths (unknownCount (bookOf s .network .stations)) x m
+
+-- an answer that leaves both as they came
+kept : (r n : ℤ) (x m x′ m′ : List ℕ) → Told 0 n → (r ≡ n) × (x′ ≡ x) × (m′ ≡ m) → Offered r x m x′ m′
+kept r n x m x′ m′ t p = record { told = subst (Told 0) (sym (p .0)) t; stays = λ h. (p .1, p .2) }
+
+none-told : Told 0 (negsuc 0)
+unfolding Told refusalIn
+none-told e = e
+
+offered : (s : List ℕ) (r : ℤ) (x m x′ m′ : List ℕ) → Proposes s r x m x′ m′ → Offered r x m x′ m′
+offered s r x m x′ m′ p = go (true-or-false (bytesFit s))
   where
-    offered : Offers (bookOf s) r x m x′ m′ → (x′ ≡ x) × (m′ ≡ m)
-    offered (inl o) = absurd (h (o .0))
-    offered (inr o) = (o .1, o .2)
+    pair : Offers (bookOf s) r x m x′ m′ → Offered r x m x′ m′
+    pair (inl o) = record { told = subst (Told 0) (sym (o .0)) (told-number 0); stays = λ h. absurd (h (ap refusalIn (o .0) ∙ given-none 0)) }
+    pair (inr o) = kept r (negsuc 0) x m x′ m′ none-told o
 
-    go : (bytesFit s ≡ true) ⊎ (bytesFit s ≡ false) → (x′ ≡ x) × (m′ ≡ m)
-    go (inl e) = offered (p .fit e)
-    go (inr e) = (p .unfit e .1, p .unfit e .2)
+    lent : OffersLent (bookOf s) r x m x′ m′ → (lengthsRight s x m ≡ true) ⊎ (lengthsRight s x m ≡ false) → Offered r x m x′ m′
+    lent o (inl e) = pair (o .fit e)
+    lent o (inr e) = kept r (pos 10) x m x′ m′ (told-refusal 0 10 (omega arith) (omega arith)) (o .unfit e)
 
--- some answer is always allowed: no proposal, or 25
+    go : (bytesFit s ≡ true) ⊎ (bytesFit s ≡ false) → Offered r x m x′ m′
+    go (inl e) = lent (p .fit e) (true-or-false _)
+    go (inr e) = kept r (pos 25) x m x′ m′ (told-25 0) (p .unfit e)
+
+-- some answer is always allowed: 25, 10, or no proposal
 proposes-something : (s x m : List ℕ) → (r : ℤ) × Proposes s r x m x m
-proposes-something s x m = go (true-or-false (bytesFit s))
+proposes-something s x m = go (true-or-false (bytesFit s)) (true-or-false (lengthsRight s x m))
   where
-    go : (bytesFit s ≡ true) ⊎ (bytesFit s ≡ false) → (r : ℤ) × Proposes s r x m x m
-    go (inl e) = (negsuc 0, record { unfit = λ f. clash e f; fit = λ f. inr (refl, refl, refl) })
-    go (inr e) = (pos 25, record { unfit = λ f. (refl, refl, refl); fit = λ f. clash f e })
+    go : (bytesFit s ≡ true) ⊎ (bytesFit s ≡ false) → (lengthsRight s x m ≡ true) ⊎ (lengthsRight s x m ≡ false) → (r : ℤ) × Proposes s r x m x m
+    go (inr e) l = (pos 25, record { unfit = λ f. (refl, refl, refl); fit = λ f. clash f e })
+    go (inl e) (inr l) = (pos 10, record { unfit = λ f. clash e f; fit = λ f. record { unfit = λ g. (refl, refl, refl); fit = λ g. clash g l } })
+    go (inl e) (inl l) = (negsuc 0, record { unfit = λ f. clash e f; fit = λ f. record { unfit = λ g. clash l g; fit = λ g. inr (refl, refl, refl) } })
+
+-- ════ reading
+unknowns-told : (s : List ℕ) → Told (unknownCount (bookOf s .network .stations)) (unknownsCall s)
+unfolding unknownsCall
+unknowns-told s =
+    let k = unknownCount (bookOf s .network .stations) in
+    told-either k (bytesFit s) (numbered k) (pos 25) (told-number k) (told-25 k)
+
+sheet-bytes-told : (s : List ℕ) → Told (8 * room (bookOf s .network) (bookOf s .places)) (sheetBytesCall s)
+unfolding sheetBytesCall
+sheet-bytes-told s =
+    let k = 8 * room (bookOf s .network) (bookOf s .places) in
+    told-either k (bytesFit s) (numbered k) (pos 25) (told-number k) (told-25 k)
+
+gives-right : (k : ℕ) (w : List ℤ) (out : List ℕ) → Right k out (gives k w out)
+unfolding gives
+gives-right k w out =
+    either k out (leb (8 * length w) (length out)) (record { answer = numbered k; bytes = putWords out 0 w }) (refused 10 out)
+    (record { told = told-number k; stays = λ h. absurd (h (given-none k)) }) (refused-right k out 10 (omega arith) (omega arith))
+
+stations-right : (s list : List ℕ) → Right (bookOf s .network .count) list (stationsCall s list)
+unfolding stationsCall
+stations-right s list =
+    let k = bookOf s .network .count in
+    either k list (bytesFit s) (gives k (listWords (bookOf s .network)) list) (refused 25 list) (gives-right k _ list) (unfit-right k list)
+
+record-right : (s : List ℕ) (place : ℤ) (out : List ℕ) → Right 0 out (recordCall s place out)
+unfolding recordCall
+record-right s place out =
+    let g = gives 0 (recordWords (recordAt (bookOf s .places) (placeOf place))) out in
+    either 0 out (bytesFit s) (cond (inList 256 place) g (refused 2 out)) (refused 25 out)
+    (either 0 out (inList 256 place) g (refused 2 out) (gives-right 0 _ out) (refused-right 0 out 2 (omega arith) (omega arith))) (unfit-right 0 out)
 
 -- ════ all calls
-refused-all : (asked : Asked) (r : ℤ) (left : Lent) → Returns asked r left → (r ≡ pos 0 → ⊥) → left ≡ given asked
-unfolding Returns given Stays
-refused-all (toOpen list book) r left (e, q) h = q ∙ ap (λ (s : List ℕ). record { books = s ∷ []; others = [] }) (opens-stays list book (λ z. h (e ∙ z)))
-refused-all (toEdit book c) r left (e, q) h = q ∙ ap (λ (s : List ℕ). record { books = s ∷ []; others = [] }) (edit-stays book c (λ z. h (e ∙ z)))
+told-as : (k : ℕ) (r n : ℤ) → r ≡ n → Told k n → Told k r
+told-as k r n e t = subst (Told k) (sym e) t
+
+told-all : (asked : Asked) (r : ℤ) (left : Lent) → Returns asked r left → Told (number asked) r
+unfolding Returns number
+told-all (toOpen list book) r left (e, q) = told-as 0 r _ e (opens-right list book .told)
+told-all (toEdit book c) r left (e, q) = told-as 0 r _ e (edit-right book c .told)
+told-all (toCheck book x m) r left (e, q) = told-as 0 r _ e (check-told book x m)
+told-all (toCheckSheet book x m sheet) r left (e, q) = told-as 0 r _ e (sheet-right book x m sheet .told)
+told-all (toPropose book x m) r left (x′, m′, p, q) = offered book r x m x′ m′ p .told
+told-all (toReadUnknowns book) r left (e, q) = told-as _ r _ e (unknowns-told book)
+told-all (toReadSheetBytes book) r left (e, q) = told-as _ r _ e (sheet-bytes-told book)
+told-all (toReadStations book list) r left (e, q) = told-as _ r _ e (stations-right book list .told)
+told-all (toReadRecord book place out) r left (e, q) = told-as 0 r _ e (record-right book place out .told)
+
+-- the refusal of an answer given in two ways
+refused-as : (r n : ℤ) → r ≡ n → (refusalIn r ≡ pos 0 → ⊥) → refusalIn n ≡ pos 0 → ⊥
+refused-as r n e h z = h (ap refusalIn e ∙ z)
+
+refused-all : (asked : Asked) (r : ℤ) (left : Lent) → Returns asked r left → (refusalIn r ≡ pos 0 → ⊥) → left ≡ given asked
+unfolding Returns given
+refused-all (toOpen list book) r left (e, q) h = q ∙ ap (λ (s : List ℕ). record { books = s ∷ []; others = [] }) (opens-right list book .stays (refused-as r _ e h))
+refused-all (toEdit book c) r left (e, q) h = q ∙ ap (λ (s : List ℕ). record { books = s ∷ []; others = [] }) (edit-right book c .stays (refused-as r _ e h))
 refused-all (toCheck book x m) r left (e, q) h = q
-refused-all (toCheckSheet book x m sheet) r left (e, q) h = q ∙ ap (λ (s : List ℕ). record { books = []; others = s ∷ [] }) (sheet-stays book x m sheet (λ z. h (e ∙ z)))
+refused-all (toCheckSheet book x m sheet) r left (e, q) h = q ∙ ap (λ (s : List ℕ). record { books = []; others = s ∷ [] }) (sheet-right book x m sheet .stays (refused-as r _ e h))
 refused-all (toPropose book x m) r left (x′, m′, p, q) h =
-    let s = proposal-stays book r x m x′ m′ p h in
+    let s = offered book r x m x′ m′ p .stays h in
     q ∙ (λ i. record { books = []; others = s .0 i ∷ s .1 i ∷ [] })
+refused-all (toReadUnknowns book) r left (e, q) h = q
+refused-all (toReadSheetBytes book) r left (e, q) h = q
+refused-all (toReadStations book list) r left (e, q) h = q ∙ ap (λ (s : List ℕ). record { books = []; others = s ∷ [] }) (stations-right book list .stays (refused-as r _ e h))
+refused-all (toReadRecord book place out) r left (e, q) h = q ∙ ap (λ (s : List ℕ). record { books = []; others = s ∷ [] }) (record-right book place out .stays (refused-as r _ e h))
 
 answers : (asked : Asked) → (r : ℤ) × (left : Lent) × Returns asked r left
 unfolding Returns
@@ -104,6 +256,10 @@ answers (toEdit book c) = (_, _, (refl, refl))
 answers (toCheck book x m) = (_, _, (refl, refl))
 answers (toCheckSheet book x m sheet) = (_, _, (refl, refl))
 answers (toPropose book x m) = let p = proposes-something book x m in (p .0, _, (x, m, p .1, refl))
+answers (toReadUnknowns book) = (_, _, (refl, refl))
+answers (toReadSheetBytes book) = (_, _, (refl, refl))
+answers (toReadStations book list) = (_, _, (refl, refl))
+answers (toReadRecord book place out) = (_, _, (refl, refl))
 
 only : (x y : List ℕ) (l : List (List ℕ)) → l ≡ x ∷ [] → l ≡ y ∷ [] → x ≡ y
 only x y l p q = cc
@@ -116,10 +272,15 @@ unfolding Returns
 accepted (toOpen list s) left book (e, q) h =
     subst (λ (k : List ℕ). bytesFit k ≡ true) (only (opens list s .bytes) book (left .books) (ap (λ (y : Lent). y .books) q) h) (opened-fits-next list s (sym e))
 accepted (toEdit s c) left book (e, q) h =
-    subst (λ (k : List ℕ). bytesFit k ≡ true) (only (edit s c .bytes) book (left .books) (ap (λ (y : Lent). y .books) q) h) (edited-fits-next s c (sym e))
+    subst (λ (k : List ℕ). bytesFit k ≡ true) (only (edit s c .bytes) book (left .books) (ap (λ (y : Lent). y .books) q) h) (edited-next s c (sym e) .fits)
 accepted (toCheck s x m) left book (e, q) h = none book (left .books) (ap (λ (y : Lent). y .books) q) h
 accepted (toCheckSheet s x m sheet) left book (e, q) h = none book (left .books) (ap (λ (y : Lent). y .books) q) h
 accepted (toPropose s x m) left book (x′, m′, p, q) h = none book (left .books) (ap (λ (y : Lent). y .books) q) h
+accepted (toReadUnknowns s) left book (e, q) h = none book (left .books) (ap (λ (y : Lent). y .books) q) h
+accepted (toReadSheetBytes s) left book (e, q) h = none book (left .books) (ap (λ (y : Lent). y .books) q) h
+accepted (toReadStations s list) left book (e, q) h = none book (left .books) (ap (λ (y : Lent). y .books) q) h
+accepted (toReadRecord s place out) left book (e, q) h = none book (left .books) (ap (λ (y : Lent). y .books) q) h
 
 pub demand-1 : Demand1
-demand-1 asked = record { answers = answers asked; refused = refused-all asked; accepted = accepted asked }
+unfolding Told
+demand-1 asked = record { answers = answers asked; told = told-all asked; refused = refused-all asked; accepted = accepted asked }

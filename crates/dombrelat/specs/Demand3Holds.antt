@@ -158,12 +158,40 @@ module _ (list s : List ℕ) (o : Opened list s) where
 pub opened-fits-next : (list s : List ℕ) → opens list s .answer ≡ pos 0 → bytesFit (opens list s .bytes) ≡ true
 opened-fits-next list s a = holds-opened list s (accepted list s a) .fits
 
-pub edited-fits-next : (s : List ℕ) (c : Call) → bytesSays s c ≡ pos 0 → bytesFit (bytesNext s c) ≡ true
-edited-fits-next s c a = go (true-or-false (bytesFit s))
+-- what an accepted edit has shown of the bytes, and what it leaves
+pub record Next (s : List ℕ) (c : Call) : Type 0 where
+  pub says : bookSays (bookOf s) c ≡ 0
+  pub fits : bytesFit (bytesNext s c) ≡ true
+  pub reads : bookOf (bytesNext s c) ≡ bookNext (bookOf s) c
+
+pub edited-next : (s : List ℕ) (c : Call) → bytesSays s c ≡ pos 0 → Next s c
+edited-next s c a = go (true-or-false (bytesFit s))
   where
-    go : (bytesFit s ≡ true) ⊎ (bytesFit s ≡ false) → bytesFit (bytesNext s c) ≡ true
-    go (inl e) = stays s s (bookOf s) c (record { reads = refl; fits = e; beyond = λ j q. refl }) .fits
+    go : (bytesFit s ≡ true) ⊎ (bytesFit s ≡ false) → Next s c
+    go (inl e) =
+        let h : Holds s s (bookOf s) = record { reads = refl; fits = e; beyond = λ j q. refl } in
+        let next = stays s s (bookOf s) c h in
+        record { says = ap natAbs (sym (says-same s s (bookOf s) c h) ∙ a); fits = next .fits; reads = next .reads }
     go (inr e) = not-zero 24 (sym (ap (λ (r : Returned). r .answer) (through-unfit s (λ b. outcome b c) e)) ∙ a)
+
+-- an opened book keeps its station list
+final-network : (b : Book) (calls : List Call) → final bookNext b calls .network ≡ b .network
+unfolding final
+final-network b [] = refl
+final-network b (c ∷ cs) = final-network (bookNext b c) cs ∙ next-network b c
+
+-- what the bytes hold after an accepted opening and any run of calls
+pub record After (list s : List ℕ) (calls : List Call) : Type 0 where
+  pub accepts : stations.opens (wordsAt list 0 (length list / 8)) ≡ true
+  pub fits : bytesFit (bytesAfter list s calls) ≡ true
+  pub network : bookOf (bytesAfter list s calls) .network ≡ networkOf (wordsAt list 0 (length list / 8))
+
+pub opened-after : (list s : List ℕ) → opens list s .answer ≡ pos 0 → (calls : List Call) → After list s calls
+unfolding net
+opened-after list s a calls =
+    let o = accepted list s a in
+    let h = left list s o calls in
+    record { accepts = o .accepts; fits = h .fits; network = ap (λ (b : Book). b .network) (h .reads) ∙ final-network (openedBook (net list s o)) calls }
 
 pub demand-3 : Demand3
 unfolding net

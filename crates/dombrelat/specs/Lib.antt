@@ -1,10 +1,12 @@
--- What the C calls answer and leave (Calls, CheckCalls, Proposal), the three demands over bytes (Demand1, Demand2, Demand3), and their laws. The layout of a book's bytes is in crate layout.
+-- What the C calls answer and leave (Calls, CheckCalls, Proposal, Reading), the three demands over bytes (Demand1, Demand2, Demand3), and their laws. The layout of a book's bytes is in crate layout.
 pub mod Calls
 pub mod CheckCalls
 pub mod Proposal
+pub mod Reading
 pub mod Demand1
 pub mod Demand1Holds
 pub mod Demand2
 pub mod Demand2Holds
 pub mod Demand3
 pub mod Demand3Holds
+pub mod ReadingLaws

@@ -1,11 +1,13 @@
 // The C calls on lent bytes.
 //
-// `opening` has the call that opens a book, `edits` those that edit one, `changes` what they do to the bytes, `checking` the calls that check, `proposing` the one that proposes.
+// `opening` has the call that opens a book, `edits` those that edit one, `changes` what they do to the bytes, `checking` the calls that check, `proposing` the one that proposes,
+// `reading` those that read a book.
 mod changes;
 mod checking;
 mod edits;
 mod opening;
 mod proposing;
+mod reading;
 
 use network::Record;
 

@@ -20,7 +20,6 @@ fn settle(s: &mut [u8], e: Edited) -> i64
     if refusal == 0 {
         let book = e.book;
         layout::write_book(s, book);
-        return 0;
     }
     refusal as i64
 }

@@ -5,8 +5,8 @@ use mathlib.Core.Bool.{Bool, true, false, cond}
 use mathlib.Core.List.{List, [], _∷_, _++_, append-assoc}
 use native.Mathlib.Omega.{arith}
 use lib.Dec.{ltb}
-use lib.ListN.{length, getD, length-append, List·getD-append}
-use lib.Seq.{getD-append-add}
+use lib.ListN.{length, getD, take, drop, length-append, List·getD-append}
+use lib.Seq.{getD-append-add, take-at}
 use lib.IntN.{ℤ, pos}
 use Rattle.words.specs.Signed.{signed}
 use Rattle.network.specs.Stations.{stationAt}
@@ -102,6 +102,10 @@ module _ (b : Book) (z : Sized b) where
 
   pub length-book : length (bookWords b) ≡ 7028
   length-book = ap length at-right ∙ length-append (toEntries ++ b .normals .matrix) (b .normals .right) ∙ omega (arith, length-toMatrix, z .right)
+
+  pub stations-part : take 128 (drop 2 (bookWords b)) ≡ stationsPart b
+  unfolding bookWords
+  stations-part = take-at (stationsPart b) (placesPart b ++ tail) 128 length-stations
 
   -- ════ word by word
   abbrev pub word : ℕ → ℤ

@@ -1,12 +1,12 @@
 -- Parts of one length, one after another in a list of words. Assumes nothing.
 use Prim.Native.Nat.{ℕ, zero, suc, _+_, _*_, _<_, _≤_}
-use mathlib.Core.Path.{_≡_, refl, sym, ap, _∙_}
+use mathlib.Core.Path.{_≡_, refl, sym, ap, ap₂, _∙_}
 use mathlib.Core.List.{List, [], _++_}
 use native.Mathlib.Nat.{zero-mul, suc-mul, mul-le-mul-right}
 use native.Mathlib.Decide.{ℕ-discrete}
 use native.Mathlib.Omega.{arith}
-use lib.ListN.{length, getD, length-append, List·getD-append}
-use lib.Seq.{getD-append-add}
+use lib.ListN.{length, getD, take, length-append, List·getD-append}
+use lib.Seq.{getD-append-add, take-all, take-append-le}
 use lib.IntN.{ℤ}
 
 -- f 0, f 1, .., f (n − 1) in one list
@@ -39,6 +39,22 @@ module _ (m : ℕ) (f : ℕ → List ℤ) (even : (k : ℕ) → length (f k) ≡
       go before (no q) =
           let low : suc k ≤ n = omega arith in
           List·getD-append (chunks n f) (f n) d (k * m + j) (omega (arith, length-chunks n, suc-mul k m, mul-le-mul-right m low)) ∙ before (omega arith)
+
+  -- the first n parts of n + d
+  pub chunks-front : (n d : ℕ) → take (n * m) (chunks (n + d) f) ≡ chunks n f
+  chunks-front n zero = ap (λ (k : ℕ). take (n * m) (chunks k f)) (omega arith) ∙ take-all (n * m) (chunks n f) (let e = length-chunks n in omega arith)
+  chunks-front n (suc d) =
+      let low : n ≤ n + d = omega arith in
+      ap (λ (k : ℕ). take (n * m) (chunks k f)) (let e : n + suc d ≡ suc (n + d) = omega arith in e)
+      ∙ ap (take (n * m)) (chunks-more (n + d) f)
+      ∙ take-append-le (n * m) (chunks (n + d) f) (f (n + d)) (omega (arith, length-chunks (n + d), mul-le-mul-right m low))
+      ∙ chunks-front n d
+
+-- parts that are equal below n
+pub chunks-ext : (n : ℕ) (f g : ℕ → List ℤ) → ((k : ℕ) → k < n → f k ≡ g k) → chunks n f ≡ chunks n g
+unfolding chunks
+chunks-ext zero f g h = refl
+chunks-ext (suc n) f g h = ap₂ (λ (a b : List ℤ). a ++ b) (chunks-ext n f g (λ k l. h k (omega arith))) (h n (omega arith))
 
 -- a list in three parts, the second made of equal ones: word j of its part k
 pub inside : (a c : List ℤ) (m n k j at : ℕ) (f : ℕ → List ℤ) (d : ℤ) → ((i : ℕ) → length (f i) ≡ m) → length a ≡ at → k < n → j < m

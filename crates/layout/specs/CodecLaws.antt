@@ -54,12 +54,13 @@ module _ (s : List ℕ) where
     fits-sound = sound-parts (bookOf s) read-sized (parts .2)
 
     -- bytes that pass are those that writing gives
-    pub writes-same : Bytes s → putBook s (bookOf s) ≡ s
-    writes-same h =
-        let same : wordsOf s ≡ bookWords (bookOf s) =
+    pub fits-words : wordsOf s ≡ bookWords (bookOf s)
+    fits-words =
         ext-getD (pos 0) _ _ (length-words s 0 7028 ∙ sym (length-book (bookOf s) read-sized))
-        (λ k l. eqZ-true _ _ (all-at 7028 _ k (parts .1) (subst (λ (n : ℕ). k < n) (length-words s 0 7028) l))) in
-        ap (putWords s 0) (sym same) ∙ run-kept s 0 7028 h
+        (λ k l. eqZ-true _ _ (all-at 7028 _ k (parts .1) (subst (λ (n : ℕ). k < n) (length-words s 0 7028) l)))
+
+    pub writes-same : Bytes s → putBook s (bookOf s) ≡ s
+    writes-same h = ap (putWords s 0) (sym fits-words) ∙ run-kept s 0 7028 h
 
 -- ════ a sound book written to bytes with room for it
 module _ (s : List ℕ) (b : Book) (o : Sound b) (long : length (b .network .stations) ≡ 32) (room : 56224 ≤ length s) where

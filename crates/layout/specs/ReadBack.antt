@@ -34,9 +34,9 @@ use Rattle.book.specs.Journal.{free, isFree, before, entriesBefore}
 use Rattle.book.specs.Book.{undoable}
 use Rattle.book.specs.Sound.{Sized, Sound, Undoes, undoable-first}
 use Rattle.layout.specs.Chunks.{chunk-at}
-use Rattle.layout.specs.BookWords.{tail, length-station, length-stations, toEntries, length-toEntries, length-toMatrix, at-matrix, at-right, place-word, next-word, held-word, slot-word}
+use Rattle.layout.specs.BookWords.{length-station, toEntries, length-toEntries, length-toMatrix, at-matrix, at-right, place-word, next-word, held-word, slot-word, stations-part}
 use Rattle.network.specs.StationWords.{stationWords, kind-back}
-use Rattle.layout.specs.Layout.{stationPart, recordWords, reversalWords, stationsPart, placesPart, bookWords, reversalIn, networkIn, placeIn, placesIn, entriesIn, journalIn, normalsIn, bookIn}
+use Rattle.layout.specs.Layout.{stationPart, recordWords, reversalWords, stationsPart, bookWords, reversalIn, networkIn, placeIn, placesIn, entriesIn, journalIn, normalsIn, bookIn}
 
 -- ════ a record
 pub record-back : (w : List ℤ) (at : ℕ) (r : Record) → ((j : ℕ) → j < 14 → getD w (at + j) (pos 0) ≡ getD (recordWords r) j (pos 0)) → recordIn w at ≡ r
@@ -152,7 +152,7 @@ station-zeros w s at =
     ap (λ (k : ℕ). kindOf (getD w k (pos 0))) (sym (add-zero (s * 4))) ∙ ap kindOf (at 0 (omega arith)) in
     λ i. record { kind = kind i; east = at 1 (omega arith) i; north = at 2 (omega arith) i; up = at 3 (omega arith) i }
 
-station-back : (net : Network) (w : List ℤ) (s : ℕ) → networkFits net ≡ true → s < 32 → ((j : ℕ) → j < 4 → getD w (s * 4 + j) (pos 0) ≡ getD (stationPart net s) j (pos 0))
+pub station-back : (net : Network) (w : List ℤ) (s : ℕ) → networkFits net ≡ true → s < 32 → ((j : ℕ) → j < 4 → getD w (s * 4 + j) (pos 0) ≡ getD (stationPart net s) j (pos 0))
     → stationIn w s ≡ stationAt (net .stations) s
 unfolding stationPart
 station-back net w s e h at = go (ltb s (net .count)) refl
@@ -187,7 +187,7 @@ module _ (b : Book) (o : Sound b) (long : length (b .network .stations) ≡ 32) 
   unfolding bookWords
   network-back =
       let few : b .network .count ≤ 32 = network-few (b .network) (o .network) in
-      let part : take 128 (drop 2 w) ≡ stationsPart b = take-at (stationsPart b) (placesPart b ++ tail b sized) 128 (length-stations b sized) in
+      let part = stations-part b sized in
       let count : unsigned (signed (b .network .count)) ≡ b .network .count = unsigned-signed (b .network .count) (omega arith) in
       let stations : tabulate 32 (stationIn (stationsPart b)) ≡ b .network .stations =
       sym (is-tabulate 32 (stationIn (stationsPart b)) (b .network .stations) blank long

@@ -13,8 +13,11 @@ pub use reading::book_in;
 pub use reading::held_in;
 pub use reading::network_in;
 pub use reading::next_in;
+pub use reading::places_in;
 pub use reading::record_in;
 pub use reading::slot_in;
+pub use reading::stations_at;
+pub use records::record_words;
 pub use writing::write_book;
 
 // The bytes of a book: 7,028 words.

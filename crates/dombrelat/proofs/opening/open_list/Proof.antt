@@ -1,6 +1,8 @@
-use mathlib.Core.Path.{ap, _∙_}
+use Prim.Native.Nat.{_≤_}
+use mathlib.Core.Path.{sym, ap, _∙_, subst}
+use Rattle.book.specs.declared.Edited.{Edited}
 use Rattle.book.specs.Book.{opening}
-use Rattle.dombrelat.proofs.Openings.{opening-small}
+use Rattle.dombrelat.specs.Demand1Holds.{opening-small}
 use borrow.Author.Needs.{needs}
 use Rattle.dombrelat.proofs.opening.open_list.Statement.{statement}
 use Rattle.dombrelat.proofs.opening.open_list.Tie as tie
@@ -15,7 +17,7 @@ same-length : tie.Need-same-length
 same-length c = search needs
 
 returns : tie.Need-returns
-returns c = (c .«open» .ensures .0 ∙ ap opening (c .before .before .before .read-words .ensures), opening-small _ _ (c .«open» .ensures .0))
+returns c = (c .«open» .ensures .0 ∙ ap opening (c .before .before .before .read-words .ensures), subst (λ (e : Edited). e .refusal ≤ 9) (sym (c .«open» .ensures .0)) (opening-small _))
 
 pub open-list-spec : {M : Type 1} → statement M
 open-list-spec = tie.close (tie.spec read-words-requires open-requires same-length returns)

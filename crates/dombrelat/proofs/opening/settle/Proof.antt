@@ -1,7 +1,10 @@
 -- `settle` writes an opened book, unless the opening is refused. Assumes nothing.
 use Prim.Native.Nat.{_<_, _^_}
+use mathlib.Core.Path.{ap, _∙_}
+use mathlib.Core.Logic.{⊎-elim}
 use native.Mathlib.Omega.{arith}
 use denote.Ref.{now}
+use lib.ListN.{length}
 use mir.Syntax.{w64}
 use mir.Facts.{toZ-ofZ}
 use Rattle.dombrelat.proofs.Changed.{edit-done, edit-kept}
@@ -12,20 +15,21 @@ use Rattle.dombrelat.proofs.opening.settle.Tie as tie
 write-book-requires : tie.Need-write-book-requires
 write-book-requires c κs = search needs
 
-same-length : tie.Need-same-length
-same-length c = search needs
-
-returns : tie.Need-returns
-returns c = edit-done _ _ _ _ (c .before .before .before .before .before .if1 .taken) (c .before .before .write-book .ensures)
-
 cast-result : tie.Need-cast-result
 cast-result c = search needs
 
-returns-2 : tie.Need-returns-2
-returns-2 c = (
-  toZ-ofZ {w = w64} (record { sfits = let h : c .before .before .args .e .refusal < 2 ^ 63 = omega arith in h }),
-  edit-kept (now (c .before .before .args .s)) _ (c .before .before .args .e .book) (c .if1 .left),
-)
+same-length : tie.Need-same-length
+same-length c = ⊎-elim (λ w. omega (arith, ap length (w .6), w .3 .kept)) (λ w. ap length (w .1)) (c .if1 .came)
+
+returns : tie.Need-returns
+returns c =
+    let s = c .before .before in (
+      toZ-ofZ {w = w64} (record { sfits = let h : s .args .e .refusal < 2 ^ 63 = omega arith in h }),
+      ⊎-elim
+          (λ w. w .6 ∙ edit-done _ _ _ _ (w .0 .taken) (w .3 .ensures) .1)
+          (λ w. w .1 ∙ edit-kept (now (s .args .s)) _ (s .args .e .book) (w .0 .left))
+          (c .if1 .came),
+    )
 
 pub settle-spec : {M : Type 1} → statement M
-settle-spec = tie.close (tie.spec write-book-requires same-length returns cast-result returns-2)
+settle-spec = tie.close (tie.spec write-book-requires cast-result same-length returns)

@@ -1,7 +1,6 @@
 use native.Mathlib.Nat.{mul-le-mul}
 use native.Mathlib.Omega.{arith}
 use Rattle.lent_checks.proofs.Offered.{lengths-test}
-use borrow.Author.Needs.{needs}
 use Rattle.lent_checks.proofs.proposing.lengths_fit.Statement.{statement}
 use Rattle.lent_checks.proofs.proposing.lengths_fit.Tie as tie
 

@@ -1,0 +1,78 @@
+use Prim.Native.Nat.{_≤_}
+use native.Mathlib.Omega.{arith}
+use mathlib.Core.Path.{_≡_, refl, sym, _∙_}
+use mathlib.Core.Bool.{true}
+use borrow.Author.Tests.{not-true, not-false}
+use denote.Ref.{now}
+use mir.Syntax.{w64}
+use mir.Facts.{toZ-ofZ}
+use Rattle.layout.specs.Bytes.{bytesFit}
+use Rattle.dombrelat.proofs.Lent.{short-unfit}
+use Rattle.dombrelat.proofs.Changed.{network-ready}
+use Rattle.dombrelat.proofs.Readings.{both, stations-unfit, stations-fit}
+use borrow.Author.Needs.{needs, sfits-of}
+use Rattle.dombrelat.proofs.reading.dombrelat_stations.Statement.{statement}
+use Rattle.dombrelat.proofs.reading.dombrelat_stations.Tie as tie
+
+fit : (e : tie.Else2) → bytesFit (now (e .before .before .before .before .before .args .book)) ≡ true
+fit e = sym (e .before .fits2 .ensures) ∙ not-false _ (e .if2 .left)
+
+few : (a : tie.After-network-in) → a .network-in .result .count ≤ 32
+few a = network-ready _ (fit (a .before)) _ (a .network-in .ensures) .0
+
+returns : tie.Need-returns
+returns c = both _ _ _ _ (stations-unfit _ _ (short-unfit _ (c .if1 .taken))) (refl, refl)
+
+fits-requires : tie.Need-fits-requires
+fits-requires c κs = search needs
+
+returns-2 : tie.Need-returns-2
+returns-2 c = both _ _ _ _ (stations-unfit _ _ (sym (c .before .fits2 .ensures) ∙ not-true _ (c .if2 .taken))) (refl, refl)
+
+network-in-requires : tie.Need-network-in-requires
+network-in-requires c κs = search needs
+
+stations-at-requires : tie.Need-stations-at-requires
+stations-at-requires c κs = search needs
+
+mul-e : tie.Need-mul-e
+mul-e c = omega (arith, few (c .before))
+
+sub-give : tie.Need-sub-give
+sub-give c = search needs
+
+part-give-start : tie.Need-part-give-start
+part-give-start c = search needs
+
+part-give-end : tie.Need-part-give-end
+part-give-end c = omega (arith, few (c .before .before))
+
+give-requires : tie.Need-give-requires
+give-requires c κs = omega (arith, few (c .before .before .before .before))
+
+same-length : tie.Need-same-length
+same-length c = search needs
+
+returns-3 : tie.Need-returns-3
+returns-3 c =
+    let g = c .before .before .give in
+    let a = c .before .before .before .before .before .before in
+    both _ _ _ _ (stations-fit _ _ _ _ (fit (a .before .before)) (a .before .network-in .ensures) (a .stations-at .ensures))
+    (toZ-ofZ {w = w64} {z = g .result} (sfits-of (g .ok)) ∙ g .ensures .0, g .ensures .1)
+
+pub dombrelat-stations-spec : {M : Type 1} → statement M
+dombrelat-stations-spec =
+    tie.close
+    (tie.spec
+    returns
+    fits-requires
+    returns-2
+    network-in-requires
+    stations-at-requires
+    mul-e
+    sub-give
+    part-give-start
+    part-give-end
+    give-requires
+    same-length
+    returns-3)
