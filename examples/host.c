@@ -8,16 +8,12 @@
 
 #include <inttypes.h>
 #include <stdio.h>
+#include <stdlib.h>
 
-#define UNKNOWNS 3
-#define STATIONS 4
 #define RECORDS 5
-#define SHEET_WORDS (5 + 7 * STATIONS + 3 * RECORDS)
-
-static const char *const verdicts[] = {"PASS", "FAIL", "LOOSE", "LOW", "HIGH", "NONE"};
 
 /* A benchmark that is held, and three new points whose heights are known to a decimetre or so. Lengths are in units of 0.01 mm. */
-static const int64_t stations[STATIONS][4] = {
+static const int64_t stations[][4] = {
     {DOMBRELAT_KNOWN, 0, 0, 10000000},
     {DOMBRELAT_HEIGHT, 2500000, 1000000, 10120000},
     {DOMBRELAT_HEIGHT, 4000000, -500000, 10245000},
@@ -30,60 +26,92 @@ static const int64_t levels[RECORDS][4] = {
 };
 
 static uint8_t book[DOMBRELAT_BOOK_BYTES];
+static int64_t x[DOMBRELAT_UNKNOWNS], m[DOMBRELAT_UNKNOWNS * DOMBRELAT_UNKNOWNS], sheet[DOMBRELAT_SHEET_BYTES / 8];
 
-static int done(const char *what, int64_t result) {
-    if (result == 0) {
-        return 1;
+/* The number that a call gives, 0 for most. A refusal ends the program. */
+static int64_t number(const char *what, int64_t result) {
+    if (DOMBRELAT_REFUSAL(result) != 0) {
+        printf("%s: refused with %d\n", what, (int)DOMBRELAT_REFUSAL(result));
+        exit(1);
     }
-    printf("%s: refused with %" PRId64 "\n", what, DOMBRELAT_REFUSAL(result));
-    return 0;
+    return DOMBRELAT_NUMBER(result);
+}
+
+static int64_t read_stations(int64_t list[DOMBRELAT_STATIONS][4]) {
+    return number("the stations", dombrelat_stations(book, sizeof book, (uint8_t *)list, DOMBRELAT_STATIONS * DOMBRELAT_STATION_BYTES));
+}
+
+static void read_record(int64_t place, int64_t record[14]) {
+    number("a place", dombrelat_record(book, sizeof book, place, (uint8_t *)record, DOMBRELAT_RECORD_BYTES));
+}
+
+/* Unknowns count by station, then E, N, U: a known station has none, a free one all three, a height station U alone. */
+static void print_unknown(int64_t unknown) {
+    int64_t list[DOMBRELAT_STATIONS][4];
+    int64_t count = read_stations(list);
+    int k, component;
+    for (k = 0; k < count; k++) {
+        int first = list[k][0] == DOMBRELAT_FREE ? 0 : list[k][0] == DOMBRELAT_HEIGHT ? 2 : 3;
+        for (component = first; component < 3; component++) {
+            if (--unknown == 0) {
+                printf("no chain of records ties station %d in %c to a held station\n", k + 1, "ENU"[component]);
+            }
+        }
+    }
 }
 
 static void print_sheet(const int64_t *word) {
+    static const char *const verdicts[] = {"PASS", "FAIL", "LOOSE", "LOW", "HIGH", "NONE"};
+    int64_t list[DOMBRELAT_STATIONS][4], record[14];
+    int64_t count = read_stations(list), records = word[0];
     int k, i;
     printf("%" PRId64 " records, %" PRId64 " unknowns\n", word[0], word[1]);
     word += 2;
     printf("station    east       north      up         variance of up (over 2^30, in squares of 10 mm)\n");
-    for (k = 0; k < STATIONS; k++, word += 7) {
-        printf("%-10" PRId64, word[0]);
-        for (i = 1; i <= 3; i++) {
-            printf(" %-10" PRId64, word[i]);
-        }
-        printf(" %" PRId64 "\n", word[6]);
+    for (k = 0; k < count; k++, word += 7) {
+        printf("%-10" PRId64 " %-10" PRId64 " %-10" PRId64 " %-10" PRId64 " %" PRId64 "\n", word[0], word[1], word[2], word[3], word[6]);
     }
     printf("place      residual   local test\n");
-    for (k = 0; k < RECORDS; k++, word += 3) {
-        printf("%-10" PRId64 " %-10" PRId64 " %s\n", word[0], word[1], verdicts[word[2]]);
+    for (k = 0; k < records; k++) {
+        int components; /* of a baseline 3, of a height difference 1 */
+        read_record(word[0], record);
+        components = record[0] == 1 ? 3 : 1;
+        for (i = 1; i <= components; i++) {
+            printf("%-10" PRId64 " %-10" PRId64 " %s\n", word[0], word[i], verdicts[word[components + i]]);
+        }
+        word += 1 + 2 * components;
     }
     printf("global test: %" PRId64 " with %" PRId64 " degrees of freedom: %s\n", word[0], word[1], verdicts[word[2]]);
 }
 
 int main(void) {
-    int64_t x[UNKNOWNS], m[UNKNOWNS * UNKNOWNS], sheet[SHEET_WORDS];
-    int64_t result;
+    int64_t result, record[14];
+    size_t n, x_bytes, m_bytes, sheet_bytes;
     int k;
 
-    if (!done("opening", dombrelat_open((const uint8_t *)stations, sizeof stations, book, sizeof book))) {
-        return 1;
-    }
+    number("opening", dombrelat_open((const uint8_t *)stations, sizeof stations, book, sizeof book));
+    n = (size_t)number("the unknowns", dombrelat_unknowns(book, sizeof book));
+    x_bytes = 8 * n, m_bytes = 8 * n * n;
+
     for (k = 0; k < RECORDS; k++) {
         const int64_t *l = levels[k];
-        if (!done("a record", dombrelat_add_height(book, sizeof book, k + 1, l[0], l[1], l[2], l[3]))) {
-            return 1;
+        if (k == 2) {
+            /* Too early: nothing ties the last point yet. Test 2 comes before those of x and M, so zeros do to ask. */
+            result = dombrelat_check(book, sizeof book, (const uint8_t *)x, x_bytes, (const uint8_t *)m, m_bytes);
+            printf("after 2 records the check is refused with %d: ", (int)DOMBRELAT_REFUSAL(result));
+            print_unknown(DOMBRELAT_UNTIED_UNKNOWN(result));
         }
+        number("a record", dombrelat_add_height(book, sizeof book, k + 1, l[0], l[1], l[2], l[3]));
     }
 
-    /* A blunder: a metre too much is refused, and the book stays as it was. */
+    /* A blunder: two metres too much are refused, and the book stays as it was. */
     result = dombrelat_replace_height(book, sizeof book, 5, 2, 4, -189960 + 200000, 100);
-    printf("a height difference 2 m off is refused with %" PRId64 "\n", DOMBRELAT_REFUSAL(result));
+    read_record(5, record);
+    printf("a height difference 2 m off is refused with %d, and place 5 still holds %" PRId64 "\n", (int)DOMBRELAT_REFUSAL(result), record[5]);
 
-    if (!done("a proposal", dombrelat_propose(book, sizeof book, (uint8_t *)x, sizeof x, (uint8_t *)m, sizeof m))) {
-        return 1;
-    }
-    result = dombrelat_check_sheet(book, sizeof book, (const uint8_t *)x, sizeof x, (const uint8_t *)m, sizeof m, (uint8_t *)sheet, sizeof sheet);
-    if (!done("the check", result)) {
-        return 1;
-    }
+    number("a proposal", dombrelat_propose(book, sizeof book, (uint8_t *)x, x_bytes, (uint8_t *)m, m_bytes));
+    sheet_bytes = (size_t)number("the sheet's bytes", dombrelat_sheet_bytes(book, sizeof book));
+    number("the check", dombrelat_check_sheet(book, sizeof book, (const uint8_t *)x, x_bytes, (const uint8_t *)m, m_bytes, (uint8_t *)sheet, sheet_bytes));
     print_sheet(sheet);
     return 0;
 }

@@ -2,13 +2,25 @@
  *
  * All lengths are in units of 0.01 mm, all numbers are int64_t. Weight 1 means a standard deviation of 10 mm (1,000 units); 1 mm is weight 100.
  *
- * A slice is a pointer and a length in bytes. Words in it are 8 bytes, little-endian, two's complement: on a little-endian machine an array of int64_t as it stands.
+ * A slice is a pointer and a length in bytes. Words in it are 8 bytes, little-endian, two's complement: on a little-endian machine an array of int64_t as it stands. No
+ * alignment is needed.
+ *
+ * A book is the bytes that dombrelat_open writes, and nothing else: it may be copied (memcpy), stored in a file and read on another machine, where its bytes are the same.
  *
  * What the caller owes, since C cannot promise it: no pointer is null, also at length 0; slices given to one call do not overlap; each is as long as its length says.
  * Nothing else: every call answers every input. A refused call writes nothing at all.
  *
- * A result is 0 (done, or accepted) or the refusal's number: DOMBRELAT_ constants below, in words in docs/REFUSALS.md. Where several apply, the lowest number is given,
- * but DOMBRELAT_BAD_BOOK comes before all others.
+ * The calls keep no state and allocate nothing, so they are re-entrant: threads may call at the same time, on books of their own. One book has one writer at a time (open, add,
+ * replace, strike and undo write), and nobody reads it meanwhile; calls that only read may share it.
+ *
+ * A result is refusal + 256 * number. DOMBRELAT_REFUSAL(result) is 0 (done, or accepted) or the refusal's number: DOMBRELAT_ constants below, in words in docs/REFUSALS.md. Where
+ * several apply, the lowest number is given, but DOMBRELAT_BAD_BOOK comes before all others. DOMBRELAT_NUMBER(result) is the number that a call gives: the unknown of
+ * DOMBRELAT_UNTIED, or what a reading call counts; otherwise 0. So a switch goes through DOMBRELAT_REFUSAL, since no result is DOMBRELAT_UNTIED itself:
+ *
+ *     switch (DOMBRELAT_REFUSAL(result)) {
+ *     case DOMBRELAT_UNTIED: printf("unknown %d\n", (int)DOMBRELAT_NUMBER(result)); break; ...
+ *
+ * To link: `rt staticlib dombrelat` writes target/staticlib/libdombrelat.a, for x86-64 Linux; `cc -Iinclude host.c target/staticlib/libdombrelat.a`. examples/host.c is a whole program.
  */
 #ifndef DOMBRELAT_H
 #define DOMBRELAT_H
@@ -20,10 +32,18 @@
 extern "C" {
 #endif
 
+/* The version of this header and of the library that it belongs to. The bytes of a book have a number of their own, that of their layout: it is 1, the book's first word. */
+#define DOMBRELAT_VERSION 1
+
 /* The bytes of a book. A longer slice may be lent: bytes beyond stay. The layout is in docs/BOOK.md; a program needs it only to look inside. */
 #define DOMBRELAT_BOOK_BYTES 56224
 
-/* The stack to give a thread that makes a call. tests/host/stack.c measured 349,288 bytes on x86-64 (propose on a full book; an edit takes 137,912); the rest is margin. */
+/* The bytes of a station in a list, of a record as dombrelat_record writes it, and of the largest sheet (32 stations, 256 baselines). */
+#define DOMBRELAT_STATION_BYTES 32
+#define DOMBRELAT_RECORD_BYTES 112
+#define DOMBRELAT_SHEET_BYTES (8 * (5 + 7 * 32 + 7 * 256))
+
+/* The stack to give a thread that makes a call. tests/host/stack.c measured 349,304 bytes on x86-64 (propose on a full book; an edit takes 137,912); the rest is margin. */
 #define DOMBRELAT_STACK_BYTES 393216
 
 /* Limits. */
@@ -38,28 +58,29 @@ extern "C" {
 #define DOMBRELAT_HEIGHT 3 /* U unknown; E, N held */
 
 /* Refusals. */
-#define DOMBRELAT_BAD_STATIONS 1      /* open: station count, kind, coordinate or number of unknowns outside the rules */
+#define DOMBRELAT_BAD_STATIONS 1      /* open: not 1 to 32 whole stations, a kind that is none, a coordinate beyond 500,000,000, or not 1 to 48 unknowns */
 #define DOMBRELAT_BAD_PLACE 2         /* the place is not 1 to 256 */
 #define DOMBRELAT_BAD_ENDS 3          /* from or to is not in the list, or they are equal */
-#define DOMBRELAT_OUT_OF_RANGE 4      /* an observed component or a weight is out of range */
-#define DOMBRELAT_BAD_MATRIX 5        /* the weight matrix is not positive definite, or too weak in one direction */
-#define DOMBRELAT_BAD_MISCLOSURE 6    /* observed minus provisional is beyond 100,000 units (1 m) */
+#define DOMBRELAT_OUT_OF_RANGE 4      /* an observed component beyond 1,000,000,000; a weight not 1 to 10,000, off the diagonal beyond 10,000 */
+#define DOMBRELAT_BAD_MATRIX 5        /* the weight matrix is not positive definite, or gives a component (E, N or U) a variance above 16 squares of 10 mm */
+#define DOMBRELAT_BAD_MISCLOSURE 6    /* observed minus provisional is beyond 100,000 units (1 m) in a component */
 #define DOMBRELAT_PLACE_TAKEN 7       /* add: the place is filled; replace and strike: it is empty */
 #define DOMBRELAT_NOTHING_TO_UNDO 8   /* the history is empty */
 #define DOMBRELAT_TOO_LARGE 9         /* a sum beyond 2^62; by the limits of this version it never comes */
-#define DOMBRELAT_BAD_LENGTHS 10      /* x or M has another length than the book's unknowns ask, or the sheet has no room */
-#define DOMBRELAT_UNTIED 11           /* an unknown has no chain of records to a held station; see DOMBRELAT_UNTIED_UNKNOWN */
+#define DOMBRELAT_BAD_LENGTHS 10      /* x or M is not as long as the book's unknowns ask, or a slice to write on has no room */
+#define DOMBRELAT_UNTIED 11           /* an unknown has no chain of records to a held station: DOMBRELAT_NUMBER(result) is the first such unknown */
 #define DOMBRELAT_LARGE_CORRECTION 12 /* a correction beyond 100,000 units */
 #define DOMBRELAT_LARGE_VARIANCE 13   /* an entry of M beyond 2^34 */
 #define DOMBRELAT_BAD_INVERSE 14      /* M is not near enough to 2^30 times the inverse of N */
 #define DOMBRELAT_BAD_RESIDUAL 15     /* x does not solve the normal equations nearly enough */
 #define DOMBRELAT_BAD_SOLUTION 16     /* x may be further than one unit from the least squares answer */
 #define DOMBRELAT_BAD_BOOK 25         /* the lent book bytes are too short, damaged, or not a book */
-#define DOMBRELAT_NO_PROPOSAL (-1)    /* propose: no pair that the check accepts was found, or the lengths do not fit */
+#define DOMBRELAT_NO_PROPOSAL (-1)    /* propose: no pair that the check accepts was found. It stands by itself: its refusal is -1, its number 0 */
 
-/* The result of a check that is refused with 11 is 11 + 256 times the first unknown without a chain, counted from 1. */
+/* A result taken apart. The number of DOMBRELAT_UNTIED is the first unknown without a chain, counted from 1. */
 #define DOMBRELAT_REFUSAL(result) ((result) % 256)
-#define DOMBRELAT_UNTIED_UNKNOWN(result) ((result) / 256)
+#define DOMBRELAT_NUMBER(result) ((result) / 256)
+#define DOMBRELAT_UNTIED_UNKNOWN(result) DOMBRELAT_NUMBER(result)
 
 /* Verdicts in a sheet. */
 #define DOMBRELAT_PASS 0
@@ -69,8 +90,9 @@ extern "C" {
 #define DOMBRELAT_HIGH 4
 #define DOMBRELAT_NONE 5
 
-/* Opens a book on a list of 1 to 32 stations, four words each: kind, E, N, U (provisional coordinates). Stations are numbered from 1 in the list's order; unknowns by
- * station, then E, N, U. The list is fixed from then on. Refusals: 25 (the book bytes are too short), 1. */
+/* Opens a book on a list of 1 to 32 stations, four words each: kind, E, N, U (provisional coordinates). Stations are numbered from 1 in the list's order; unknowns, from 1, by
+ * station, then E, N, U: a free station has three, a height station one (U), a known one none. The list is fixed from then on. Whatever the book bytes held is overwritten.
+ * Refusals: 25 (the book bytes are too short), 1 (also where the list's length is not a multiple of 32). */
 int64_t dombrelat_open(const uint8_t *list, size_t list_bytes, uint8_t *book, size_t book_bytes);
 
 /* Fills an empty place (1 to 256) with a baseline: observed differences, to minus from, and the symmetric weight matrix. Refusals: 25, 2, 3, 4, 5, 6, 7. */
@@ -91,19 +113,34 @@ int64_t dombrelat_strike(uint8_t *book, size_t book_bytes, int64_t place);
 /* Takes back the latest of the last 64 accepted edits. Refusals: 25, 8. */
 int64_t dombrelat_undo(uint8_t *book, size_t book_bytes);
 
-/* Checks corrections x (n words) and M (n·n words by rows), n the book's number of unknowns. 0: accepted, and every correction is within one unit of the exact least
- * squares answer. Refusals: 25, 10 to 16. */
+/* Checks corrections x (n words) and M (n·n words by rows: 2^30 times the inverse of the normal matrix), n the book's number of unknowns. 0: accepted, and every correction is
+ * within one unit of the exact least squares answer. Refusals: 25, 10 to 16. */
 int64_t dombrelat_check(const uint8_t *book, size_t book_bytes, const uint8_t *x, size_t x_bytes, const uint8_t *m, size_t m_bytes);
 
 /* The same, and on acceptance the sheet's words: records, unknowns; for each station its number, E, N, U and three variances (over 2^30, in squares of 10 mm); for each
  * record by rising place a baseline's place, three residuals and three verdicts, or a height difference's place, residual and verdict; then the weighted square sum of
- * the residuals, the degrees of freedom and the global verdict. Bytes beyond stay. */
+ * the residuals, the degrees of freedom and the global verdict. dombrelat_sheet_bytes says how many bytes that is; bytes beyond stay. The sheet's length is a multiple of 8.
+ * Refusals as for checking. */
 int64_t dombrelat_check_sheet(const uint8_t *book, size_t book_bytes, const uint8_t *x, size_t x_bytes, const uint8_t *m, size_t m_bytes,
                               uint8_t *sheet, size_t sheet_bytes);
 
-/* Proposes a pair that the check accepts, and writes it to x (n words) and m (n·n words), which are just so long. 0, 25 or DOMBRELAT_NO_PROPOSAL; but for 0 nothing
- * is written. */
+/* Proposes a pair that the check accepts, and writes it to x (n words) and m (n·n words), which are just so long. Refusals: 25, 10 (another length), DOMBRELAT_NO_PROPOSAL. */
 int64_t dombrelat_propose(const uint8_t *book, size_t book_bytes, uint8_t *x, size_t x_bytes, uint8_t *m, size_t m_bytes);
+
+/* Reading a book. What a call counts is DOMBRELAT_NUMBER(result). */
+
+/* The number of unknowns, n. Refusals: 25. */
+int64_t dombrelat_unknowns(const uint8_t *book, size_t book_bytes);
+
+/* The bytes that dombrelat_check_sheet needs for the records as they are now, at most DOMBRELAT_SHEET_BYTES. Refusals: 25. */
+int64_t dombrelat_sheet_bytes(const uint8_t *book, size_t book_bytes);
+
+/* Writes the station list as dombrelat_open took it, 32 bytes a station, and counts the stations. Bytes beyond stay. Refusals: 25, 10 (the list has no room). */
+int64_t dombrelat_stations(const uint8_t *book, size_t book_bytes, uint8_t *list, size_t list_bytes);
+
+/* Writes the 14 words of what a place holds: kind (0 empty, 1 baseline, 2 height difference), from, to, observed E, N, U, weights EE, EN, EU, NN, NU, UU, and two that are 0. A height
+ * difference has its difference in U and its weight in UU; what a record does not use is 0. Bytes beyond stay. Refusals: 25, 2, 10 (less than 112 bytes). */
+int64_t dombrelat_record(const uint8_t *book, size_t book_bytes, int64_t place, uint8_t *record, size_t record_bytes);
 
 #ifdef __cplusplus
 }

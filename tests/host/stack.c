@@ -11,10 +11,11 @@
 #define SIZE (4u << 20)
 #define PAINT 0xA5
 #define BUDGET (512u << 10)
+#define CALLS 15
 
 static uint8_t book[DOMBRELAT_BOOK_BYTES];
 static int64_t stations[DOMBRELAT_STATIONS][4], x[DOMBRELAT_UNKNOWNS], m[DOMBRELAT_UNKNOWNS * DOMBRELAT_UNKNOWNS];
-static int64_t sheet[5 + 7 * DOMBRELAT_STATIONS + 7 * DOMBRELAT_PLACES];
+static int64_t sheet[DOMBRELAT_SHEET_BYTES / 8];
 static int which;
 static int64_t answer;
 
@@ -38,19 +39,24 @@ static void *run(void *unused) {
     case 8: answer = dombrelat_propose(book, sizeof book, (uint8_t *)x, sizeof x, (uint8_t *)m, sizeof m); break;
     case 9: answer = dombrelat_check(book, sizeof book, (uint8_t *)x, sizeof x, (uint8_t *)m, sizeof m); break;
     case 10: answer = dombrelat_check_sheet(book, sizeof book, (uint8_t *)x, sizeof x, (uint8_t *)m, sizeof m, (uint8_t *)sheet, sizeof sheet); break;
+    case 11: answer = dombrelat_unknowns(book, sizeof book); break;
+    case 12: answer = dombrelat_sheet_bytes(book, sizeof book); break;
+    case 13: answer = dombrelat_stations(book, sizeof book, (uint8_t *)stations, sizeof stations); break;
+    case 14: answer = dombrelat_record(book, sizeof book, 256, (uint8_t *)sheet, sizeof sheet); break;
     }
     return NULL;
 }
 
 int main(void) {
-    static const char *const calls[11] = {"open", "add_baseline", "replace_baseline", "replace_height", "strike", "add_height", "undo", "undo", "propose", "check", "check_sheet"};
+    static const char *const calls[CALLS] = {"open", "add_baseline", "replace_baseline", "replace_height", "strike", "add_height", "undo", "undo", "propose", "check", "check_sheet",
+                                             "unknowns", "sheet_bytes", "stations", "record"};
     size_t most = 0;
     int k;
     for (k = 0; k < DOMBRELAT_STATIONS; k++) {
         stations[k][0] = k < 14 ? DOMBRELAT_FREE : k < 20 ? DOMBRELAT_HEIGHT : DOMBRELAT_KNOWN;
         stations[k][1] = 10 * k, stations[k][2] = -10 * k, stations[k][3] = k;
     }
-    for (which = 0; which < 11; which++) {
+    for (which = 0; which < CALLS; which++) {
         uint8_t *stack;
         size_t used = 0;
         pthread_attr_t attr;
@@ -70,7 +76,7 @@ int main(void) {
         free(stack);
         used = SIZE - used;
         fprintf(stderr, "%s: %zu bytes\n", calls[which], used);
-        if (answer) {
+        if (DOMBRELAT_REFUSAL(answer)) {
             fprintf(stderr, "%s is refused with %lld\n", calls[which], (long long)answer);
             return 1;
         }
