@@ -70,23 +70,23 @@ refusalIn (pos n) = pos (n % 256)
 refusalIn (negsuc n) = negsuc n
 
 -- the number that a call gives where it is not refused: 0 but for those that count
-unfoldable pub number : Asked → ℕ
-number (toOpen list book) = 0
-number (toEdit book c) = 0
-number (toCheck book x m) = 0
-number (toCheckSheet book x m sheet) = 0
-number (toPropose book x m) = 0
-number (toReadUnknowns book) = unknownCount (bookOf book .network .stations)
-number (toReadSheetBytes book) = 8 * room (bookOf book .network) (bookOf book .places)
-number (toReadStations book list) = bookOf book .network .count
-number (toReadRecord book place out) = 0
+unfoldable pub numberGiven : Asked → ℕ
+numberGiven (toOpen list book) = 0
+numberGiven (toEdit book c) = 0
+numberGiven (toCheck book x m) = 0
+numberGiven (toCheckSheet book x m sheet) = 0
+numberGiven (toPropose book x m) = 0
+numberGiven (toReadUnknowns book) = unknownCount (bookOf book .network .stations)
+numberGiven (toReadSheetBytes book) = 8 * room (bookOf book .network) (bookOf book .places)
+numberGiven (toReadStations book list) = bookOf book .network .count
+numberGiven (toReadRecord book place out) = 0
 
 -- ════ the demand
 pub record Demand (asked : Asked) : Type 0 where
   -- every call answers on every input
   pub answers : (r : ℤ) × (left : Lent) × Returns asked r left
   -- an answer without a refusal is just the number that the call gives
-  pub told : (r : ℤ) (left : Lent) → Returns asked r left → refusalIn r ≡ pos 0 → r ≡ numbered (number asked)
+  pub told : (r : ℤ) (left : Lent) → Returns asked r left → refusalIn r ≡ pos 0 → r ≡ numbered (numberGiven asked)
   -- whatever answer has a refusal leaves the book's bytes, its history among them, and every other slice as they came
   pub refused : (r : ℤ) (left : Lent) → Returns asked r left → (refusalIn r ≡ pos 0 → ⊥) → left ≡ given asked
   -- an accepted opening or edit leaves bytes that the next call takes

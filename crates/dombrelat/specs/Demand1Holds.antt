@@ -33,7 +33,7 @@ use Rattle.dombrelat.specs.CheckCalls.{Judged, judgedLent, checkCall, sh
 use Rattle.dombrelat.specs.Proposal.{Proposes}
 use Rattle.dombrelat.specs.Reading.{numbered, gives, listWords, unknownsCall, sheetBytesCall, stationsCall, recordCall}
 use Rattle.dombrelat.specs.Demand3Holds.{opened-fits-next, edited-next}
-use Rattle.dombrelat.specs.Demand1.{Asked, toOpen, toEdit, toCheck, toCheckSheet, toPropose, toReadUnknowns, toReadSheetBytes, toReadStations, toReadRecord, Lent, given, Returns, refusalIn, number, Demand1}
+use Rattle.dombrelat.specs.Demand1.{Asked, toOpen, toEdit, toCheck, toCheckSheet, toPropose, toReadUnknowns, toReadSheetBytes, toReadStations, toReadRecord, Lent, given, Returns, refusalIn, numberGiven, Demand1}
 
 -- ════ answers taken apart
 Told : ℕ → ℤ → Type 0
@@ -219,8 +219,8 @@ record-right s place out =
 told-as : (k : ℕ) (r n : ℤ) → r ≡ n → Told k n → Told k r
 told-as k r n e t = subst (Told k) (sym e) t
 
-told-all : (asked : Asked) (r : ℤ) (left : Lent) → Returns asked r left → Told (number asked) r
-unfolding Returns number
+told-all : (asked : Asked) (r : ℤ) (left : Lent) → Returns asked r left → Told (numberGiven asked) r
+unfolding Returns numberGiven
 told-all (toOpen list book) r left (e, q) = told-as 0 r _ e (opens-right list book .told)
 told-all (toEdit book c) r left (e, q) = told-as 0 r _ e (edit-right book c .told)
 told-all (toCheck book x m) r left (e, q) = told-as 0 r _ e (check-told book x m)

@@ -1,45 +1,52 @@
 -- What the reading calls give back: the station list that the book was opened on, after any run of edits, and what an accepted edit put at its place. Assumes nothing.
 use Prim.Native.Nat.{ℕ, zero, suc, _+_, _*_, _/_, _%_, _<_, _≤_}
-use mathlib.Core.Path.{_≡_, refl, sym, ap, ap₂, _∙_}
+use mathlib.Core.Path.{_≡_, refl, sym, ap, ap₂, _∙_, subst}
 use mathlib.Core.Bool.{true}
 use mathlib.Core.List.{List, [], _∷_}
 use native.Mathlib.Nat.{add-zero}
 use native.Mathlib.Decide.{decLt}
 use native.Mathlib.Omega.{arith}
-use borrow.Author.Tests.{eqb-true, leb-true, ltb-true, lt-ltb, le-ltb, le-leb}
-use lib.Dec.{leb}
+use borrow.Author.Tests.{eqb-true, eq-eqb, leb-true, ltb-true, lt-ltb, le-ltb, le-leb}
+use lib.Dec.{eqb, leb}
 use lib.ListN.{length, getD, List·getD-eq-default}
 use lib.Seq.{ext-getD, getD-set-same}
 use lib.IntN.{ℤ, pos}
+use mir.Syntax.{w64}
+use mir.Val.{SFits}
 use Rattle.integers.specs.Tables.{tabulate, getD-tabulate, is-tabulate}
 use Rattle.words.specs.Bools.{and-right}
 use Rattle.words.specs.Signed.{indexIn}
 use Rattle.words.specs.SignedLaws.{index-test, index-number}
-use Rattle.words.specs.Runs.{putWords}
-use Rattle.words.specs.RunLaws.{length-words}
-use Rattle.network.specs.All.{Each, each, all-at}
-use Rattle.network.specs.Stations.{blank, stationAt, kindAt, kindOf, isKind, stationIn, networkOf, countFits, coordinatesFit, unknownsFit, kindsFit, wholeStations, networkFits}
+use Rattle.words.specs.Runs.{wordsAt, putWords}
+use Rattle.words.specs.RunLaws.{length-words, length-run, run-back}
+use Rattle.network.specs.All.{Each, each, each-by, all-at, all-by}
+use Rattle.network.specs.Stations.{blank, stationAt, kindAt, kindOf, isKind, stationIn, networkOf, countFits, coordinatesFit, unknownsFit, kindsFit, wholeStations, blankBeyond, networkFits}
 use Rattle.network.specs.Stations as stations
 use Rattle.network.specs.StationWords.{kindWord, stationWords}
 use Rattle.network.specs.Records.{vacant, recordAt}
 use Rattle.network.specs.Rules.{inList}
+use Rattle.network.specs.RuleLaws.{network-few}
+use Rattle.network.specs.declared.Kind.{Kind}
+use Rattle.network.specs.declared.Kind.the-variants.{Known, Free, Height}
 use Rattle.network.specs.declared.Network.{Network}
 use Rattle.network.specs.declared.Station.{Station}
 use Rattle.network.specs.declared.Place.{Place}
 use Rattle.network.specs.declared.Record.{Record}
 use Rattle.network.specs.declared.Record.the-variants.{Empty}
 use Rattle.book.specs.declared.Book.{Book}
+use Rattle.book.specs.declared.Edited.{Edited}
 use Rattle.book.specs.Calls.{Call, add, replace, strike, placeOf, placeNo, callNo, unless}
 use Rattle.book.specs.CallLaws.{first-zero, place-inside}
-use Rattle.book.specs.Book.{edited, bookAccepts}
+use Rattle.book.specs.Book.{openedBook, opening, edited, bookAccepts}
 use Rattle.layout.specs.Chunks.{length-chunks, chunk-at}
 use Rattle.layout.specs.Layout.{stationPart, recordWords}
-use Rattle.layout.specs.BookWords.{length-record}
+use Rattle.layout.specs.BookWords.{length-record, station-word}
+use Rattle.layout.specs.WordSizes.{words-fit}
 use Rattle.layout.specs.ReadBack.{station-back}
-use Rattle.layout.specs.Bytes.{bookOf}
-use Rattle.layout.specs.CodecLaws.{read-sized}
+use Rattle.layout.specs.Bytes.{bookOf, putBook, bytesFit}
+use Rattle.layout.specs.CodecLaws.{read-sized, read-stations, fits-sound}
 use Rattle.lent_checks.specs.LentChecks.{allWords}
-use Rattle.dombrelat.specs.Calls.{edit, opens}
+use Rattle.dombrelat.specs.Calls.{Returned, settled, edit, opens}
 use Rattle.dombrelat.specs.Reading.{numbered, gives, listWords, stationsCall, recordCall}
 use Rattle.dombrelat.specs.Demand3.{bytesNext, bytesSays, bytesAfter}
 use Rattle.dombrelat.specs.Demand3Holds.{edited-next, opened-after}
@@ -131,10 +138,52 @@ list-back net e long =
     sym (is-tabulate 32 (stationIn w) (net .stations) blank long (λ s h. sym (station-back net w s e h (λ j l. part-at net s j l)))) in
     λ i. record { count = count i; stations = same i }
 
+is-kind : (k : Kind) → isKind (kindWord k) ≡ true
+unfolding kindWord
+is-kind Known = refl
+is-kind Free = refl
+is-kind Height = refl
+
+list-opens : (net : Network) → networkFits net ≡ true → length (net .stations) ≡ 32 → stations.opens (listWords net) ≡ true
+unfolding stations.opens networkFits wholeStations kindsFit stationWords
+list-opens net e long =
+    let w = listWords net in
+    let n = list-length net in
+    let rules = each (countFits (net .count) ∷ blankBeyond net ∷ coordinatesFit (net .stations) ∷ unknownsFit (net .stations) ∷ []) e in
+    let back : networkOf w .stations ≡ net .stations = ap (λ (x : Network). x .stations) (list-back net e long) in
+    let count : length w / 4 ≡ net .count = omega arith in
+    let kind : (k : ℕ) → k < length w / 4 → isKind (getD w (k * 4) (pos 0)) ≡ true =
+    λ k h. ap (λ (i : ℕ). isKind (getD w i (pos 0))) (sym (add-zero (k * 4))) ∙ ap isKind (list-at net k 0 (omega arith) (omega arith)) ∙ is-kind (stationAt (net .stations) k .kind) in
+    each-by (wholeStations w ∷ countFits (length w / 4) ∷ kindsFit w ∷ coordinatesFit (networkOf w .stations) ∷ unknownsFit (networkOf w .stations) ∷ [])
+    (eq-eqb _ _ (let z : length w % 4 ≡ 0 = omega arith in z), (ap countFits count ∙ rules .0, (all-by (length w / 4) _ kind, (ap coordinatesFit back ∙ rules .1 .1 .0, (ap unknownsFit back ∙ rules .1 .1 .1 .0, tt)))))
+
+-- every word of it fits 64 bits: it stands in the book
+list-fits : (s : List ℕ) → bytesFit s ≡ true → (i : ℕ) → SFits w64 (getD (listWords (bookOf s .network)) i (pos 0))
+list-fits s e i = go (decLt i 128)
+  where
+    go : Dec (i < 128) → SFits w64 (getD (listWords (bookOf s .network)) i (pos 0))
+    go (yes h) =
+        let k = i / 4 in
+        let j = i % 4 in
+        let below : j < 4 = omega arith in
+        let at : k * 4 + j ≡ i = omega arith in
+        subst (λ (z : ℤ). SFits w64 z)
+        (station-word (bookOf s) (read-sized s) k j (omega arith) below ∙ sym (part-at (bookOf s .network) k j below) ∙ ap (λ (q : ℕ). getD (listWords (bookOf s .network)) q (pos 0)) at)
+        (words-fit (bookOf s) (fits-sound s e) (2 + k * 4 + j))
+    go (no h) =
+        let few : bookOf s .network .count ≤ 32 = network-few (bookOf s .network) (fits-sound s e .network) in
+        let beyond : length (listWords (bookOf s .network)) ≤ i = omega (arith, list-length (bookOf s .network)) in
+        subst (λ (z : ℤ). SFits w64 z) (sym (List·getD-eq-default (listWords (bookOf s .network)) (pos 0) {n = i} beyond)) (record { sfits = omega arith })
+
 -- ════ after an accepted opening and any run of edits, the list that it was opened on is written
 gives-room : (number : ℕ) (w : List ℤ) (out : List ℕ) → 8 * length w ≤ length out → gives number w out ≡ record { answer = numbered number; bytes = putWords out 0 w }
 unfolding gives
 gives-room number w out h = rw (le-leb (8 * length w) (length out) h)
+
+stations-fit : (s out : List ℕ) → bytesFit s ≡ true → 8 * length (listWords (bookOf s .network)) ≤ length out
+    → stationsCall s out ≡ record { answer = numbered (bookOf s .network .count); bytes = putWords out 0 (listWords (bookOf s .network)) }
+unfolding stationsCall
+stations-fit s out e room = rw e (gives-room (bookOf s .network .count) (listWords (bookOf s .network)) out room)
 
 pub stations-opened : (list s : List ℕ) → opens list s .answer ≡ pos 0 → (calls : List Call) (out : List ℕ) → length list ≤ length out
     → stationsCall (bytesAfter list s calls) out ≡ record { answer = numbered (length list / 32); bytes = putWords out 0 (allWords list) }
@@ -148,6 +197,25 @@ stations-opened list s a calls out room =
     (ap (λ (net : Network). gives (net .count) (listWords net) out) (h .network)
     ∙ ap₂ (λ (n : ℕ) (l : List ℤ). gives n l out) count (list-same w (h .accepts))
     ∙ gives-room (length list / 32) w out (omega arith))
+
+-- ════ of any bytes that hold a book: an opening on the list that is written gives a book of the same stations
+pub opens-again : (s out t : List ℕ) → bytesFit s ≡ true → length out ≡ 32 * bookOf s .network .count → 56224 ≤ length t
+    → opens (stationsCall s out .bytes) t ≡ record { answer = pos 0; bytes = putBook t (openedBook (bookOf s .network)) }
+unfolding opens unless
+opens-again s out t e long room =
+    let net = bookOf s .network in
+    let w = listWords net in
+    let n = list-length net in
+    let list = putWords out 0 w in
+    let is : stationsCall s out .bytes ≡ list = ap (λ (r : Returned). r .bytes) (stations-fit s out e (omega arith)) in
+    let bytes : length list ≡ 32 * net .count = length-run out 0 w ∙ long in
+    let even : eqb (length list % 32) 0 ≡ true = eq-eqb _ _ (let z : length list % 32 ≡ 0 = omega arith in z) in
+    let count : length list / 8 ≡ length w = omega arith in
+    let read : wordsAt list 0 (length list / 8) ≡ w = ap (wordsAt list 0) count ∙ run-back out 0 w (let z : 0 + 8 * length w ≤ length out = omega arith in z) (list-fits s e) in
+    let o = fits-sound s e .network in
+    let opened : opening w ≡ record { refusal = 0; book = openedBook net } = rw (list-opens net o (read-stations s), list-back net o (read-stations s)) in
+    ap (λ (l : List ℕ). opens l t) is
+    ∙ rw (le-leb 56224 (length t) room, even) (ap (λ (x : Edited). settled t x) (ap opening read ∙ opened))
 
 -- ════ what an accepted edit put at its place
 module _ (s : List ℕ) (c : Call) (p : ℤ) (r : Record) (a : bytesSays s c ≡ pos 0) (out : List ℕ) (room : 112 ≤ length out) where
