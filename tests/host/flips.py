@@ -1,5 +1,6 @@
-"""Every single-bit flip of one full book, through tests/host/flips.c: 25, or a book by the rules as layout.judge reads them. All flips count as
-one test; the line before the last says how many were tried. Prints 'N passed, M failed' last.
+"""Every single-bit flip of one full book, through tests/host/flips.c: 25, or a book by the rules as layout.judge reads them. Each flip that is not refused is judged, and a
+sample of those that are. All flips count as one test, which fails too where it meets less than coverage.py asks; the line before the last says how many were tried. Prints
+'N passed, M failed' last.
 
     python3 tests/host/flips.py FLIPS FOLDER
 """
@@ -10,8 +11,12 @@ import random
 import subprocess
 import sys
 
-from layout import BYTES, Book, judge
+from coverage import FLIPS, Coverage
+from layout import BYTES, MATRIX_AT, NEXT_AT, PLACES_AT, Book, judge
 import survey
+
+PARTS = {'stations': (0, PLACES_AT), 'places': (PLACES_AT, NEXT_AT), 'journal': (NEXT_AT, MATRIX_AT), 'normals': (MATRIX_AT, BYTES // 8)}      # words of each
+STEPS = {'stations': 13, 'places': 241, 'journal': 7, 'normals': 241}      # every so many bits of a part are judged; most flips that read are in the journal
 
 
 def full_book():
@@ -43,30 +48,45 @@ def fits_flipped(data, bit):
     return judge(bytes(damaged)) is not None
 
 
+def part_of(bit):
+    return next(part for part, (start, end) in PARTS.items() if 64 * start <= bit < 64 * end)
+
+
+def sample():
+    return {bit for part, (start, end) in PARTS.items() for bit in range(64 * start, 64 * end, STEPS[part])}
+
+
+def tried(flips, path):
+    """(flips that were tried, the bits of those that read, lines that say what is wrong)"""
+    ran = subprocess.run([flips, path], stdout=subprocess.PIPE, text=True)
+    lines = ran.stdout.split('\n')[:-1]
+    last = lines.pop() if lines and lines[-1].startswith('tried ') else 'tried 0'
+    wrong = [line for line in lines if not line.isdigit()]
+    if ran.returncode:
+        wrong.append('flips ended with %d' % ran.returncode)
+    return int(last.split()[1]), {int(line) for line in lines if line.isdigit()}, wrong
+
+
 def main():
     flips, folder = sys.argv[1:3]
     path = os.path.join(folder, 'full.book')
     data = full_book().bytes()
     with open(path, 'wb') as f:
         f.write(data)
-    ran = subprocess.run([flips, path], stdout=subprocess.PIPE, text=True)
-    failed = ran.returncode
-    lines = ran.stdout.split('\n')[:-1]
-    read = {int(line) for line in lines if line.isdigit()}
-    for line in lines:
-        if not line.isdigit():
-            print(line)
-            failed += 1
-    # each flip that reads, and the other way round bits of words that may differ in another sound book
-    bits = sorted(read | set(range(0, 8 * BYTES, 977)))
+    count, read, wrong = tried(flips, path)
+    bits = sorted(read | sample())
     with multiprocessing.Pool() as pool:
         fits = pool.map(functools.partial(fits_flipped, data), bits, chunksize=64)
+    coverage = Coverage()
+    coverage.note('flips', 'tried', count)
     for bit, fit in zip(bits, fits):
+        coverage.note('flips that read, judged' if bit in read else 'refused flips, judged', part_of(bit))
         if fit != (bit in read):
-            print('bit %d is judged otherwise' % bit)
-            failed += 1
-    print('%d flips tried, %d of them read as another book' % (8 * BYTES, len(read)))
-    print('0 passed, 1 failed' if failed else '1 passed, 0 failed')
+            wrong.append('bit %d %s' % (bit, 'is refused, and holds a book' if fit else 'is not refused, and holds no book'))
+    wrong += coverage.shortfalls(FLIPS)
+    print('\n'.join(wrong + [coverage.text()]))
+    print('%d flips tried, %d of them read as another book' % (count, len(read)))
+    print('0 passed, 1 failed' if wrong else '1 passed, 0 failed')
 
 
 main()

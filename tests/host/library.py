@@ -1,5 +1,6 @@
-"""The static library as a shared object, for the tests: each call on bytearrays. A guard stands before and after each lent buffer."""
+"""The static library as a shared object, for the tests: each call on lent buffers and numbers. A guard stands before and after each buffer."""
 import ctypes
+import itertools
 import os
 
 I64, SIZE = ctypes.c_int64, ctypes.c_size_t
@@ -7,28 +8,31 @@ GUARD = b'\xa5' * 64
 
 
 class Buffer:
-    """Bytes lent to a call, with guards around them."""
+    """Bytes lent to a call, with guards around them. One after the other they begin at each remainder by 8, since no alignment is asked."""
+    made = itertools.count()
 
     def __init__(self, data):
         self.n = len(data)
-        self.raw = (ctypes.c_uint8 * (self.n + 128)).from_buffer(bytearray(GUARD + bytes(data) + GUARD))
-        self.at = ctypes.cast(ctypes.byref(self.raw, 64), ctypes.c_void_p)
+        self.front = GUARD + GUARD[:next(Buffer.made) % 8]
+        self.raw = bytearray(self.front + data + GUARD)
+        self.at = ctypes.c_void_p(ctypes.addressof(ctypes.c_uint8.from_buffer(self.raw)) + len(self.front))
 
     def get(self):
         whole = bytes(self.raw)
-        assert whole[:64] == GUARD and whole[64 + self.n:] == GUARD, 'a call wrote outside its slice'
-        return whole[64:64 + self.n]
+        end = len(self.front) + self.n
+        assert whole[:len(self.front)] == self.front and whole[end:] == GUARD, 'a call wrote outside its slice'
+        return whole[len(self.front):end]
 
 
 class Library:
     def __init__(self, path):
         self.so = ctypes.CDLL(os.path.abspath(path))
 
-    def call(self, name, buffers, numbers=(), after=()):
+    def call(self, name, *arguments):
+        """The result of dombrelat_NAME; a Buffer is passed as a pointer and its length, a number as int64_t."""
         f = getattr(self.so, 'dombrelat_' + name)
         f.restype = I64
-        args = []
-        for b in buffers:
-            args += [b.at, SIZE(b.n)]
-        args += [I64(v) for v in numbers]
-        return f(*args)
+        given = []
+        for a in arguments:
+            given += [a.at, SIZE(a.n)] if isinstance(a, Buffer) else [I64(a)]
+        return f(*given)

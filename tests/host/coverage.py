@@ -1,0 +1,78 @@
+"""What the tests of the C calls must have met at least so many times, in one place: a test that no longer reaches what it is for fails. Each number is about half of what the
+fixed seeds give. What a table does not have must not come at all: refusal 9, for one."""
+from collections import Counter
+
+SIZES = {'1 to 9': (1, 9), '10 to 24': (10, 24), '25 to 47': (25, 47), '48': (48, 48)}      # classes of numbers of unknowns
+
+
+def lengths(least):
+    return dict.fromkeys(('as asked', 'empty', 'a word short', 'a byte short', 'a byte long', 'a word long', 'far longer'), least)
+
+
+# tests/host/calls.py. Each call by its refusals, 0 where it is done; then the lengths of lent slices on bytes that hold a book, damage, and what was written.
+CALLS = {
+    'open': {0: 150, 1: 90, 25: 250},
+    'add_baseline': {0: 4000, 2: 40, 3: 150, 4: 250, 5: 200, 6: 100, 7: 200, 25: 1000},
+    'add_height': {0: 3500, 2: 20, 3: 90, 4: 30, 6: 25, 7: 150, 25: 1000},
+    'replace_baseline': {0: 900, 2: 20, 3: 90, 4: 120, 5: 100, 6: 50, 7: 450, 25: 1000},
+    'replace_height': {0: 1000, 2: 25, 3: 90, 4: 30, 6: 20, 7: 500, 25: 1000},
+    'strike': {0: 1100, 2: 25, 7: 550, 25: 1000},
+    'undo': {0: 3000, 8: 180, 25: 1000},
+    'check': {0: 240, 10: 450, 11: 450, 12: 20, 13: 20, 14: 25, 15: 30, 16: 50, 25: 1000},
+    'check_sheet': {0: 440, 10: 550, 11: 500, 12: 25, 13: 20, 14: 30, 15: 25, 16: 40, 25: 1000},
+    'propose': {-1: 450, 0: 400, 10: 450, 25: 1000},
+    'unknowns': {0: 1300, 25: 1000},
+    'sheet_bytes': {0: 1500, 25: 1000},
+    'stations': {0: 1100, 10: 240, 25: 1000},
+    'record': {0: 850, 2: 300, 10: 170, 25: 1000},
+    'check, length of x': lengths(30),
+    'check, length of m': lengths(30),
+    'check_sheet, length of x': lengths(20),
+    'check_sheet, length of m': lengths(20),
+    'check_sheet, length of sheet': lengths(20),
+    'propose, length of x': lengths(30),
+    'propose, length of m': lengths(30),
+    'stations, length of list': lengths(50),
+    'record, length of record': lengths(50),
+    'damage: cut short': {'refused': 240},
+    'damage: a bit': {'refused': 200, 'read': 30},
+    'damage: a word': {'refused': 200, 'read': 8},
+    'damage: a head': {'refused': 200, 'read': 8},
+    'damage: a journal word': {'refused': 150, 'read': 80},
+    'damage: places exchanged': {'refused': 30, 'read': 150},
+    'record, what it read': {'Baseline': 220, 'Level': 160, 'NoneType': 450},
+    'accepted sheets by unknowns': {'1 to 9': 300, '10 to 24': 80, '25 to 47': 35, '48': 20},
+}
+
+# tests/host/flips.py, by the part of the book
+FLIPS = {
+    'flips': {'tried': 449_792},
+    'flips that read, judged': {'places': 2000, 'journal': 2500},
+    'refused flips, judged': {'stations': 600, 'places': 900, 'journal': 7000, 'normals': 600},
+}
+
+# tests/proposals/compare.py, by the kind of network, for the 240 networks of the gate
+PROPOSALS = {
+    'networks': {'chain': 24, 'full': 12, 'mixed': 200},
+    'the rounded exact pair accepted': {'chain': 20, 'full': 12, 'mixed': 150},
+    'proposed': {'chain': 20, 'full': 12, 'mixed': 150},
+}
+
+
+class Coverage:
+    """Counts of what was met, by a name and what came under it."""
+
+    def __init__(self):
+        self.seen = {}
+
+    def note(self, what, which, times=1):
+        self.seen.setdefault(what, Counter())[which] += times
+
+    def shortfalls(self, table):
+        """A line for each count of the table that was not reached, and for each thing met that the table does not have."""
+        short = ['coverage: %s: %s came %d times, not %d' % (what, which, self.seen.get(what, {}).get(which, 0), least)
+                 for what, row in table.items() for which, least in row.items() if self.seen.get(what, {}).get(which, 0) < least]
+        return short + ['coverage: %s: %s is not foreseen' % (what, which) for what, row in self.seen.items() for which in row if which not in table.get(what, {})]
+
+    def text(self):
+        return '\n'.join('%s: %s' % (what, ', '.join('%s %d times' % (which, row[which]) for which in sorted(row, key=str))) for what, row in sorted(self.seen.items()))
