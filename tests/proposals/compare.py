@@ -4,38 +4,19 @@
 
 LIBRARY is a shared object with the C calls of include/dombrelat.h. For each network: wherever the exact answer and 2^30 times the exact inverse, rounded to nearest, are
 accepted by the check (the reference implementation's), the engine must propose; whatever it proposes must be accepted by both checks, each correction within one unit of
-the exact one, and each entry of M within document 01's column promise. Prints what it saw, and 'N passed, M failed' last."""
-import ctypes
+the exact one, and each entry of M within document 01's column promise. Fails too where fewer networks are met than tests/host/coverage.py asks, so COUNT is 240 or more.
+Prints what it saw, and 'N passed, M failed' last."""
 import os
 import random
 import sys
 
-sys.path.insert(0, os.path.join(os.path.dirname(os.path.abspath(__file__)), '..', 'reference'))
+sys.path[:0] = [os.path.join(os.path.dirname(os.path.abspath(__file__)), '..', folder) for folder in ('reference', 'host')]
+from coverage import PROPOSALS, Coverage
+from expected import NO_PROPOSAL, packed, words_in
+from layout import BYTES
+from library import Buffer, Library
 import solve
 import survey
-
-BOOK_BYTES = 56224
-
-
-def words(values):
-    return b''.join(v.to_bytes(8, 'little', signed=True) for v in values)
-
-
-class Library:
-    def __init__(self, path):
-        self.c = ctypes.CDLL(path)
-        for name in ('open', 'add_baseline', 'add_height', 'propose', 'check'):
-            getattr(self.c, 'dombrelat_' + name).restype = ctypes.c_int64
-
-    def call(self, name, *arguments):
-        """Slices are bytes or ctypes buffers, passed with their length; numbers are int64."""
-        given = []
-        for a in arguments:
-            if isinstance(a, int):
-                given.append(ctypes.c_int64(a))
-            else:
-                given += [a, ctypes.c_size_t(len(a))]
-        return getattr(self.c, 'dombrelat_' + name)(*given)
 
 
 def correlated(rng, scale):
@@ -106,12 +87,11 @@ def network(seed):
     return 'mixed', mixed(rng, stations, rng.randint(stations - 1, 4 * stations), scale)
 
 
-def compare(library, rows, records):
-    """(whether the rounded pair is accepted, whether the engine proposed, what is wrong or None)"""
-    net = survey.Network(survey.Station(*row) for row in rows)
-    book = ctypes.create_string_buffer(BOOK_BYTES)
-    if library.call('open', words([v for row in rows for v in row]), book) != 0:
-        return False, False, 'the book did not open'
+def fill(library, net, rows, records):
+    """(a book of the records that the rules allow, those records); a string where a call is answered wrongly"""
+    book = Buffer(bytes(BYTES))
+    if library.call('open', Buffer(packed([v for row in rows for v in row])), book) != 0:
+        return 'the book did not open'
     held = {}
     for place, r in records.items():
         number = survey.record_number(net, r)
@@ -120,53 +100,64 @@ def compare(library, rows, records):
         else:
             got = library.call('add_height', book, place, r.start, r.end, r.up, r.single)
         if got != number:
-            return False, False, 'an edit was answered %d, not %d' % (got, number)
+            return 'an edit was answered %d, not %d' % (got, number)
         if number == 0:
             held[place] = r
+    return book, held
+
+
+def compare(library, rows, records):
+    """(whether the rounded pair is accepted, whether the engine proposed, what is wrong or None)"""
+    net = survey.Network(survey.Station(*row) for row in rows)
+    filled = fill(library, net, rows, records)
+    if isinstance(filled, str):
+        return False, False, filled
+    book, held = filled
     n = net.n
-    pair = solve.rounded(*survey.normals(net, held))
-    accepted = pair is not None and survey.check(net, held, *pair) == (0,)
-    before = words([7] * n), words([7] * (n * n))
-    x, m = ctypes.create_string_buffer(before[0], 8 * n), ctypes.create_string_buffer(before[1], 8 * n * n)
+    exact = solve.exact(*survey.normals(net, held))
+    accepted = exact is not None and survey.check(net, held, *solve.round_off(*exact)) == (0,)
+    before = packed([7] * n), packed([7] * (n * n))
+    x, m = map(Buffer, before)
     answer = library.call('propose', book, x, m)
     if answer != 0:
-        if (x.raw, m.raw) != before:
-            return accepted, False, 'no proposal, and x or M was written'
+        if answer != NO_PROPOSAL or (x.get(), m.get()) != before:
+            return accepted, False, 'answered %d, or x or M was written' % answer
         return accepted, False, 'no proposal, though the rounded exact pair is accepted' if accepted else None
-    xs = [int.from_bytes(x.raw[8 * i:8 * i + 8], 'little', signed=True) for i in range(n)]
-    ms = [int.from_bytes(m.raw[8 * i:8 * i + 8], 'little', signed=True) for i in range(n * n)]
+    xs, ms = words_in(x.get()), words_in(m.get())
     if survey.check(net, held, xs, ms) != (0,) or library.call('check', book, x, m) != 0:
         return accepted, True, 'a proposal that a check refuses'
-    d, y, z = solve.exact(*survey.normals(net, held))
+    return accepted, True, promises(n, exact, xs, ms)
+
+
+def promises(n, exact, xs, ms):
+    """What document 01 says follows from acceptance: None where it holds."""
+    d, y, z = exact
     if any(abs(y[i] - d * xs[i]) > d for i in range(n)):
-        return accepted, True, 'a correction beyond one unit'
+        return 'a correction beyond one unit'
     for j in range(n):
         largest = max(abs(z[k][j]) for k in range(n))
         if any(16 * abs(d * ms[i * n + j] - survey.S * z[i][j]) > survey.S * largest for i in range(n)):
-            return accepted, True, 'a variance beyond the column promise'
-    return accepted, True, None
+            return 'a variance beyond the column promise'
+    return None
 
 
 def main():
     library, count = Library(sys.argv[1]), int(sys.argv[2])
-    passed = failed = 0
-    seen = {}
+    coverage = Coverage()
+    failed = []
     for seed in range(count):
         kind, (rows, records) = network(seed)
         accepted, proposed, wrong = compare(library, rows, records)
-        tally = seen.setdefault(kind, [0, 0, 0])
-        tally[0] += 1
-        tally[1] += accepted
-        tally[2] += proposed
+        coverage.note('networks', kind)
+        coverage.note('the rounded exact pair accepted', kind, accepted)
+        coverage.note('proposed', kind, proposed)
         if wrong:
-            print('seed %d (%s): %s' % (seed, kind, wrong))
-            failed += 1
-        else:
-            passed += 1
-    for kind, (all_, accepted, proposed) in sorted(seen.items()):
-        print('%s: %d networks, the rounded exact pair accepted in %d, proposed in %d' % (kind, all_, accepted, proposed))
-    print('%d passed, %d failed' % (passed, failed))
-    sys.exit(failed != 0)
+            failed.append('seed %d (%s): %s' % (seed, kind, wrong))
+    passed = count - len(failed)
+    failed += coverage.shortfalls(PROPOSALS)
+    print('\n'.join(failed + [coverage.text()]))
+    print('%d passed, %d failed' % (passed, len(failed)))
+    sys.exit(failed != [])
 
 
 main()

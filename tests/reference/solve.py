@@ -36,7 +36,9 @@ def nearest(a, d):
 def rounded(matrix, right):
     """The exact answer and 2^30 times the exact inverse, rounded: (x, m by rows); None where N is singular."""
     found = exact(matrix, right)
-    if found is None:
-        return None
-    d, y, z = found
+    return None if found is None else round_off(*found)
+
+
+def round_off(d, y, z):
+    """What `exact` gives, as a pair to check."""
     return [nearest(v, d) for v in y], [nearest(2 ** 30 * v, d) for row in z for v in row]
