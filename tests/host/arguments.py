@@ -62,10 +62,11 @@ class Arguments:
         """Records that tie every unknown to a held station, and some more: up to all places."""
         r = self.rng
         count = len(net.stations)
-        ties = [self.between(net, 'baseline' if net.at(k).kind == survey.FREE or r.random() < 0.3 else 'height', *r.sample([r.randrange(1, k), k], 2), 500)
+        slip = r.choice([2, 15, 40, 500])           # small and large for the weights, so that every verdict comes
+        ties = [self.between(net, 'baseline' if net.at(k).kind == survey.FREE or r.random() < 0.3 else 'height', *r.sample([r.randrange(1, k), k], 2), slip)
                 for k in range(2, count + 1)]
         more = r.choice([0, 3, count, 3 * count, PLACES - len(ties)])
-        return ties + [self.between(net, r.choice(['baseline', 'height']), *r.sample(range(1, count + 1), 2), 500) for _ in range(more)]
+        return ties + [self.between(net, r.choice(['baseline', 'height']), *r.sample(range(1, count + 1), 2), slip) for _ in range(more)]
 
     def record(self, net, kind):
         """Most by the rules, the others near their limits or extreme."""

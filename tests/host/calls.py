@@ -16,6 +16,7 @@ import survey
 
 BOOKS, EDITS_A_BOOK = 180, 120                                         # random books
 NETWORKS = {'1 to 9': 50, '10 to 24': 40, '25 to 47': 20, '48': 10}      # by numbers of unknowns
+VERDICTS = ('PASS', 'FAIL', 'LOOSE', 'LOW', 'HIGH', 'NONE')              # by their words in a sheet
 MOST_FAILURES = 20                                                       # then the run ends
 
 
@@ -32,7 +33,7 @@ class Run:
         if got == want:
             return
         if isinstance(got, bytes):
-            self.failed.append('%s: byte %d is another' % (what, next(k for k in range(len(got)) if got[k:k + 1] != want[k:k + 1])))
+            self.failed.append('%s: byte %d is another' % (what, next(k for k in range(max(len(got), len(want))) if got[k:k + 1] != want[k:k + 1])))
         else:
             self.failed.append('%s: %r, not %r' % (what, got, want))
         if len(self.failed) == MOST_FAILURES:
@@ -64,6 +65,8 @@ class Run:
             left = list(got[1])
             k = 0 if name in EDITS else len(left) - 1
             left[k] = front + left[k][len(front):]
+            if name == 'check_sheet' and result == 0:
+                self.note_sheet(model, words_in(front))
         self.compare(name, got, result, left)
         return got[0]
 
@@ -102,21 +105,28 @@ class Run:
     def any(self, name, book, model, near):
         """A call of that name with random arguments that suit the book `near`: the model itself, or where the bytes hold none the book that was damaged."""
         if name in EDITS:
-            return self.ask(name, book, model, self.arguments.edit(name, near))
+            self.ask(name, book, model, self.arguments.edit(name, near))
+            return
         lent, lengths = self.arguments.slices(name, near) if name in SLICES else ([], {})
         place = [self.arguments.place(near)] if name == 'record' else []
         result = self.ask(name, book, model, place + [Buffer(v) for v in lent])
         if model is not None:
             for slice_, length in lengths.items():
                 self.coverage.note('%s, length of %s' % (name, slice_), length)
-            if name == 'check_sheet':
-                self.note_sheet(model, result)
             if name == 'record' and result == 0:
                 self.coverage.note('record, what it read', type(model.records.get(place[0])).__name__)
+            if refusal(result) == 11:
+                self.coverage.note('the unknown of 11', 'the first' if result // 256 == 1 else 'a later one')
 
-    def note_sheet(self, model, result):
-        if result == 0:
-            self.coverage.note('accepted sheets by unknowns', next(k for k, (low, high) in SIZES.items() if low <= model.net.n <= high))
+    def note_sheet(self, model, words):
+        self.coverage.note('accepted sheets by unknowns', next(k for k, (low, high) in SIZES.items() if low <= model.net.n <= high))
+        self.coverage.note('accepted sheets by global verdict', VERDICTS[words[-1]])
+        at = 2 + 7 * len(model.rows)
+        for _, r in sorted(model.records.items()):
+            k = len(r.components)
+            for verdict in words[at + 1 + k:at + 1 + 2 * k]:
+                self.coverage.note('local verdicts of accepted sheets', VERDICTS[verdict])
+            at += 1 + 2 * k
 
     def every(self, book, model, near):
         """Every call that takes a book, once."""
@@ -174,7 +184,7 @@ class Run:
         """A sheet of just the bytes that `sheet_bytes` answers, and one of a byte less."""
         room = self.ask('sheet_bytes', book, model, []) // 256
         for lent in (room, room - 1):
-            self.note_sheet(model, self.ask('check_sheet', book, model, [Buffer(x), Buffer(m), Buffer(self.arguments.bytes(lent))]))
+            self.ask('check_sheet', book, model, [Buffer(x), Buffer(m), Buffer(self.arguments.bytes(lent))])
 
 
 class TooMany(Exception):
@@ -195,7 +205,7 @@ def main():
     for line in run.failed:
         print(line)
     print(run.coverage.text())
-    print('%d passed, %d failed' % (run.calls, len(run.failed)))
+    print('%d passed, %d failed' % (max(0, run.calls - len(run.failed)), len(run.failed)))
 
 
 if __name__ == '__main__':

@@ -41,7 +41,10 @@ CALLS = {
     'damage: a journal word': {'refused': 150, 'read': 80},
     'damage: places exchanged': {'refused': 30, 'read': 150},
     'record, what it read': {'Baseline': 220, 'Level': 160, 'NoneType': 450},
-    'accepted sheets by unknowns': {'1 to 9': 300, '10 to 24': 80, '25 to 47': 35, '48': 20},
+    'the unknown of 11': {'the first': 600, 'a later one': 350},
+    'accepted sheets by unknowns': {'1 to 9': 300, '10 to 24': 75, '25 to 47': 35, '48': 18},
+    'accepted sheets by global verdict': {'PASS': 15, 'LOW': 15, 'HIGH': 250, 'NONE': 140},
+    'local verdicts of accepted sheets': {'PASS': 20_000, 'FAIL': 15_000, 'LOOSE': 1_000},
 }
 
 # tests/host/flips.py, by the part of the book

@@ -74,7 +74,7 @@ def main():
     with open(path, 'wb') as f:
         f.write(data)
     count, read, wrong = tried(flips, path)
-    bits = sorted(read | sample())
+    bits = sorted(read | sample()) if not wrong else []
     with multiprocessing.Pool() as pool:
         fits = pool.map(functools.partial(fits_flipped, data), bits, chunksize=64)
     coverage = Coverage()
