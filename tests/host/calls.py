@@ -61,8 +61,9 @@ class Run:
         if name == 'propose':
             result, left = self.proposal(model, got)
         else:
-            result, front = outcome(name, model, [a.get() if isinstance(a, Buffer) else a for a in arguments])
             left = list(got[1])
+            slices = iter(left[1:])
+            result, front = outcome(name, model, [next(slices) if isinstance(a, Buffer) else a for a in arguments])
             k = 0 if name in EDITS else len(left) - 1
             left[k] = front + left[k][len(front):]
             if name == 'check_sheet' and result == 0:
@@ -149,8 +150,7 @@ class Run:
         numbers = self.arguments.edit(name, model)
         result = self.ask(name, book, model, numbers)
         call, place, record = edit_given(name, numbers)
-        said = {'add': lambda: ledger.add(place, record), 'replace': lambda: ledger.replace(place, record), 'strike': lambda: ledger.strike(place), 'undo': ledger.undo}[call]()
-        self.same(name + ' by the ledger', result, said)
+        self.same(name + ' by the ledger', result, getattr(ledger, call)(*(v for v in (place, record) if v is not None)))
 
     def book(self):
         """A long run of edits on one book; damaged copies of it and checks on the way."""
