@@ -1,6 +1,6 @@
 """All tests of the program.
 
-    all.py [COUNT]        COUNT random inputs, 4000 where none is given
+    all.py [COUNT]        COUNT random inputs, 4000 where none is given; what they cover is judged from 4000 on
 
 Prints what failed, with the seed of a random input (inputs.py SEED writes it), what was seen, and 'N passed, M failed' last."""
 import glob
@@ -8,12 +8,30 @@ import os
 import sys
 
 sys.path.insert(0, os.path.join(os.path.dirname(os.path.abspath(__file__)), '..', 'reference'))
+import building
 import documents
 import inputs
 import limits
 import program
 import streams
 import wrapper
+from coverage import Seen
+
+INPUTS = 4000       # random inputs of a run
+
+# In how many inputs each test must see a kind of input, a message or a verdict: somewhat less often than it does.
+EXAMPLES = {'input': 12, 'SHEET': 8, 'FAIL': 3, 'PASS': 8, 'GLOBAL LOW': 2, 'GLOBAL NONE': 1, 'GLOBAL PASS': 5, 'LINE k UNREADABLE': 1, 'NO PROPOSAL': 1,
+            'REFUSED 1': 1, 'REFUSED 11': 1, 'REFUSED 16': 1, **{'LINE k REFUSED %d' % no: 1 for no in range(2, 9)}}
+NAMED = {'input': 46, 'SHEET': 20, 'LOOSE': 7, 'PASS': 13, 'LINE k UNREADABLE': 19, 'LINE k REFUSED 8': 3, 'NO PROPOSAL': 6, 'REFUSED 1': 13, 'REFUSED 10': 6, 'REFUSED 12': 1}
+LIMITS = {'input': 122, 'GLOBAL LOW': 30, 'GLOBAL PASS': 60, 'GLOBAL HIGH': 30, 'GLOBAL NONE': 2}
+PIECES = {'input': 100, 'SHEET': 20, 'LINE k UNREADABLE': 40, 'LINE k REFUSED 7': 30, 'NO PROPOSAL': 3, 'REFUSED 1': 15, 'REFUSED 10': 15, 'REFUSED 11': 12, 'REFUSED 14': 8,
+          **{kind.__name__: share for kind, share in inputs.KINDS}}
+FAILING = {'input': 300, 'a sheet withheld': 50, 'within a line': 75, 'between lines': 120, 'messages': 100, 'no message': 90, 'a refused opening': 40}
+RANDOM = {'input': INPUTS, 'SHEET': 1000, 'PASS': 700, 'FAIL': 600, 'LOOSE': 400, 'GLOBAL PASS': 400, 'GLOBAL HIGH': 400, 'GLOBAL NONE': 80, 'GLOBAL LOW': 10,
+          'LINE k UNREADABLE': 1500, 'NO PROPOSAL': 120, 'REFUSED 1': 700, 'REFUSED 10': 500, 'REFUSED 11': 500, 'REFUSED 12': 20, 'REFUSED 13': 15, 'REFUSED 14': 150,
+          'REFUSED 15': 6, 'REFUSED 16': 60, 'LINE k REFUSED 2': 120, 'LINE k REFUSED 3': 150, 'LINE k REFUSED 4': 80, 'LINE k REFUSED 5': 500, 'LINE k REFUSED 6': 120,
+          'LINE k REFUSED 7': 1000, 'LINE k REFUSED 8': 500, 'full_size': INPUTS // inputs.FULL_EVERY, 'as the reference': 3900,
+          **{kind.__name__: INPUTS // len(inputs.WHEEL) * share - INPUTS // inputs.FULL_EVERY for kind, share in inputs.KINDS}}
 
 
 class Tally:
@@ -30,48 +48,82 @@ class Tally:
 
 def examples(tally):
     """Each input of examples/ against the output beside it, and that against the reference."""
+    seen = Seen()
     for path in sorted(glob.glob(os.path.join(program.ROOT, 'examples', '*.txt'))):
         name = os.path.relpath(path, program.ROOT)
         with open(path, 'rb') as source, open(path[:-4] + '.sheet', 'rb') as beside:
             data, want = source.read(), beside.read()
         got = program.output(data)
+        seen.add(got, 'input')
         tally.add(name, None if got == want else program.first_difference(got, want))
         tally.add(name + ' by the reference', program.Expected(data).difference(want))
+    tally.add('coverage of the examples', seen.lacking(EXAMPLES))
     for name, survey in documents.SURVEYS.items():
         with open(os.path.join(program.ROOT, 'examples', name + '.txt'), encoding='ascii') as source:
             tally.add('examples/%s.txt by the document' % name, None if source.read() == documents.text(*survey()) else 'is not what documents.py writes')
 
 
+def named(tally):
+    """Inputs that a random one seldom hits, against the reference; and both sides of the limits of the global test."""
+    seen = Seen()
+    for name, data in inputs.NAMED.items():
+        got = program.output(data)
+        seen.add(got, 'input')
+        tally.add(name, program.Expected(data).difference(got))
+    tally.add('coverage of the named inputs', seen.lacking(NAMED))
+    seen = Seen()
+    for data, last in limits.cases():
+        got = program.output(data).split(b'\n')[-2]
+        seen.add(got, 'input')
+        tally.add('limits of the global test', None if got == last else 'the last line is %r, not %r' % (got, last))
+    tally.add('coverage of the limits', seen.lacking(LIMITS))
+
+
+def interrupted(tally):
+    """Random inputs that come in pieces, and random inputs that fail midway."""
+    seen = Seen()
+    for seed in range(100):
+        kind, data = inputs.made(seed)
+        wrong, got = streams.pieces(seed, data)
+        seen.add(got, 'input', kind)
+        tally.add('seed %d in pieces' % seed, wrong)
+    tally.add('coverage of inputs in pieces', seen.lacking(PIECES))
+    seen = Seen()
+    for seed in range(300):
+        wrong, kinds = streams.cut(seed)
+        seen.add(b'', 'input', *kinds)
+        tally.add('seed %d, failing midway' % seed, wrong)
+    tally.add('coverage of failing inputs', seen.lacking(FAILING))
+
+
 def differential(tally, count):
     """Random inputs from the seeds 0 .. COUNT - 1: the program against the reference."""
-    kinds, sheets, same = {}, 0, 0
+    seen = Seen()
     for seed in range(count):
         kind, data = inputs.made(seed)
         expected = program.Expected(data)
         got = program.output(data)
         tally.add('seed %d (%s)' % (seed, kind), expected.difference(got))
-        kinds[kind] = kinds.get(kind, 0) + 1
-        sheets += b'SHEET ' in got
-        same += got == expected.text
-    print('%d random inputs (%s), %d of them with a sheet; %d printed byte for byte as the reference has it, the others with a proposal of the engine within its promises'
-          % (count, ', '.join('%s %d' % item for item in sorted(kinds.items())), sheets, same))
+        seen.add(got, 'input', kind, *(['as the reference'] if got == expected.text else []))
+    if count >= INPUTS:
+        tally.add('coverage of the random inputs', seen.lacking(RANDOM))
+    print('%d random inputs, of them %s' % (count, ', '.join('%d %s' % (number, kind) for kind, number in sorted(seen.counts.items()) if kind != 'input')))
+    print('Those that are not printed byte for byte as the reference has it have a proposal of the engine within its promises')
 
 
 def main():
-    count = int(sys.argv[1]) if len(sys.argv) > 1 else 4000
+    count = int(sys.argv[1]) if len(sys.argv) > 1 else INPUTS
     tally = Tally()
-    for test in wrapper.TESTS:
+    for test in wrapper.TESTS + building.TESTS:
         tally.add('bin/adjust, ' + test.__name__, test())
     examples(tally)
-    for name, data in inputs.NAMED.items():
-        tally.add(name, program.Expected(data).difference(program.output(data)))
-    for data, last in limits.cases():
-        got = program.output(data).split(b'\n')[-2]
-        tally.add('limits of the global test', None if got == last else 'the last line is %r, not %r' % (got, last))
+    named(tally)
     for test in streams.TESTS:
         tally.add(test.__name__, test())
-    for seed in range(100):
-        tally.add('seed %d in pieces' % seed, streams.pieces(seed, inputs.made(seed)[1]))
+    for command in (program.PROGRAM, program.WRAPPER):
+        for test in streams.BOTH:
+            tally.add('%s, %s' % (os.path.relpath(command, program.ROOT), test.__name__), test(command))
+    interrupted(tally)
     differential(tally, count)
     print('%d passed, %d failed' % (tally.passed, tally.failed))
     sys.exit(tally.failed != 0)

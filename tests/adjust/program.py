@@ -6,6 +6,7 @@ import sys
 HERE = os.path.dirname(os.path.abspath(__file__))
 ROOT = os.path.dirname(os.path.dirname(HERE))
 PROGRAM = os.path.join(ROOT, 'target', 'bin', 'adjust')
+WRAPPER = os.path.join(ROOT, 'bin', 'adjust')
 sys.path.insert(0, os.path.join(HERE, '..', 'reference'))
 import lines
 import proposals

@@ -1,20 +1,28 @@
-"""How the program reads and writes: line by line, in any pieces, in little memory and a small stack, and with its output closed. Each test gives what is wrong, or None."""
+"""How the program reads and writes: line by line, in any pieces, in little memory and a small stack, with its output closed, and with an input that fails. Each test
+gives what is wrong, or None. Those of BOTH take the command: they hold of the program and of bin/adjust alike."""
+import ctypes
+import mmap
 import os
 import random
 import resource
 import select
+import signal
 import subprocess
 import threading
 import time
 
 import inputs
-from program import Expected, LIMIT, PROGRAM
+import lines
+from program import Expected, LIMIT, PROGRAM, WRAPPER
 
 HEAD = inputs.HEAD
+RECORD = b'H 1 1 2 1000 100\n'
+SHEET = b'SHEET 1 RECORDS 1 UNKNOWNS\n1 0 0 100000 0 0 0\n2 0 0 101000 0 0 10737418\n1 0 LOOSE\nGLOBAL 0 0 NONE\n'       # of HEAD and RECORD
+READ_ERROR = b'adjust: the input could not be read to its end; nothing after this point was applied, and no sheet is printed\n'
 
 
-def started(**options):
-    return subprocess.Popen([PROGRAM], stdin=subprocess.PIPE, stdout=subprocess.PIPE, stderr=subprocess.PIPE, bufsize=0, **options)
+def started(command=PROGRAM):
+    return subprocess.Popen([command], stdin=subprocess.PIPE, stdout=subprocess.PIPE, stderr=subprocess.PIPE, bufsize=0)
 
 
 def read_for(pipe, seconds):
@@ -33,9 +41,9 @@ def ended(process):
     return rest, None if (status, errors) == (0, b'') else 'status %d, error text %r' % (status, errors)
 
 
-def typed():
+def typed(command):
     """Each message is read before the next line is typed."""
-    process = started()
+    process = started(command)
     process.stdin.write(HEAD)
     wrong = None
     typed_lines = [(b'Q', b'UNREADABLE'), (b'U', b'REFUSED 8'), (b'D 1', b'REFUSED 7'), (b'H 0 1 2 1000 100', b'REFUSED 2'), (b'H 1 1 2 201001 100', b'REFUSED 6'), (b'', b'UNREADABLE')]
@@ -47,12 +55,14 @@ def typed():
         if got != b'LINE %d %s\n' % (k, answer):
             wrong = 'after line %d came %r' % (k, got)
             break
-    return ended(process)[1] or wrong
+    process.stdin.write(RECORD)
+    rest, bad = ended(process)
+    return bad or wrong or (None if rest == SHEET else 'at the end %r' % rest)
 
 
-def typed_by_bytes():
+def typed_by_bytes(command):
     """A line that comes byte by byte is answered at its end, and not before."""
-    process = started()
+    process = started(command)
     process.stdin.write(HEAD)
     wrong = None
     for b in b'H 1 1 2 x 100':
@@ -62,13 +72,14 @@ def typed_by_bytes():
     process.stdin.write(b'\n')
     if read_for(process.stdout, 10) != b'LINE 3 UNREADABLE\n':
         wrong = 'no answer at the end of the line'
+    process.stdin.write(RECORD)
     rest, bad = ended(process)
-    return bad or wrong or (None if rest == b'NO PROPOSAL\n' else 'at the end %r' % rest)
+    return bad or wrong or (None if rest == SHEET else 'at the end %r' % rest)
 
 
-def opening_refused():
+def opening_refused(command):
     """A refused opening ends the run while the input is still open."""
-    process = started()
+    process = started(command)
     process.stdin.write(b'S 1 K 0 0 0\nU\n')
     got = read_for(process.stdout, 10)
     wrong = None if got == b'REFUSED 1\n' else 'the answer is %r' % got
@@ -89,7 +100,7 @@ def ended_after_close(process):
 
 
 def pieces(seed, data):
-    """The input written in pieces cut at random places."""
+    """The input written in pieces cut at random places: what is wrong, and what the program printed."""
     rng = random.Random(seed)
     process = started()
     got = []
@@ -112,13 +123,13 @@ def pieces(seed, data):
     process.stdout.close()
     process.stderr.close()
     if (status, errors) != (0, b''):
-        return 'status %d, error text %r' % (status, errors)
-    return Expected(data).difference(got[0])
+        return 'status %d, error text %r' % (status, errors), got[0]
+    return Expected(data).difference(got[0]), got[0]
 
 
-def closed_output():
-    """A reader that goes away after the first line, as `adjust | head -1`: the program ends soon and without a word."""
-    process = started()
+def closed_output(command):
+    """A reader that goes away after the first line, as `adjust | head -1`: the program ends soon and without a word, and bin/adjust with it."""
+    process = started(command)
     wrong = None
     process.stdin.write(HEAD + b'Q\n')
     first = read_for(process.stdout, 10)
@@ -126,23 +137,24 @@ def closed_output():
     try:
         for _ in range(200):
             process.stdin.write(b'Q\n' * 5000)
+        wrong = 'all of the input was read'
     except BrokenPipeError:
         pass
+    errors = process.stderr.read()                  # comes to its end while the input is still open
+    status = process.wait(LIMIT)
     try:
         process.stdin.close()
     except BrokenPipeError:
         pass
-    errors = process.stderr.read()
-    process.wait(LIMIT)
     process.stderr.close()
     if first != b'LINE 3 UNREADABLE\n':
         wrong = 'the first line is %r' % first
-    return 'error text %r' % errors if errors else wrong
+    return 'status %d, error text %r' % (status, errors) if errors or status not in (-signal.SIGPIPE, 128 + signal.SIGPIPE) else wrong
 
 
-def head_of_output():
+def head_of_output(command):
     """The same by the shell."""
-    done = subprocess.run(['sh', '-c', '"$0" | head -n 1', PROGRAM], input=HEAD + b'Q\n' * 200_000, stdout=subprocess.PIPE, stderr=subprocess.PIPE, timeout=LIMIT)
+    done = subprocess.run(['sh', '-c', '"$0" | head -n 1', command], input=HEAD + b'Q\n' * 200_000, stdout=subprocess.PIPE, stderr=subprocess.PIPE, timeout=LIMIT)
     return None if (done.stdout, done.stderr) == (b'LINE 3 UNREADABLE\n', b'') else 'printed %r, error text %r' % (done.stdout[:100], done.stderr)
 
 
@@ -209,4 +221,87 @@ def memory():
     return None if many <= few + 256 else 'the most memory grows from %d to %d KiB' % (few, many)
 
 
-TESTS = [typed, typed_by_bytes, opening_refused, closed_output, head_of_output, full_disk, small_stack, memory]
+FAR, LARGEST = 1 << 40, 1 << 30       # an address far from all that Python maps, and more bytes than an input has
+
+
+def failing_input(data):
+    """A descriptor that gives these bytes, and then fails with EIO: this process's own memory at FAR, where nothing else is, from where the bytes stand to a page that
+    is not there. It serves until the next call."""
+    libc = ctypes.CDLL(None, use_errno=True)
+    libc.mmap.restype, libc.mmap.argtypes = ctypes.c_void_p, [ctypes.c_void_p, ctypes.c_size_t] + [ctypes.c_int] * 3 + [ctypes.c_long]
+    libc.munmap.argtypes = [ctypes.c_void_p, ctypes.c_size_t]
+    libc.munmap(FAR, LARGEST)
+    size = -(-len(data) // mmap.PAGESIZE) * mmap.PAGESIZE
+    if size and libc.mmap(FAR, size, mmap.PROT_READ | mmap.PROT_WRITE, mmap.MAP_PRIVATE | mmap.MAP_ANONYMOUS, -1, 0) != FAR:
+        raise OSError('the address is taken')
+    start = FAR + size - len(data)
+    ctypes.memmove(start, data, len(data))
+    descriptor = os.open('/proc/self/mem', os.O_RDONLY)
+    os.lseek(descriptor, start, os.SEEK_SET)
+    return descriptor
+
+
+def answered(command, descriptor):
+    done = subprocess.run([command], stdin=descriptor, stdout=subprocess.PIPE, stderr=subprocess.PIPE, timeout=LIMIT)
+    os.close(descriptor)
+    return done.returncode, done.stdout, done.stderr
+
+
+def after_read_error(command, messages):
+    """What a run with a failed read gives: the messages, nothing else on standard output, and the reason on standard error."""
+    return 2 if command == WRAPPER else 0, messages, READ_ERROR
+
+
+def read_errors(command):
+    """An input that cannot be read, or only in part: what its whole lines print, and no sheet, whatever it has."""
+    cases = {'no byte': (b'', b''), 'no station yet': (b'S 1', b''), 'stations alone': (HEAD, b''), 'bad stations alone': (b'S 2 K 0 0 0\n', b'LINE 1 UNREADABLE\n'),
+             'at the end of a line': (HEAD + b'U\n', b'LINE 3 REFUSED 8\n'), 'within a line': (HEAD + b'Q\nU', b'LINE 3 UNREADABLE\n'),
+             'before the last line end': (HEAD + RECORD[:-1], b''), 'a proposal': (HEAD + RECORD, b''), 'a solution': (HEAD + b'U\n' + RECORD + b'X 0\nM 10737418\n', b'LINE 3 REFUSED 8\n'),
+             'a refused check': (HEAD + RECORD + b'X 9\nM 0\n', b''), 'many chunks': (HEAD + b'Q\n' * 5000 + RECORD, b''.join(b'LINE %d UNREADABLE\n' % k for k in range(3, 5003)))}
+    for name, (data, messages) in cases.items():
+        got = answered(command, failing_input(data))
+        if got != after_read_error(command, messages):
+            return '%s: %r' % (name, got)
+    got = answered(command, failing_input(b'S 1 K 0 0 0\nU\n'))        # a refused opening ends the run before the error
+    if got != (0, b'REFUSED 1\n', b''):
+        return 'a refused opening: %r' % (got,)
+    got = answered(command, os.open('/', os.O_RDONLY))
+    if got != after_read_error(command, b''):
+        return 'a folder: %r' % (got,)
+    return None
+
+
+class Unfinished(lines.Run):
+    """The reference on an input whose end is never reached."""
+
+    def __init__(self):
+        super().__init__(None)
+
+    def finish(self):
+        pass
+
+    def until_error(self, data):
+        """What the whole lines of the data print, and whether a refused opening ended the run."""
+        whole = lines.split(data[:data.rfind(b'\n') + 1])
+        self.run(b'\n'.join(whole) + b'\n' if whole else b'')
+        refused = self.ledger is None
+        opened = any(line.split(b' ', 1)[0] != b'S' for line in whole)
+        return b''.join(self.out[:-1] if refused and not opened else self.out), refused and opened
+
+
+def cut(seed):
+    """A random input that fails at a random place: what is wrong, and what kind of case it was."""
+    rng = random.Random(seed)
+    data = inputs.made(seed)[1]
+    at = rng.choice((rng.randrange(len(data) + 1), data.rfind(b'\n', 0, rng.randrange(len(data) + 1)) + 1, len(data)))
+    messages, ended_early = Unfinished().until_error(data[:at])
+    want = (0, messages, b'') if ended_early else after_read_error(PROGRAM, messages)
+    got = answered(PROGRAM, failing_input(data[:at]))
+    kinds = ['a refused opening'] if ended_early else ['messages' if messages else 'no message', 'within a line' if data[:at][-1:] not in (b'', b'\n') else 'between lines']
+    if not ended_early and b'SHEET ' in Expected(data[:at]).text:
+        kinds.append('a sheet withheld')
+    return None if got == want else '%r, not %r' % (got, want), kinds
+
+
+BOTH = [typed, typed_by_bytes, opening_refused, closed_output, head_of_output, read_errors]
+TESTS = [full_disk, small_stack, memory]
