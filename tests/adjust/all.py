@@ -12,6 +12,7 @@ import building
 import documents
 import inputs
 import limits
+import pages
 import program
 import streams
 import wrapper
@@ -114,7 +115,7 @@ def differential(tally, count):
 def main():
     count = int(sys.argv[1]) if len(sys.argv) > 1 else INPUTS
     tally = Tally()
-    for test in wrapper.TESTS + building.TESTS:
+    for test in wrapper.TESTS + building.TESTS + pages.TESTS:
         tally.add('bin/adjust, ' + test.__name__, test())
     examples(tally)
     named(tally)
