@@ -177,6 +177,28 @@ def full_disk():
     return None if done.returncode == 2 and b'No space left' in done.stderr else 'status %d, error text %r' % (done.returncode, done.stderr)
 
 
+def closed_input():
+    """No standard input at all: a message, and status 2; a file is read all the same."""
+    for line, want in (('"$0" <&-', (2, b'', b'adjust: standard input is closed\n')), ('printf "S 1 K 0 0 0\n" > "$1"; "$0" "$1" <&-', (0, b'REFUSED 1\n', b''))):
+        with tempfile.NamedTemporaryFile() as file:
+            done = subprocess.run(['sh', '-c', line, WRAPPER, file.name], stdout=subprocess.PIPE, stderr=subprocess.PIPE, timeout=LIMIT)
+        if (done.returncode, done.stdout, done.stderr) != want:
+            return '%s: %s' % (line, shown((done.returncode, done.stdout, done.stderr)))
+    return None
+
+
+def interrupted_run():
+    """A Ctrl-C while lines are typed: bin/adjust and all that it started end."""
+    process = subprocess.Popen([WRAPPER], stdin=subprocess.PIPE, stdout=subprocess.PIPE, stderr=subprocess.PIPE, bufsize=0, start_new_session=True)
+    process.stdin.write(inputs.HEAD + b'Q\n')
+    first = process.stdout.readline()
+    os.killpg(process.pid, signal.SIGINT)
+    rest, errors = process.communicate(timeout=LIMIT)           # comes to its end when the last of them has closed its output
+    if (process.returncode, first, rest, errors) != (-signal.SIGINT, b'LINE 3 UNREADABLE\n', b'', b''):
+        return shown((process.returncode, first + rest, errors))
+    return None
+
+
 def appended():
     """An output file that is appended to keeps what it had."""
     with tempfile.NamedTemporaryFile() as file:
@@ -206,4 +228,4 @@ def memory():
     return None if few and many and many <= few + 1024 else 'the most memory grows from %s to %s KiB' % (few, many)
 
 
-TESTS = [standard_input, names, mistakes, help_text, without_toolchain, carriage_returns, advice, statuses, full_disk, appended, memory]
+TESTS = [standard_input, names, mistakes, help_text, without_toolchain, carriage_returns, advice, statuses, full_disk, closed_input, interrupted_run, appended, memory]
