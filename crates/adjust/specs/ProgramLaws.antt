@@ -1,20 +1,22 @@
 -- Turn after turn. Assumes nothing.
-use Prim.Native.Nat.{ℕ}
+use Prim.Native.Nat.{ℕ, _≤_}
 use mathlib.Core.Path.{_≡_, refl, sym, ap, _∙_}
 use mathlib.Core.Bool.{Bool, true, false, cond}
 use mathlib.Core.List.{List, [], _∷_}
 use native.Mathlib.Omega.{arith}
-use lib.ListN.{length}
+use lib.ListN.{length, length-take}
+use lib.IntN.{ℤ}
+use Rattle.io.specs.Counts.{clamped}
 use Rattle.text.specs.Lines.{Kept, blank}
 use Rattle.input_lines.specs.Runs.{Phase, unopened, opened, ended, Run, start}
-use Rattle.adjustment.specs.declared.Progress.{Progress}
-use Rattle.adjustment.specs.declared.Progress.the-variants as progress
+use Rattle.night_print.specs.declared.Progress.{Progress}
+use Rattle.night_print.specs.declared.Progress.the-variants as progress
 use Rattle.adjustment.specs.Chunks.{Takes}
-use Rattle.adjustment.specs.Ends.{Closes}
-use Rattle.adjustment.specs.Steps.{isEnded, Steps}
-use Rattle.adjustment.specs.Whole.{Chunks, no-more, chunks-more, whole-text, stopped-text}
+use Rattle.night_print.specs.Closing.{Concludes}
+use Rattle.night_print.specs.Steps.{isEnded, Steps}
+use Rattle.night_print.specs.Whole.{Chunks, no-more, chunks-more, whole-text, stopped-text}
 use Rattle.adjust.specs.declared.Finish.the-variants.{Printed, Refused, Unread, Unwritten}
-use Rattle.adjust.specs.Program.{Ran, printed, refused, unread, unwritten}
+use Rattle.adjust.specs.Program.{readGave, ProgramEnds, printed, refused, unread, unwritten}
 
 -- the turns so far have led to the run r, with k held of a line
 pub record Led (r : Run) (k : Kept) : Type 0 where
@@ -24,6 +26,10 @@ pub record Led (r : Run) (k : Kept) : Type 0 where
 
 pub led-start : {r : Run} {k : Kept} → r ≡ start → k ≡ blank → Led r k
 led-start e b = rw (e, b) (record { chunks = []; bytes = []; led = no-more })
+
+-- a read gives no more than the chunk holds
+pub gave-few : (answer : ℤ) (chunk : List ℕ) → length (readGave answer chunk) ≤ length chunk
+gave-few answer chunk = let e = length-take (clamped answer (length chunk)) chunk in omega arith
 
 -- ════ what a turn's progress says of the step
 differ : {A : Type 0} → _≡_ {A = ℕ} 0 1 → A
@@ -44,15 +50,6 @@ module _ {r r₁ : Run} {k k₁ : Kept} {failed : Bool} {came before after : Lis
       by false [] f g = let z = s .ends f g .0 in differ (cc)
       by false (b ∷ c) f g = s .takes f (λ z. differ (cc)) .1
 
-  -- a turn after which the program reads on has read a byte
-  pub some-came : p ≡ progress.Reading → length came ≡ 0 → ⊥
-  some-came e z = by failed came refl refl
-    where
-      by : (f : Bool) (c : List ℕ) → failed ≡ f → came ≡ c → ⊥
-      by true c f g = let z = s .unread f .0 in differ (cc)
-      by false [] f g = let z = s .ends f g .0 in differ (cc)
-      by false (b ∷ c) f g = let l = ap length g in omega arith
-
   pub was-ended : p ≡ progress.Refused → Takes r k came before r₁ k₁ n after × (r₁ .phase ≡ ended)
   was-ended e = by failed came refl refl
     where
@@ -67,14 +64,14 @@ module _ {r r₁ : Run} {k k₁ : Kept} {failed : Bool} {came before after : Lis
           let t = s .takes f (λ z. differ (cc)) in
           (t .1, last (isEnded (r₁ .phase)) refl (t .0))
 
-  pub closed : p ≡ progress.Finished → Closes r k before n after
+  pub closed : p ≡ progress.Finished → Concludes r k before n after
   closed e = by failed came refl refl
     where
-      never : (t : Bool) → p ≡ cond t progress.Refused progress.Reading → Closes r k before n after
+      never : (t : Bool) → p ≡ cond t progress.Refused progress.Reading → Concludes r k before n after
       never true q = differ (cc)
       never false q = differ (cc)
 
-      by : (f : Bool) (c : List ℕ) → failed ≡ f → came ≡ c → Closes r k before n after
+      by : (f : Bool) (c : List ℕ) → failed ≡ f → came ≡ c → Concludes r k before n after
       by true c f g = let z = s .unread f .0 in differ (cc)
       by false [] f g = s .ends f g .1
       by false (b ∷ c) f g = never (isEnded (r₁ .phase)) (s .takes f (λ z. differ (cc)) .0)
@@ -84,17 +81,17 @@ module _ {r r₁ : Run} {k k₁ : Kept} {failed : Bool} {came before after : Lis
     pub led-on : p ≡ progress.Reading → Led r₁ k₁
     led-on e = record { chunks = _; bytes = _; led = chunks-more (l .led) (took e) }
 
-    pub ran-printed : p ≡ progress.Finished → Ran Printed
+    pub ran-printed : p ≡ progress.Finished → ProgramEnds Printed
     ran-printed e = printed (l .led) (closed e) (whole-text (l .led) (closed e))
 
-    pub ran-refused : p ≡ progress.Refused → Ran Refused
+    pub ran-refused : p ≡ progress.Refused → ProgramEnds Refused
     ran-refused e =
         let t = was-ended e in
         let c = chunks-more (l .led) (t .0) in
         refused c (λ rest. stopped-text rest c (t .1))
 
-pub ran-unread : {r : Run} {k : Kept} → Led r k → Ran Unread
+pub ran-unread : {r : Run} {k : Kept} → Led r k → ProgramEnds Unread
 ran-unread l = unread (l .led)
 
-pub ran-unwritten : {r : Run} {k : Kept} → Led r k → Ran Unwritten
+pub ran-unwritten : {r : Run} {k : Kept} → Led r k → ProgramEnds Unwritten
 ran-unwritten l = unwritten (l .led)

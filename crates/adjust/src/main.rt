@@ -1,23 +1,15 @@
 // Reads the lines of a survey from standard input, applies them, checks, and prints: document 01's "The night print". What is printed is settled by the
-// contracts of `adjustment`; here bytes are read and written. Each chunk's messages are written before the next is read.
-use adjustment::Progress;
+// contracts of `night_print`; here bytes are read and written. Each chunk's messages are written before the next is read.
 use adjustment::Taken;
+use night_print::Progress;
+use night_print::Stepped;
 ghost use mathlib.Core.Path.{_≡_};
 ghost use Prim.Native.Nat.{_+_, _≤_, _<_};
-ghost use lib.ListN.{length, take};
+ghost use lib.ListN.{length};
 ghost use Rattle.text.specs.Lines.{holds};
 ghost use Rattle.input_lines.specs.States.{runOf, Ready};
-ghost use Rattle.adjustment.specs.Steps.{Steps, Goes};
-ghost use Rattle.adjust.specs.Program.{Ran};
-
-// A turn of the program: how many bytes read gave and whether it failed, the run afterwards and how it goes on, and whether the output took what was printed.
-struct Step {
-    got: usize,
-    failed: bool,
-    taken: Taken,
-    progress: Progress,
-    written: bool,
-}
+ghost use Rattle.night_print.specs.Steps.{Steps, Goes};
+ghost use Rattle.adjust.specs.Program.{readFailed, readGave, ProgramEnds};
 
 // How the program ends: all is printed, the input having ended or the opening having been refused; the input could not be read to its end; the output is closed.
 pub enum Finish {
@@ -27,40 +19,31 @@ pub enum Finish {
     Unwritten,
 }
 
-// Reads the next chunk, takes its lines, and writes what they print: the front of `out` is what is handed to write.
+// Reads the next chunk and takes its lines: the front of `chunk` is what read gave, `answer` what it answered, and the front of `out` is to be written next.
 fn turn(
     taken: Taken,
+    answer: &mut isize,
     line: &mut [u8],
     list: &mut [i64],
     x: &mut [i64],
     m: &mut [i64],
     chunk: &mut [u8],
     out: &mut [u8],
-) -> Step
+) -> Stepped
     requires { ⌜ Ready (taken .state) (taken .book) (now list) (now x) (now m) ⌝ }
     requires { ⌜ (length (now line) ≡ 50000) × (taken .len ≤ 50000) × (taken .state .lines + 1025 < 18446744073709551616) × (length (now chunk) ≡ 1024) × (86016 ≤ length (now out)) ⌝ }
-    ensures { λ t. ⌜ Steps (runOf (taken .state) (taken .book) (now (list .entry)) (now (x .entry)) (now (m .entry))) (holds (now (line .entry)) (taken .len) (taken .over)) (t .failed) (take (t .got) (now (chunk .exit))) (now (out .entry)) (t .progress) (runOf (t .taken .state) (t .taken .book) (now (list .exit)) (now (x .exit)) (now (m .exit))) (holds (now (line .exit)) (t .taken .len) (t .taken .over)) (t .taken .printed) (now (out .exit)) ⌝ }
-    ensures { λ t. ⌜ Goes taken (take (t .got) (now (chunk .exit))) (t .progress) (t .taken) (now (list .exit)) (now (x .exit)) (now (m .exit)) (now (out .exit)) × (t .got ≤ 1024) ⌝ }
+    ensures { λ s. ⌜ Steps (runOf (taken .state) (taken .book) (now (list .entry)) (now (x .entry)) (now (m .entry))) (holds (now (line .entry)) (taken .len) (taken .over)) (readFailed (now (answer .exit))) (readGave (now (answer .exit)) (now (chunk .exit))) (now (out .entry)) (s .progress) (runOf (s .taken .state) (s .taken .book) (now (list .exit)) (now (x .exit)) (now (m .exit))) (holds (now (line .exit)) (s .taken .len) (s .taken .over)) (s .printed) (now (out .exit)) ⌝ }
+    ensures { λ s. ⌜ Goes taken (readGave (now (answer .exit)) (now (chunk .exit))) (s .progress) (s .taken) (s .printed) (now (list .exit)) (now (x .exit)) (now (m .exit)) (now (out .exit)) ⌝ }
 {
-    let answer = libc::read(0, chunk);
-    let got = io::count(answer, chunk);
-    let failed = answer < 0;
-    let s = adjustment::step(taken, failed, &chunk[..got], line, list, x, m, out);
-    let next = s.taken;
-    let progress = s.progress;
-    let printed = next.printed;
-    let written = io::write_all(1, &out[0..printed]);
-    Step {
-        got,
-        failed,
-        taken: next,
-        progress,
-        written,
-    }
+    let got = libc::read(0, chunk);
+    *answer = got;
+    let n = io::count(got, chunk);
+    let failed = got < 0;
+    night_print::step(taken, failed, &chunk[..n], line, list, x, m, out)
 }
 
-// Takes chunk after chunk. The numbers of lines are 64-bit, so an input of 2^64 bytes would be too long: `left` counts down from there, and an input that is longer
-// counts as one that could not be read to its end.
+// Takes chunk after chunk, and writes what each prints before the next is read. The numbers of lines are 64-bit: after 2^54 reads, of at most 1,024 bytes each, the input counts as one that
+// could not be read to its end.
 fn run(
     line: &mut [u8],
     list: &mut [i64],
@@ -70,16 +53,16 @@ fn run(
     out: &mut [u8],
 ) -> Finish
     requires { ⌜ (length (now line) ≡ 50000) × (132 ≤ length (now list)) × (48 ≤ length (now x)) × (2304 ≤ length (now m)) × (length (now chunk) ≡ 1024) × (86016 ≤ length (now out)) ⌝ }
-    ensures { λ f. ⌜ Ran f ⌝ }
+    ensures { λ f. ⌜ ProgramEnds f ⌝ }
 {
     let mut taken = adjustment::begin();
-    let mut left: usize = 18446744073709551615;
-    while 4096 <= left {
-        let t = turn(taken, line, list, x, m, chunk, out);
-        let got = t.got;
-        let next = t.taken;
-        let progress = t.progress;
-        if !t.written {
+    let mut answer: isize = 0;
+    let mut reads: usize = 0;
+    while reads < 18014398509481983 {
+        let s = turn(taken, &mut answer, line, list, x, m, chunk, out);
+        let printed = s.printed;
+        let progress = s.progress;
+        if !io::write_all(1, &out[0..printed]) {
             return Finish::Unwritten;
         }
         match progress {
@@ -88,8 +71,9 @@ fn run(
             Progress::Unread => return Finish::Unread,
             Progress::Reading => {}
         }
+        let next = s.taken;
         taken = next;
-        left -= got;
+        reads += 1;
     }
     Finish::Unread
 }

@@ -2,12 +2,10 @@
 use Prim.Native.Nat.{ℕ, _≤_}
 use mathlib.Core.Path.{_≡_}
 use mathlib.Core.List.{List, [], _++_}
-use lib.ListN.{take, drop}
 use Rattle.book.specs.declared.Book.{Book}
-use Rattle.text.specs.Lines.{Kept, lastKept}
 use Rattle.text.specs.Writing as writing
 use Rattle.reports.specs.Reports.{checkSays, Offer, Offers, offerSays}
-use Rattle.input_lines.specs.Runs.{Phase, unopened, opened, ended, Given, none, given, Run, openingSays, openRun, runAfter, saysAll}
+use Rattle.input_lines.specs.Runs.{Phase, unopened, opened, ended, Given, none, given, Run, openingSays, openRun}
 
 -- ════ the end
 -- "test 1 judges their counts …, and where only one is given the other is empty"; "Without a readable X or M line the engine proposes"
@@ -43,12 +41,3 @@ pub record Ends (r : Run) (before : List ℕ) (next : ℕ) (after : List ℕ) : 
   pub offers : OffersAt r offer
   pub written : writing.Written before 0 (endSays r offer) next after
   pub small : next ≤ 32188
-
--- ════ the end of the input with k held of a line: where that is a line, one that lacks its LF, it is obeyed first. What it and the end print stands at the
--- front of `before`, which leaves `after`
-pub record Closes (r : Run) (k : Kept) (before : List ℕ) (next : ℕ) (after : List ℕ) : Type 0 where
-  pub offer : Offer
-  pub offers : OffersAt (runAfter r (lastKept k)) offer
-  pub printed : take next after ≡ saysAll r (lastKept k) ++ endSays (runAfter r (lastKept k)) offer
-  pub beyond : drop next after ≡ drop next before
-  pub small : next ≤ 32272

@@ -2,11 +2,3 @@ pub mod Chunks
 pub mod ChunkLaws
 pub mod Ends
 pub mod EndLaws
-pub mod Steps
-pub mod StepLaws
-pub mod Print
-pub mod PrintLaws
-pub mod Whole
-pub mod Texts
-pub mod TailLaws
-pub mod Examples

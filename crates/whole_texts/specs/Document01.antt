@@ -1,5 +1,5 @@
 -- Document 01's "The night print": for its own six lines of input the program prints exactly its own six lines of output. Assumes nothing.
---   printed    adjustment, Print   what the program prints for a text
+--   printed    night_print, Print   what the program prints for a text
 --   cases-hold cases, CasesHold    what the calls and the check give for these lines, "As printed, accepted"
 use Prim.Native.Nat.{ℕ}
 use mathlib.Core.Path.{_≡_, refl, sym, ap, _∙_}
@@ -27,7 +27,7 @@ use Rattle.book.specs.Run.{final, answers}
 use Rattle.book.specs.Rows.{rowNext, rowSays}
 use Rattle.sheet.specs.Sheet.{sheetWords, room}
 use Rattle.sheet.specs.SheetLaws.{sheet-length}
-use Rattle.checks.specs.Checks.{checked, hasRoom, onAcceptance, sheetAfter}
+use Rattle.checks.specs.Checks.{checked, printRoom, onAcceptance, sheetAfter}
 use Rattle.cases.specs.Table.{stationList, level, table}
 use Rattle.cases.specs.Cases.{rowsOf, bookOf, xOf, mOf, filled, enough, Holds, first}
 use Rattle.cases.specs.Brief.{brief-follows}
@@ -43,7 +43,7 @@ use Rattle.reports.specs.Reports.{Offer, kindsAt, kindsBelow, kindsOf, answerSa
 use Rattle.reports.specs.ReportLaws.{kinds-room}
 use Rattle.input_lines.specs.Runs.{unopened, opened, Given, none, given, phaseOpened, openingSays, isUnopened, edits, phaseAfter, givenBy, commandSays, phaseSays}
 use Rattle.adjustment.specs.Ends.{bookEnds, phaseEnds}
-use Rattle.adjustment.specs.Print.{WholeRun, atStart, enters, entersSaying, stationsAfter, lineNext, lineSays, linesNext, linesSay, endPrints, printed}
+use Rattle.night_print.specs.Print.{WholeRun, atStart, lineEnters, entrySays, stationsAfter, lineNext, lineSays, linesNext, linesSay, endPrints, printed}
 
 -- ════ the input, line by line
 -- `S 1 K 0 0 100000`
@@ -127,11 +127,11 @@ stationsRead = record { stations = stations; lines = 2; phase = unopened; correc
 
 module _ (more : List (List ℕ)) where
   read-next : linesNext atStart (STATION-1 ∷ STATION-2 ∷ more) ≡ linesNext stationsRead more
-  unfolding stations STATION-1 STATION-2 linesNext lineNext enters stationsAfter phaseAfter isUnopened brings commandOf fieldsCommand stationOf inTurn kindOf exactly letterOf restFields fieldsOf before numbersOf fieldNumber signedOf isDecimal allDigits valueAfter
+  unfolding stations STATION-1 STATION-2 linesNext lineNext lineEnters stationsAfter phaseAfter isUnopened brings commandOf fieldsCommand stationOf inTurn kindOf exactly letterOf restFields fieldsOf before numbersOf fieldNumber signedOf isDecimal allDigits valueAfter
   read-next = refl
 
   read-says : linesSay atStart (STATION-1 ∷ STATION-2 ∷ more) ≡ linesSay stationsRead more
-  unfolding stations STATION-1 STATION-2 linesSay lineSays lineNext enters entersSaying stationsAfter phaseAfter phaseSays commandSays isUnopened brings commandOf fieldsCommand stationOf inTurn kindOf exactly letterOf restFields fieldsOf before numbersOf fieldNumber signedOf isDecimal allDigits valueAfter
+  unfolding stations STATION-1 STATION-2 linesSay lineSays lineNext lineEnters entrySays stationsAfter phaseAfter phaseSays commandSays isUnopened brings commandOf fieldsCommand stationOf inTurn kindOf exactly letterOf restFields fieldsOf before numbersOf fieldNumber signedOf isDecimal allDigits valueAfter
   read-says = refl
 
 -- ════ the other lines, on an opened book b
@@ -148,8 +148,8 @@ call2 = add (pos 2) (level 1100)
 module _ (b : Book) where
   -- the first H line opens
   module _ (o : phaseOpened (flat stations) unopened ≡ opened b) (s : openingSays (flat stations) unopened ≡ []) where
-    entered : enters stationsRead HEIGHT-1 ≡ enters (withBook b 2 none none) HEIGHT-1
-    unfolding enters phaseOpened HEIGHT-1 letterOf before
+    entered : lineEnters stationsRead HEIGHT-1 ≡ lineEnters (withBook b 2 none none) HEIGHT-1
+    unfolding lineEnters phaseOpened HEIGHT-1 letterOf before
     entered = rw o
 
     opened-next : linesNext stationsRead editLines ≡ linesNext (withBook b 2 none none) editLines
@@ -157,16 +157,16 @@ module _ (b : Book) where
     opened-next = rw entered
 
     opened-says : linesSay stationsRead editLines ≡ linesSay (withBook b 2 none none) editLines
-    unfolding editLines linesSay lineSays lineNext entersSaying openingSays HEIGHT-1 letterOf before
+    unfolding editLines linesSay lineSays lineNext entrySays openingSays HEIGHT-1 letterOf before
     opened-says = rw (s, entered)
 
   edits-next : linesNext (withBook b 2 none none) editLines ≡ withBook (bookNext (bookNext b call1) call2) 6 (given (xOf first)) (given (mOf first))
-  unfolding editLines HEIGHT-1 HEIGHT-2 CORRECTIONS MATRIX linesNext lineNext enters stationsAfter phaseOpened phaseAfter edits isUnopened brings givenBy counted atMost commandOf fieldsCommand otherOf added entryOf exactly letterOf restFields fieldsOf before numbersOf fieldNumber signedOf isDecimal allDigits valueAfter
+  unfolding editLines HEIGHT-1 HEIGHT-2 CORRECTIONS MATRIX linesNext lineNext lineEnters stationsAfter phaseOpened phaseAfter edits isUnopened brings givenBy counted atMost commandOf fieldsCommand otherOf added entryOf exactly letterOf restFields fieldsOf before numbersOf fieldNumber signedOf isDecimal allDigits valueAfter
   edits-next = refl
 
   -- where neither call is refused, nothing is printed
   edits-say : bookSays b call1 ≡ 0 → bookSays (bookNext b call1) call2 ≡ 0 → linesSay (withBook b 2 none none) editLines ≡ []
-  unfolding editLines HEIGHT-1 HEIGHT-2 CORRECTIONS MATRIX linesSay lineSays lineNext enters entersSaying stationsAfter phaseOpened openingSays phaseAfter phaseSays commandSays edits isUnopened brings givenBy counted atMost commandOf fieldsCommand otherOf added entryOf exactly letterOf restFields fieldsOf before numbersOf fieldNumber signedOf isDecimal allDigits valueAfter
+  unfolding editLines HEIGHT-1 HEIGHT-2 CORRECTIONS MATRIX linesSay lineSays lineNext lineEnters entrySays stationsAfter phaseOpened openingSays phaseAfter phaseSays commandSays edits isUnopened brings givenBy counted atMost commandOf fieldsCommand otherOf added entryOf exactly letterOf restFields fieldsOf before numbersOf fieldNumber signedOf isDecimal allDigits valueAfter
   edits-say p q = rw (q, p)
 
   -- X and M are given: the end checks them
@@ -231,7 +231,7 @@ room-is = sym (kinds-room (bookOf first .network) (bookOf first .places)) ∙ rw
 
 -- the words of a sheet are those that it leaves at the front of lent ones
 module _ (b : Book) (x m lent sheet : List ℤ) where
-  words-from : checked b x m (hasRoom b lent) ≡ Accepted → room (b .network) (b .places) ≡ length sheet → sheetAfter b x m lent ≡ sheet ++ drop (length sheet) lent
+  words-from : checked b x m (printRoom b lent) ≡ Accepted → room (b .network) (b .places) ≡ length sheet → sheetAfter b x m lent ≡ sheet ++ drop (length sheet) lent
       → sheetWords (b .network) (b .places) x m ≡ sheet
   unfolding sheetAfter onAcceptance
   words-from accepts long leaves =
@@ -244,7 +244,7 @@ words-are : sheetWords (bookOf first .network) (bookOf first .places) (xOf first
 words-are =
     let lent = replicate enough (pos 0) in
     words-from (bookOf first) (xOf first) (mOf first) lent (first .sheet)
-    (accepted-0 (checked (bookOf first) (xOf first) (mOf first) (hasRoom (bookOf first) lent)) (holds .checkSheet lent (lit≤ tt) .number))
+    (accepted-0 (checked (bookOf first) (xOf first) (mOf first) (printRoom (bookOf first) lent)) (holds .checkSheet lent (lit≤ tt) .number))
     room-is
     (holds .written lent (lit≤ tt))
 

@@ -1,6 +1,6 @@
 // Prints one whole text from standard input at once, through the library function whose contract is document 01's print of a text. The program `adjust` takes the same text chunk by
 // chunk; the tests compare the two. specs/Document01.antt proves what is printed for document 01's own lines, which are this program's stdin.
-use adjustment::Printing;
+use night_print::Printing;
 ghost use mathlib.Core.Path.{_≡_};
 ghost use lib.ListN.{length};
 
@@ -20,7 +20,7 @@ fn out_room() -> [u8; 720400]
 
 // Prints the text.
 fn show(text: &[u8], out: &mut [u8]) {
-    let printed = adjustment::print_text(text, out);
+    let printed = night_print::print_text(text, out);
     match printed {
         Printing::Bytes(n) => {
             io::write_all(1, &out[0..n]);

@@ -1,6 +1,5 @@
 -- `turn` meets its contract. Assumes nothing.
-use lib.Seq.{length-take-le}
-use lib.ListN.{length, take}
+use lib.ListN.{length}
 use Prim.Native.Nat.{_≤_}
 use native.Mathlib.Omega.{arith}
 use mathlib.Core.Path.{_≡_, _∙_}
@@ -22,23 +21,9 @@ slice-aggregate-step c = search needs
 
 step-requires : tie.Need-step-requires
 step-requires c κs = let s = c .before .before .before .before .before .before .before .before .before .before .before .before .before .before .before in
-    let r = c .before .before .before .before .before .before .before .before .before .before in
-    let n = c .before .before .before .before .before .before .count in
-    let k : length (r .read .last .1 .0) ≡ 1024 = r .read .kept .1 .0 ∙ s .pre .1 .3 in
-    let few = n .ensures .0 in
-    (s .pre .0, (s .pre .1 .0, s .pre .1 .1, omega (arith, s .pre .1 .2, few .0, few .1), omega (arith, s .pre .1 .4, few .0, few .1), omega (arith, s .pre .1 .4)))
-
-sub-write-all : tie.Need-sub-write-all
-sub-write-all c = search needs
-
-part-write-all-start : tie.Need-part-write-all-start
-part-write-all-start c = search needs
-
-part-write-all-end : tie.Need-part-write-all-end
-part-write-all-end c = search needs
-
-write-all-requires : tie.Need-write-all-requires
-write-all-requires c κs = search needs
+    let n = c .before .before .before .before .before .before .count .ensures .0 in
+    let k : length (c .before .before .before .before .before .before .before .before .before .before .read .last .1 .0) ≡ 1024 = c .before .before .before .before .before .before .before .before .before .before .read .kept .1 .0 ∙ s .pre .1 .3 in
+    (s .pre .0, (s .pre .1 .0, s .pre .1 .1, omega (arith, s .pre .1 .2, n .0, n .1), omega (arith, s .pre .1 .4, n .0, n .1), omega (arith, s .pre .1 .4)))
 
 same-length : tie.Need-same-length
 same-length c = search needs
@@ -59,10 +44,9 @@ same-length-6 : tie.Need-same-length-6
 same-length-6 c = search needs
 
 returns : tie.Need-returns
-returns c = let t = c .before .before .before .before .before .before .before .before .before .before .before .step in
-    let s = c .before .before .before .before .before .before .before .before .before .before .before .before .before .before .before .before .before .before .before .before .before .before .before .before .before .before .before in
-    let k : length (c .before .before .before .before .before .before .before .before .before .before .before .before .before .before .before .before .before .before .before .before .before .before .read .last .1 .0) ≡ 1024 = c .before .before .before .before .before .before .before .before .before .before .before .before .before .before .before .before .before .before .before .before .before .before .read .kept .1 .0 ∙ s .pre .1 .3 in
-    (t .ensures .0, (t .ensures .1, omega (arith, c .before .before .before .before .before .before .before .before .before .before .before .before .before .before .before .before .before .before .count .ensures .0 .0)))
+returns c = let t = c .before .before .before .before .before .before .before .step in
+    let e = c .before .before .before .before .before .before .before .before .before .before .before .before .before .before .count .ensures .1 in
+    (rw (← e) (t .ensures .0), rw (← e) (t .ensures .1))
 
 pub turn-spec : {M : Type 1} → statement M
 turn-spec =
@@ -73,10 +57,6 @@ turn-spec =
     slice-reshare-prefix-step
     slice-aggregate-step
     step-requires
-    sub-write-all
-    part-write-all-start
-    part-write-all-end
-    write-all-requires
     same-length
     same-length-2
     same-length-3

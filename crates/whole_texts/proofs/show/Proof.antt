@@ -3,9 +3,9 @@ use Prim.Native.Nat.{ℕ, _≤_}
 use mathlib.Core.Path.{_≡_}
 use mathlib.Core.List.{List}
 use lib.ListN.{length}
-use Rattle.adjustment.specs.declared.Printing.{Printing}
-use Rattle.adjustment.specs.declared.Printing.the-variants.{Bytes}
-use Rattle.adjustment.specs.Texts.{Printed}
+use Rattle.night_print.specs.declared.Printing.{Printing}
+use Rattle.night_print.specs.declared.Printing.the-variants.{Bytes}
+use Rattle.night_print.specs.Texts.{Printed}
 use borrow.Author.Needs.{needs}
 use Rattle.whole_texts.proofs.show.Statement.{statement}
 use Rattle.whole_texts.proofs.show.Tie as tie

@@ -12,8 +12,8 @@ use Rattle.reports.specs.Reports.{none}
 use Rattle.network.specs.StationWords.{flat}
 use Rattle.commands.specs.Commands.{commandOf}
 use Rattle.input_lines.specs.Runs.{phaseOpened, openingSays, phaseAfter, phaseSays}
 use Rattle.adjustment.specs.Ends.{phaseEnds}
-use Rattle.adjustment.specs.Print.{enters, entersSaying, lineNext, lineSays, linesNext, linesSay, endPrints, printed}
+use Rattle.night_print.specs.Print.{lineEnters, entrySays, lineNext, lineSays, linesNext, linesSay, endPrints, printed}
 
 -- `REFUSED 1`
 REFUSED-1 : List ℕ
@@ -26,5 +26,5 @@ empty-text = refl
 
 -- an empty line is no S line, so it opens; the refusal ends the run, and neither it nor the `U` after it gets a message
 blank-line : printed (10 ∷ 85 ∷ 10 ∷ []) none ≡ REFUSED-1
-unfolding REFUSED-1 printed linesAfter linesSay lineSays linesNext lineNext enters entersSaying endPrints flat openingSays phaseOpened phaseEnds phaseSays phaseAfter opens wholeStations refused decimalIn letterOf before
+unfolding REFUSED-1 printed linesAfter linesSay lineSays linesNext lineNext lineEnters entrySays endPrints flat openingSays phaseOpened phaseEnds phaseSays phaseAfter opens wholeStations refused decimalIn letterOf before
 blank-line = refl

@@ -1,12 +1,12 @@
 -- `closing::print_all` meets its contract. Assumes nothing.
-use Rattle.adjustment.specs.TailLaws.{lent-length, prints-all}
+use Rattle.night_print.specs.TailLaws.{lent-length, prints-all}
 use lib.ListN.{length}
 use native.Mathlib.Omega.{arith}
 use mathlib.Core.Path.{_≡_, _∙_}
 use Prim.Native.Nat.{_+_, _*_, _≤_, _<_}
 use borrow.Author.Needs.{needs}
-use Rattle.adjustment.proofs.closing.print_all.Statement.{statement}
-use Rattle.adjustment.proofs.closing.print_all.Tie as tie
+use Rattle.night_print.proofs.closing.print_all.Statement.{statement}
+use Rattle.night_print.proofs.closing.print_all.Tie as tie
 
 bound : (c : tie.Start) → length (c .args .out .now) < 18446744073709551616
 bound c = omega arith

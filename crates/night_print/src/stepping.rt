@@ -1,17 +1,16 @@
 // One step of a run: what a read gave is taken, and what is to be written next stands at the front of out.
 use super::Progress;
 use super::Stepped;
-use super::Taken;
-use super::chunks;
 use super::closing;
+use adjustment::Taken;
 ghost use Prim.Native.Nat.{_+_, _*_, _≤_, _<_};
 ghost use mathlib.Core.Path.{_≡_};
 ghost use mathlib.Core.Bool.{cond};
 ghost use lib.ListN.{length};
 ghost use Rattle.text.specs.Lines.{holds};
 ghost use Rattle.input_lines.specs.States.{runOf, Ready};
-ghost use Rattle.adjustment.specs.declared.Progress.the-variants.{Reading, Refused};
-ghost use Rattle.adjustment.specs.Steps.{Steps, Goes};
+ghost use Rattle.night_print.specs.declared.Progress.the-variants.{Reading, Refused};
+ghost use Rattle.night_print.specs.Steps.{Steps, Goes};
 
 // A refused opening ends a run.
 fn progress_of(ended: bool) -> Progress
@@ -37,23 +36,14 @@ pub fn step(
 ) -> Stepped
     requires { ⌜ Ready (taken .state) (taken .book) (now list) (now x) (now m) ⌝ }
     requires { ⌜ (length (now line) ≡ 50000) × (taken .len ≤ 50000) × (taken .state .lines + length (now came) + 1 < 18446744073709551616) × (84 * length (now came) ≤ length (now out)) × (32272 ≤ length (now out)) ⌝ }
-    ensures { λ s. ⌜ Steps (runOf (taken .state) (taken .book) (now (list .entry)) (now (x .entry)) (now (m .entry))) (holds (now (line .entry)) (taken .len) (taken .over)) failed (now (came .entry)) (now (out .entry)) (s .progress) (runOf (s .taken .state) (s .taken .book) (now (list .exit)) (now (x .exit)) (now (m .exit))) (holds (now (line .exit)) (s .taken .len) (s .taken .over)) (s .taken .printed) (now (out .exit)) ⌝ }
-    ensures { λ s. ⌜ Goes taken (now (came .entry)) (s .progress) (s .taken) (now (list .exit)) (now (x .exit)) (now (m .exit)) (now (out .exit)) ⌝ }
+    ensures { λ s. ⌜ Steps (runOf (taken .state) (taken .book) (now (list .entry)) (now (x .entry)) (now (m .entry))) (holds (now (line .entry)) (taken .len) (taken .over)) failed (now (came .entry)) (now (out .entry)) (s .progress) (runOf (s .taken .state) (s .taken .book) (now (list .exit)) (now (x .exit)) (now (m .exit))) (holds (now (line .exit)) (s .taken .len) (s .taken .over)) (s .printed) (now (out .exit)) ⌝ }
+    ensures { λ s. ⌜ Goes taken (now (came .entry)) (s .progress) (s .taken) (s .printed) (now (list .exit)) (now (x .exit)) (now (m .exit)) (now (out .exit)) ⌝ }
 {
-    let state = taken.state;
-    let book = taken.book;
-    let len = taken.len;
-    let over = taken.over;
     if failed {
         let progress = Progress::Unread;
         return Stepped {
-            taken: Taken {
-                state,
-                book,
-                len,
-                over,
-                printed: 0,
-            },
+            taken,
+            printed: 0,
             progress,
         };
     }
@@ -61,20 +51,17 @@ pub fn step(
         let printed = closing::close(taken, line, list, x, m, out);
         let progress = Progress::Finished;
         return Stepped {
-            taken: Taken {
-                state,
-                book,
-                len,
-                over,
-                printed,
-            },
+            taken,
+            printed,
             progress,
         };
     }
-    let next = chunks::take_chunk(taken, line, list, x, m, came, out);
+    let next = adjustment::take_chunk(taken, line, list, x, m, came, out);
+    let printed = next.printed;
     let progress = progress_of(input_lines::is_ended(next.state));
     Stepped {
         taken: next,
+        printed,
         progress,
     }
 }

@@ -22,8 +22,8 @@ use Rattle.commands.specs.declared.Command.the-variants.{Station, Add, Replace,
 use Rattle.reports.specs.Reports.{Offer}
 use Rattle.input_lines.specs.Runs.{Phase, unopened, opened, ended, Given, Run, start, phaseOpened, openingSays, openRun, entered, enteringSays, asked, isUnopened, wordsAfter, readAfter, phaseAfter, phaseSays, correctionsNext, matrixNext, givenBy, obeyed, next, says, runAfter, saysAll}
 use Rattle.input_lines.specs.Cut.{noted-one, opening-cut}
 use Rattle.adjustment.specs.Ends.{phaseEnds, endSays}
-use Rattle.adjustment.specs.Print.{WholeRun, atStart, opensRun, enters, entersSaying, asks, stationsAfter, follows, lineNext, lineSays, linesNext, linesSay, endPrints, afterLines, printed}
+use Rattle.night_print.specs.Print.{WholeRun, atStart, opensRun, lineEnters, entrySays, lineAsks, stationsAfter, lineObeyed, lineNext, lineSays, linesNext, linesSay, endPrints, afterLines, printed}
 
 -- ════ what is kept of a run
 abbrev pub keptRun : WholeRun → Run
@@ -93,36 +93,36 @@ module _ (read : ℕ) (u : Bool) (line : List ℕ) (kind : ℕ) (some : eqb 0 ki
 
 -- ════ one line
 module _ (r : WholeRun) (line : List ℕ) where
-  entered-kept : entered (keptRun r) (kept 50000 line) ≡ keptRun (enters r line)
-  unfolding entered enters
+  entered-kept : entered (keptRun r) (kept 50000 line) ≡ keptRun (lineEnters r line)
+  unfolding entered lineEnters
   entered-kept = rw (kept-station-line line, opened-cut (flat (r .stations)) (r .phase)) (by (isStationLine line))
     where
       by : (t : Bool) → cond t (keptRun r) (keptRun (opensRun r)) ≡ keptRun (cond t r (opensRun r))
       by true = refl
       by false = refl
 
-  entering-kept : enteringSays (keptRun r) (kept 50000 line) ≡ entersSaying r line
-  unfolding enteringSays entersSaying
+  entering-kept : enteringSays (keptRun r) (kept 50000 line) ≡ entrySays r line
+  unfolding enteringSays entrySays
   entering-kept = rw (kept-station-line line, says-cut (flat (r .stations)) (r .phase))
 
-  obeyed-kept : obeyed (keptRun r) (kept 50000 line) (asked (keptRun r) (kept 50000 line)) ≡ keptRun (follows r line (asks r line))
+  obeyed-kept : obeyed (keptRun r) (kept 50000 line) (asked (keptRun r) (kept 50000 line)) ≡ keptRun (lineObeyed r line (lineAsks r line))
   obeyed-kept =
       rw (
         kept-command (length (r .stations)) (isUnopened (r .phase)) line,
-        words-kept (r .stations) (asks r line),
-        read-kept (r .stations) (asks r line),
+        words-kept (r .stations) (lineAsks r line),
+        read-kept (r .stations) (lineAsks r line),
         given-kept (length (r .stations)) (isUnopened (r .phase)) line 1 refl (λ fields. givenBy (correctionsIn fields)) (r .corrections),
         given-kept (length (r .stations)) (isUnopened (r .phase)) line 2 refl (λ fields. givenBy (matrixIn fields)) (r .matrix),
       )
 
 next-kept : (r : WholeRun) (line : List ℕ) → next (keptRun r) (kept 50000 line) ≡ keptRun (lineNext r line)
 unfolding next lineNext
-next-kept r line = rw (entered-kept r line) (obeyed-kept (enters r line) line)
+next-kept r line = rw (entered-kept r line) (obeyed-kept (lineEnters r line) line)
 
 says-kept : (r : WholeRun) (line : List ℕ) → says (keptRun r) (kept 50000 line) ≡ lineSays r line
 unfolding says lineSays
 says-kept r line =
-    rw (entering-kept r line, entered-kept r line, kept-command (length (enters r line .stations)) (isUnopened (enters r line .phase)) line)
+    rw (entering-kept r line, entered-kept r line, kept-command (length (lineEnters r line .stations)) (isUnopened (lineEnters r line .phase)) line)
 
 -- ════ all lines, and the end
 run-kept : (r : WholeRun) (lines : List (List ℕ)) → runAfter (keptRun r) (map (kept 50000) lines) ≡ keptRun (linesNext r lines)

@@ -12,12 +12,12 @@ use Rattle.input_lines.specs.Runs.{Run}
 use Rattle.input_lines.specs.States.{phaseOf, endedPhase}
 use Rattle.input_lines.specs.declared.Phase as code-phase
 use Rattle.input_lines.specs.declared.Phase.the-variants.{Unopened, Opened, Ended}
-use Rattle.adjustment.specs.declared.Progress.{Progress}
-use Rattle.adjustment.specs.declared.Progress.the-variants.{Reading, Finished, Refused, Unread}
+use Rattle.night_print.specs.declared.Progress.{Progress}
+use Rattle.night_print.specs.declared.Progress.the-variants.{Reading, Finished, Refused, Unread}
 use Rattle.adjustment.specs.Chunks.{Takes}
-use Rattle.adjustment.specs.Ends.{Closes}
+use Rattle.night_print.specs.Closing.{Concludes}
 use Rattle.adjustment.specs.declared.Taken.{Taken}
-use Rattle.adjustment.specs.Steps.{isEnded, Steps, Goes}
+use Rattle.night_print.specs.Steps.{isEnded, Steps, Goes}
 
 pub ended-phase : (p : code-phase.Phase) (b : Book) → isEnded (phaseOf p b) ≡ endedPhase p
 unfolding isEnded phaseOf endedPhase
@@ -41,7 +41,7 @@ module _ {r r₁ : Run} {k k₁ : Kept} {failed : Bool} {came before : List ℕ}
         takes = λ f c. never (sym e ∙ f);
       }
 
-  pub step-ends : {n : ℕ} {after : List ℕ} → failed ≡ false → length came ≡ 0 → Closes r k before n after → Steps r k failed came before Finished r₁ k₁ n after
+  pub step-ends : {n : ℕ} {after : List ℕ} → failed ≡ false → length came ≡ 0 → Concludes r k before n after → Steps r k failed came before Finished r₁ k₁ n after
   step-ends e z h =
       record {
         unread = λ f. never (sym f ∙ e);
@@ -64,9 +64,9 @@ not-unread e = let z : _≡_ {A = ℕ} 0 1 = cc in absurd (omega arith)
 not-finished : {A : Type 0} → Finished ≡ Reading → A
 not-finished e = let z : _≡_ {A = ℕ} 0 1 = cc in absurd (omega arith)
 
-module _ {t t₁ : Taken} {came : List ℕ} {list x m : List ℤ} {out : List ℕ} where
-  pub goes-unread : t₁ .printed ≤ length out → Goes t came Unread t₁ list x m out
+module _ {t t₁ : Taken} {came : List ℕ} {printed : ℕ} {list x m : List ℤ} {out : List ℕ} where
+  pub goes-unread : printed ≤ length out → Goes t came Unread t₁ printed list x m out
   goes-unread h = record { ready = λ e. not-unread e; short = λ e. not-unread e; lines = λ e. not-unread e; within = h }
 
-  pub goes-finished : t₁ .printed ≤ length out → Goes t came Finished t₁ list x m out
+  pub goes-finished : printed ≤ length out → Goes t came Finished t₁ printed list x m out
   goes-finished h = record { ready = λ e. not-finished e; short = λ e. not-finished e; lines = λ e. not-finished e; within = h }

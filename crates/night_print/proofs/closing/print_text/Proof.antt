@@ -1,11 +1,11 @@
 -- `closing::print_text` meets its contract. Assumes nothing.
 use native.Mathlib.Omega.{arith}
-use Rattle.adjustment.specs.Texts.{Printed}
+use Rattle.night_print.specs.Texts.{Printed}
 use borrow.Author.Tests.{not-true, not-false, leb-true}
 use mathlib.Core.Path.{refl, sym, _∙_}
 use borrow.Author.Needs.{needs}
-use Rattle.adjustment.proofs.closing.print_text.Statement.{statement}
-use Rattle.adjustment.proofs.closing.print_text.Tie as tie
+use Rattle.night_print.proofs.closing.print_text.Statement.{statement}
+use Rattle.night_print.proofs.closing.print_text.Tie as tie
 
 has-room-requires : tie.Need-has-room-requires
 has-room-requires c κs = search needs

@@ -1,12 +1,12 @@
 -- `closing::has_room` meets its contract. Assumes nothing.
-use Rattle.adjustment.specs.TailLaws.{room-test}
+use Rattle.night_print.specs.TailLaws.{room-test}
 use borrow.Author.Tests.{lt-leb}
 use Prim.Native.Nat.{_+_, _*_}
 use native.Mathlib.Omega.{arith}
 use mathlib.Core.Path.{sym, _∙_}
 use borrow.Author.Needs.{needs}
-use Rattle.adjustment.proofs.closing.has_room.Statement.{statement}
-use Rattle.adjustment.proofs.closing.has_room.Tie as tie
+use Rattle.night_print.proofs.closing.has_room.Statement.{statement}
+use Rattle.night_print.proofs.closing.has_room.Tie as tie
 
 returns : tie.Need-returns
 returns c = sym (lt-leb (84 * c .before .args .text + 32272) (c .before .args .out) (omega arith))

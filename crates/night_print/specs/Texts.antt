@@ -5,9 +5,9 @@ use mathlib.Core.Bool.{Bool, true, false}
 use mathlib.Core.List.{List}
 use lib.Dec.{leb}
 use lib.ListN.{length, take, drop}
-use Rattle.adjustment.specs.declared.Printing.{Printing}
-use Rattle.adjustment.specs.declared.Printing.the-variants.{Bytes, NoRoom}
-use Rattle.adjustment.specs.Print.{Prints}
+use Rattle.night_print.specs.declared.Printing.{Printing}
+use Rattle.night_print.specs.declared.Printing.the-variants.{Bytes, NoRoom}
+use Rattle.night_print.specs.Print.{Prints}
 
 -- the text's print stands at the front of `before`, which leaves `after`; bytes beyond stay
 pub record PrintsAll (text before : List ℕ) (n : ℕ) (after : List ℕ) : Type 0 where
@@ -16,10 +16,10 @@ pub record PrintsAll (text before : List ℕ) (n : ℕ) (after : List ℕ) : Typ
   pub within : n ≤ length after
 
 -- room for whatever a text prints: 84 bytes for each of its own (two messages: a refused opening's and the line's), and the last line and the end
-abbrev pub hasRoom : List ℕ → List ℕ → Bool
-hasRoom text out = leb (84 * length text + 32272) (length out)
+abbrev pub printRoom : List ℕ → List ℕ → Bool
+printRoom text out = leb (84 * length text + 32272) (length out)
 
 -- how many bytes it has, or that there is too little room, and then nothing is written
 unfoldable pub Printed : List ℕ → List ℕ → Printing → List ℕ → Type 0
-Printed text before (Bytes n) after = (hasRoom text before ≡ true) × PrintsAll text before n after
-Printed text before NoRoom after = (hasRoom text before ≡ false) × (after ≡ before)
+Printed text before (Bytes n) after = (printRoom text before ≡ true) × PrintsAll text before n after
+Printed text before NoRoom after = (printRoom text before ≡ false) × (after ≡ before)

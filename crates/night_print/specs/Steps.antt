@@ -8,11 +8,11 @@ use lib.IntN.{ℤ}
 use Rattle.text.specs.Lines.{Kept}
 use Rattle.input_lines.specs.Runs.{Phase, unopened, opened, ended, Run}
 use Rattle.input_lines.specs.States.{Ready}
 use Rattle.adjustment.specs.declared.Taken.{Taken}
-use Rattle.adjustment.specs.declared.Progress.{Progress}
-use Rattle.adjustment.specs.declared.Progress.the-variants.{Reading, Finished, Refused, Unread}
+use Rattle.night_print.specs.declared.Progress.{Progress}
+use Rattle.night_print.specs.declared.Progress.the-variants.{Reading, Finished, Refused, Unread}
 use Rattle.adjustment.specs.Chunks.{Takes}
-use Rattle.adjustment.specs.Ends.{Closes}
+use Rattle.night_print.specs.Closing.{Concludes}
 
 unfoldable pub isEnded : Phase → Bool
 isEnded unopened = false
@@ -24,13 +24,13 @@ pub record Steps (r : Run) (k : Kept) (failed : Bool) (came before : List ℕ) (
   -- a read that failed: nothing more is printed, no sheet of half an input
   pub unread : failed ≡ true → (p ≡ Unread) × (n ≡ 0) × (after ≡ before)
   -- the end of the input: the last line, where it lacks its LF, and the end; r₁ and k₁ are free
-  pub ends : failed ≡ false → came ≡ [] → (p ≡ Finished) × Closes r k before n after
+  pub ends : failed ≡ false → came ≡ [] → (p ≡ Finished) × Concludes r k before n after
   -- a chunk: its lines are taken, and the run reads on unless its opening was refused
   pub takes : failed ≡ false → (came ≡ [] → ⊥) → (p ≡ cond (isEnded (r₁ .phase)) Refused Reading) × Takes r k came before r₁ k₁ n after
 
 -- what the next step asks, where there is one
-pub record Goes (t : Taken) (came : List ℕ) (p : Progress) (t₁ : Taken) (list x m : List ℤ) (out : List ℕ) : Type 0 where
+pub record Goes (t : Taken) (came : List ℕ) (p : Progress) (t₁ : Taken) (printed : ℕ) (list x m : List ℤ) (out : List ℕ) : Type 0 where
   pub ready : p ≡ Reading → Ready (t₁ .state) (t₁ .book) list x m
   pub short : p ≡ Reading → t₁ .len ≤ 50000
   pub lines : p ≡ Reading → t₁ .state .lines ≤ t .state .lines + length came
-  pub within : t₁ .printed ≤ length out
+  pub within : printed ≤ length out

@@ -1,5 +1,5 @@
 -- `closing::close` meets its contract. Assumes nothing.
-use Rattle.adjustment.specs.TailLaws.{lent-length, closes-none, closes-line}
+use Rattle.night_print.specs.TailLaws.{lent-length, closes-none, closes-line}
 use mathlib.Core.Bool.{_||_}
 use lib.Dec.{ltb}
 use Rattle.text.specs.Lines.{holds, isLine}
@@ -9,8 +9,8 @@ use mathlib.Core.Path.{_≡_, sym, _∙_}
 use native.Mathlib.Omega.{arith}
 use lib.ListN.{length}
 use borrow.Author.Needs.{needs}
-use Rattle.adjustment.proofs.closing.close.Statement.{statement}
-use Rattle.adjustment.proofs.closing.close.Tie as tie
+use Rattle.night_print.proofs.closing.close.Statement.{statement}
+use Rattle.night_print.proofs.closing.close.Tie as tie
 
 held :
     (c : tie.Start) →

@@ -9,10 +9,11 @@ use Rattle.text.specs.LineLaws.{lines-of-chunks}
 use Rattle.commands.specs.Commands.{isStationLine}
 use Rattle.reports.specs.Reports.{Offer, none, no-pair}
 use Rattle.input_lines.specs.Runs.{ended, Run, start, phaseOpened, openingSays, openRun, entered, enteringSays, asked, phaseAfter, phaseSays, next, says, runAfter, saysAll}
 use Rattle.adjustment.specs.Chunks.{Takes}
-use Rattle.adjustment.specs.Ends.{phaseEnds, endSays, OffersAt, Closes}
-use Rattle.adjustment.specs.Print.{afterLines, printed, Prints}
-use Rattle.adjustment.specs.PrintLaws.{keptRun, text-run, text-says, open-kept, end-kept}
+use Rattle.adjustment.specs.Ends.{phaseEnds, endSays, OffersAt}
+use Rattle.night_print.specs.Closing.{Concludes}
+use Rattle.night_print.specs.Print.{afterLines, printed, Prints}
+use Rattle.night_print.specs.PrintLaws.{keptRun, text-run, text-says, open-kept, end-kept}
 
 -- ════ the statement
 -- chunks ss taken one after the other from the run r, with k held of a line: they print t, and leave the run r′ with k′ held
@@ -88,7 +89,7 @@ prints-kept {text} {t} {r} {offer} e s o =
 pub whole-text :
     {ss : List (List ℕ)} {t before after : List ℕ} {r : Run} {k : Kept} {n : ℕ} →
     Chunks start blank ss t r k →
-    Closes r k before n after →
+    Concludes r k before n after →
     Prints (concat ss) (t ++ take n after)
 unfolding keptLines
 whole-text {ss} {t} {before} {after} {r} {k} {n} c e =

@@ -1,18 +1,18 @@
 -- `stepping::step` meets its contract. Assumes nothing.
 use mathlib.Core.Bool.{Bool, cond}
-use Rattle.adjustment.specs.declared.Progress.the-variants.{Reading, Refused}
-use Rattle.adjustment.specs.StepLaws.{ended-phase, step-unread, step-ends, step-takes, goes-unread, goes-finished}
+use Rattle.night_print.specs.declared.Progress.the-variants.{Reading, Refused}
+use Rattle.night_print.specs.StepLaws.{ended-phase, step-unread, step-ends, step-takes, goes-unread, goes-finished}
 use native.Mathlib.Omega.{arith}
 use mathlib.Core.Path.{sym, ap, _∙_}
 use borrow.Author.Needs.{needs}
-use Rattle.adjustment.proofs.stepping.step.Statement.{statement}
-use Rattle.adjustment.proofs.stepping.step.Tie as tie
+use Rattle.night_print.proofs.stepping.step.Statement.{statement}
+use Rattle.night_print.proofs.stepping.step.Tie as tie
 
 returns : tie.Need-returns
 returns c = (step-unread (c .if1 .taken), goes-unread (omega arith))
 
 close-requires : tie.Need-close-requires
-close-requires c κs = let s = c .before .before .before .before .before .before .before .before .before .before .before .before in (s .pre .0, (s .pre .1 .0, s .pre .1 .1, omega (arith, s .pre .1 .2), s .pre .1 .4))
+close-requires c κs = let s = c .before .before .before .before .before .before .before .before .before .before in (s .pre .0, (s .pre .1 .0, s .pre .1 .1, omega (arith, s .pre .1 .2), s .pre .1 .4))
 
 same-length : tie.Need-same-length
 same-length c = search needs
@@ -30,12 +30,12 @@ same-length-5 : tie.Need-same-length-5
 same-length-5 c = search needs
 
 returns-2 : tie.Need-returns-2
-returns-2 c = let s = c .before .before .before .before .before .before .before .before .before .before .before .before .before .before .before .before .before .before .before .before in
+returns-2 c = let s = c .before .before .before .before .before .before .before .before .before .before .before .before .before .before .before .before .before .before in
     let h = c .before .before .before .before .before .before .before .close in
     (step-ends (c .before .before .before .before .before .before .before .before .before .before .before .before .before .before .if1 .left) (omega (arith, c .before .before .before .before .before .before .before .before .before .before .before .before .before .if2 .taken)) (h .ensures), goes-finished (omega (arith, h .ensures .small, h .kept .1 .1 .1 .1 .1 .0, s .pre .1 .4)))
 
 take-chunk-requires : tie.Need-take-chunk-requires
-take-chunk-requires c κs = let s = c .before .before .before .before .before .before .before .before .before .before .before .before in (s .pre .0, (s .pre .1 .0, s .pre .1 .1, omega (arith, s .pre .1 .2), s .pre .1 .3))
+take-chunk-requires c κs = let s = c .before .before .before .before .before .before .before .before .before .before in (s .pre .0, (s .pre .1 .0, s .pre .1 .1, omega (arith, s .pre .1 .2), s .pre .1 .3))
 
 is-ended-requires : tie.Need-is-ended-requires
 is-ended-requires c κs = search needs
@@ -59,7 +59,7 @@ same-length-10 : tie.Need-same-length-10
 same-length-10 c = search needs
 
 returns-3 : tie.Need-returns-3
-returns-3 c = let s = c .before .before .before .before .before .before .before .before .before .before .before .before .before .before .before .before .before .before .before .before .before .before in
+returns-3 c = let s = c .before .before .before .before .before .before .before .before .before .before .before .before .before .before .before .before .before .before .before .before in
     let t = c .before .before .before .before .before .before .before .before .before .take-chunk in (
       step-takes
           (c .before .before .before .before .before .before .before .before .before .before .before .before .before .before .before .before .if1 .left)

@@ -12,11 +12,12 @@ use lib.Seq.{take-all, take-append-add, drop-append-add, drop-drop, length-take-
 use Rattle.text.specs.Lines.{Kept, blank, came, concat, isLine, lastKept}
 use Rattle.input_lines.specs.Runs.{Run, start, runAfter, saysAll}
 use Rattle.input_lines.specs.StateLaws.{written-front, written-beyond, drop-further}
 use Rattle.adjustment.specs.Chunks.{Takes}
-use Rattle.adjustment.specs.Ends.{endSays, Ends, Closes}
-use Rattle.adjustment.specs.Print.{Prints}
-use Rattle.adjustment.specs.Texts.{PrintsAll}
-use Rattle.adjustment.specs.Whole.{no-more, then-a-chunk, whole-text}
+use Rattle.adjustment.specs.Ends.{endSays, Ends}
+use Rattle.night_print.specs.Closing.{Concludes}
+use Rattle.night_print.specs.Print.{Prints}
+use Rattle.night_print.specs.Texts.{PrintsAll}
+use Rattle.night_print.specs.Whole.{no-more, then-a-chunk, whole-text}
 
 -- the part of a buffer from p on, as it is lent, and the buffer with that part as it came back
 abbrev pub lentFrom : ℕ → List ℕ → List ℕ
@@ -66,7 +67,7 @@ last-none k e = rw e
 last-line : (k : Kept) → isLine k ≡ true → lastKept k ≡ k ∷ []
 last-line k e = rw e
 
-pub closes-none : {r : Run} {k : Kept} {before : List ℕ} {n : ℕ} {after : List ℕ} → isLine k ≡ false → 32272 ≤ length before → Ends r before n after → Closes r k before n after
+pub closes-none : {r : Run} {k : Kept} {before : List ℕ} {n : ℕ} {after : List ℕ} → isLine k ≡ false → 32272 ≤ length before → Ends r before n after → Concludes r k before n after
 unfolding runAfter saysAll
 closes-none {r} {k} {before} {n} {after} e room h =
     let z = last-none k e in
@@ -94,7 +95,7 @@ module _ {r r₁ : Run} {k k₁ : Kept} {before mid part : List ℕ} {p n : ℕ}
       p ≤ 84 →
       Takes r k (10 ∷ []) before r₁ k₁ p mid →
       Ends r₁ (lentFrom p mid) n part →
-      Closes r k before (p + n) (backFrom p mid part)
+      Concludes r k before (p + n) (backFrom p mid part)
   closes-line e room same few t h =
       let z = last-line k e in
       let f = lf-ends k in
@@ -122,7 +123,7 @@ module _ {r r₁ : Run} {k k₁ : Kept} {before mid part : List ℕ} {p n : ℕ}
       r ≡ start →
       k ≡ blank →
       Takes r k text before r₁ k₁ p mid →
-      Closes r₁ k₁ (lentFrom p mid) n part →
+      Concludes r₁ k₁ (lentFrom p mid) n part →
       PrintsAll text before (p + n) (backFrom p mid part)
   unfolding concat
   prints-all {text} room same back few e b t h =

@@ -1,16 +1,14 @@
 // The end of an input with a line that is held, and a whole text taken at once.
 use super::Printing;
-use super::Taken;
-use super::chunks;
-use super::ending;
+use adjustment::Taken;
 ghost use Prim.Native.Nat.{_+_, _*_, _≤_, _<_};
 ghost use mathlib.Core.Path.{_≡_};
 ghost use lib.ListN.{length};
 ghost use lib.Dec.{leb};
 ghost use Rattle.text.specs.Lines.{holds};
 ghost use Rattle.input_lines.specs.States.{runOf, Ready};
-ghost use Rattle.adjustment.specs.Ends.{Closes};
-ghost use Rattle.adjustment.specs.Texts.{PrintsAll, Printed};
+ghost use Rattle.night_print.specs.Closing.{Concludes};
+ghost use Rattle.night_print.specs.Texts.{PrintsAll, Printed};
 
 // What the end of the input prints, at the front of out. A last line that lacks its LF is taken first, as if it had it.
 pub fn close(
@@ -23,19 +21,19 @@ pub fn close(
 ) -> usize
     requires { ⌜ Ready (taken .state) (taken .book) (now list) (now x) (now m) ⌝ }
     requires { ⌜ (length (now line) ≡ 50000) × (taken .len ≤ 50000) × (taken .state .lines + 1 < 18446744073709551616) × (32272 ≤ length (now out)) ⌝ }
-    ensures { λ n. ⌜ Closes (runOf (taken .state) (taken .book) (now (list .entry)) (now (x .entry)) (now (m .entry))) (holds (now (line .entry)) (taken .len) (taken .over)) (now (out .entry)) n (now (out .exit)) ⌝ }
+    ensures { λ n. ⌜ Concludes (runOf (taken .state) (taken .book) (now (list .entry)) (now (x .entry)) (now (m .entry))) (holds (now (line .entry)) (taken .len) (taken .over)) (now (out .entry)) n (now (out .exit)) ⌝ }
 {
     if text::is_line(taken.len, taken.over) {
-        let last = chunks::take_chunk(taken, line, list, x, m, b"\n", out);
+        let last = adjustment::take_chunk(taken, line, list, x, m, b"\n", out);
         let printed = last.printed;
         let state = last.state;
         let book = last.book;
-        let n = ending::finish(state, book, list, x, m, &mut out[printed..]);
+        let n = adjustment::finish(state, book, list, x, m, &mut out[printed..]);
         return printed + n;
     }
     let state = taken.state;
     let book = taken.book;
-    ending::finish(state, book, list, x, m, out)
+    adjustment::finish(state, book, list, x, m, out)
 }
 
 // All that a text prints, at the front of out, with room lent for what a run keeps.
@@ -50,8 +48,8 @@ fn print_all(
     requires { ⌜ (length (now line) ≡ 50000) × (132 ≤ length (now list)) × (48 ≤ length (now x)) × (2304 ≤ length (now m)) × (84 * length (now text) + 32272 ≤ length (now out)) ⌝ }
     ensures { λ n. ⌜ PrintsAll (now (text .entry)) (now (out .entry)) n (now (out .exit)) ⌝ }
 {
-    let begun = chunks::begin();
-    let taken = chunks::take_chunk(begun, line, list, x, m, text, out);
+    let begun = adjustment::begin();
+    let taken = adjustment::take_chunk(begun, line, list, x, m, text, out);
     let printed = taken.printed;
     let n = close(taken, line, list, x, m, &mut out[printed..]);
     printed + n

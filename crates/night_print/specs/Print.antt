@@ -50,16 +50,16 @@ opensRun r =
       matrix = r .matrix;
     }
 
-unfoldable pub enters : WholeRun → List ℕ → WholeRun
-enters r line = cond (isStationLine line) r (opensRun r)
+unfoldable pub lineEnters : WholeRun → List ℕ → WholeRun
+lineEnters r line = cond (isStationLine line) r (opensRun r)
 
 -- "A refused opening … prints `REFUSED no` …, and ends"
-unfoldable pub entersSaying : WholeRun → List ℕ → List ℕ
-entersSaying r line = cond (isStationLine line) [] (openingSays (flat (r .stations)) (r .phase))
+unfoldable pub entrySays : WholeRun → List ℕ → List ℕ
+entrySays r line = cond (isStationLine line) [] (openingSays (flat (r .stations)) (r .phase))
 
 -- "An S line later, not numbered in turn from 1, or of another kind letter is unreadable"
-abbrev pub asks : WholeRun → List ℕ → Command
-asks r line = commandOf (length (r .stations)) (isUnopened (r .phase)) line
+abbrev pub lineAsks : WholeRun → List ℕ → Command
+lineAsks r line = commandOf (length (r .stations)) (isUnopened (r .phase)) line
 
 unfoldable pub stationsAfter : List station.Station → Command → List station.Station
 stationsAfter ss (Station s) = ss ++ (s ∷ [])
@@ -72,8 +72,8 @@ stationsAfter ss (Matrix n) = ss
 stationsAfter ss Unreadable = ss
 
 -- c is what the line asks
-abbrev pub follows : WholeRun → List ℕ → Command → WholeRun
-follows r line c =
+abbrev pub lineObeyed : WholeRun → List ℕ → Command → WholeRun
+lineObeyed r line c =
     record {
       stations = stationsAfter (r .stations) c;
       lines = suc (r .lines);
@@ -83,11 +83,11 @@ follows r line c =
     }
 
 unfoldable pub lineNext : WholeRun → List ℕ → WholeRun
-lineNext r line = follows (enters r line) line (asks (enters r line) line)
+lineNext r line = lineObeyed (lineEnters r line) line (lineAsks (lineEnters r line) line)
 
 -- "A refused edit prints `LINE k REFUSED no`, k from 1; any other line `LINE k UNREADABLE`; the run goes on"
 unfoldable pub lineSays : WholeRun → List ℕ → List ℕ
-lineSays r line = entersSaying r line ++ phaseSays (enters r line .phase) (suc (enters r line .lines)) (asks (enters r line) line)
+lineSays r line = entrySays r line ++ phaseSays (lineEnters r line .phase) (suc (lineEnters r line .lines)) (lineAsks (lineEnters r line) line)
 
 -- ════ all lines, and the end
 unfoldable pub linesNext : WholeRun → List (List ℕ) → WholeRun

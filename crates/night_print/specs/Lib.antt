@@ -1,0 +1,9 @@
+pub mod Closing
+pub mod Steps
+pub mod StepLaws
+pub mod Print
+pub mod PrintLaws
+pub mod Whole
+pub mod Texts
+pub mod TailLaws
+pub mod Examples
