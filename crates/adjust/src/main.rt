@@ -31,7 +31,7 @@ fn turn(
     out: &mut [u8],
 ) -> Stepped
     requires { ⌜ Ready (taken .state) (taken .book) (now list) (now x) (now m) ⌝ }
-    requires { ⌜ (length (now line) ≡ 50000) × (taken .len ≤ 50000) × (taken .state .lines + 1025 < 18446744073709551616) × (length (now chunk) ≡ 1024) × (86016 ≤ length (now out)) ⌝ }
+    requires { ⌜ (length (now line) ≡ 50000) × (taken .len ≤ 50000) × (taken .state .lines + 769 < 18446744073709551616) × (length (now chunk) ≡ 768) × (64512 ≤ length (now out)) ⌝ }
     ensures { λ s. ⌜ Steps (runOf (taken .state) (taken .book) (now (list .entry)) (now (x .entry)) (now (m .entry))) (holds (now (line .entry)) (taken .len) (taken .over)) (readFailed (now (answer .exit))) (readGave (now (answer .exit)) (now (chunk .exit))) (now (out .entry)) (s .progress) (runOf (s .taken .state) (s .taken .book) (now (list .exit)) (now (x .exit)) (now (m .exit))) (holds (now (line .exit)) (s .taken .len) (s .taken .over)) (s .printed) (now (out .exit)) ⌝ }
     ensures { λ s. ⌜ Goes taken (readGave (now (answer .exit)) (now (chunk .exit))) (s .progress) (s .taken) (s .printed) (now (list .exit)) (now (x .exit)) (now (m .exit)) (now (out .exit)) ⌝ }
 {
@@ -42,7 +42,7 @@ fn turn(
     night_print::step(taken, failed, &chunk[..n], line, list, x, m, out)
 }
 
-// Takes chunk after chunk, and writes what each prints before the next is read. The numbers of lines are 64-bit: after 2^54 reads, of at most 1,024 bytes each, the input counts as one that
+// Takes chunk after chunk, and writes what each prints before the next is read. The numbers of lines are 64-bit: after 2^54 reads, of at most 768 bytes each, the input counts as one that
 // could not be read to its end.
 fn run(
     line: &mut [u8],
@@ -52,7 +52,7 @@ fn run(
     chunk: &mut [u8],
     out: &mut [u8],
 ) -> Finish
-    requires { ⌜ (length (now line) ≡ 50000) × (132 ≤ length (now list)) × (48 ≤ length (now x)) × (2304 ≤ length (now m)) × (length (now chunk) ≡ 1024) × (86016 ≤ length (now out)) ⌝ }
+    requires { ⌜ (length (now line) ≡ 50000) × (132 ≤ length (now list)) × (48 ≤ length (now x)) × (2304 ≤ length (now m)) × (length (now chunk) ≡ 768) × (64512 ≤ length (now out)) ⌝ }
     ensures { λ f. ⌜ ProgramEnds f ⌝ }
 {
     let mut taken = adjustment::begin();
@@ -103,16 +103,16 @@ fn matrix_room() -> [i64; 2304]
 }
 
 // The messages of a chunk, at most 84 bytes for each of its own, or a sheet.
-fn out_room() -> [u8; 86016]
-    ensures { λ r. ⌜ 86016 ≡ length r ⌝ }
+fn out_room() -> [u8; 64512]
+    ensures { λ r. ⌜ 64512 ≡ length r ⌝ }
 {
-    [0; 86016]
+    [0; 64512]
 }
 
-fn chunk_room() -> [u8; 1024]
-    ensures { λ r. ⌜ 1024 ≡ length r ⌝ }
+fn chunk_room() -> [u8; 768]
+    ensures { λ r. ⌜ 768 ≡ length r ⌝ }
 {
-    [0; 1024]
+    [0; 768]
 }
 
 // A failed read is told on standard error, so that what was printed is not taken for all.

@@ -13,7 +13,7 @@ use Rattle.adjust.proofs.run.Tie as tie
 abbrev Inv-loop : tie.InvT-loop
 Inv-loop line₀ list₀ x₀ m₀ chunk₀ out₀ taken₀ answer₀ reads₀ line list x m chunk out taken answer reads =
     (length line ≡ length line₀) × (length list ≡ length list₀) × (length x ≡ length x₀) × (length m ≡ length m₀) × (length chunk ≡ length chunk₀) × (length out ≡ length out₀)
-    × Ready (taken .state) (taken .book) list x m × (taken .len ≤ 50000) × (taken .state .lines ≤ reads * 1024)
+    × Ready (taken .state) (taken .book) list x m × (taken .len ≤ 50000) × (taken .state .lines ≤ reads * 768)
     × Led (runOf (taken .state) (taken .book) list x m) (holds line (taken .len) (taken .over))
 
 abbrev μ-loop : tie.MeasureT-loop
@@ -151,7 +151,7 @@ loop-again : tie.Need-loop-again Inv-loop μ-loop
 loop-again c = let i = c .before .before .before .before .before .before .before .before .before .before .before .before .before .before .before .before .before .before .before .before .before .before .before .before .before .loop .inv in
     let t = c .before .before .before .before .before .before .before .before .before .before .before .before .before .before .before .before .turn in
     let e = c .before .enum-told4 .given .1 in
-    let k : length (t .last .1 .1 .1 .1 .1 .1 .0) ≡ 1024 = t .kept .1 .1 .1 .1 .1 .1 .0 ∙ i .4 ∙ c .before .before .before .before .before .before .before .before .before .before .before .before .before .before .before .before .before .before .before .before .before .before .before .before .before .before .before .before .before .before .pre .4 in
+    let k : length (t .last .1 .1 .1 .1 .1 .1 .0) ≡ 768 = t .kept .1 .1 .1 .1 .1 .1 .0 ∙ i .4 ∙ c .before .before .before .before .before .before .before .before .before .before .before .before .before .before .before .before .before .before .before .before .before .before .before .before .before .before .before .before .before .before .pre .4 in
     let few = gave-few (t .last .1 .0) (t .last .1 .1 .1 .1 .1 .1 .0) in
     let lines = t .ensures .1 .lines e in (
       t .kept .1 .1 .0 ∙ i .0,

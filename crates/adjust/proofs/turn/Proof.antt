@@ -22,7 +22,7 @@ slice-aggregate-step c = search needs
 step-requires : tie.Need-step-requires
 step-requires c κs = let s = c .before .before .before .before .before .before .before .before .before .before .before .before .before .before .before in
     let n = c .before .before .before .before .before .before .count .ensures .0 in
-    let k : length (c .before .before .before .before .before .before .before .before .before .before .read .last .1 .0) ≡ 1024 = c .before .before .before .before .before .before .before .before .before .before .read .kept .1 .0 ∙ s .pre .1 .3 in
+    let k : length (c .before .before .before .before .before .before .before .before .before .before .read .last .1 .0) ≡ 768 = c .before .before .before .before .before .before .before .before .before .before .read .kept .1 .0 ∙ s .pre .1 .3 in
     (s .pre .0, (s .pre .1 .0, s .pre .1 .1, omega (arith, s .pre .1 .2, n .0, n .1), omega (arith, s .pre .1 .4, n .0, n .1), omega (arith, s .pre .1 .4)))
 
 same-length : tie.Need-same-length
