@@ -27,6 +27,7 @@ NAMED = {'input': 46, 'SHEET': 20, 'LOOSE': 7, 'PASS': 13, 'LINE k UNREADABLE': 
 LIMITS = {'input': 122, 'GLOBAL LOW': 30, 'GLOBAL PASS': 60, 'GLOBAL HIGH': 30, 'GLOBAL NONE': 2}
 PIECES = {'input': 100, 'SHEET': 20, 'LINE k UNREADABLE': 40, 'LINE k REFUSED 7': 30, 'NO PROPOSAL': 3, 'REFUSED 1': 15, 'REFUSED 10': 15, 'REFUSED 11': 12, 'REFUSED 14': 8,
           **{kind.__name__: share for kind, share in inputs.KINDS}}
+WHOLE = {'input': 900, 'SHEET': 240, 'NO PROPOSAL': 30, 'REFUSED 1': 180, 'REFUSED 11': 150, 'LINE k UNREADABLE': 400, 'LINE k REFUSED 7': 250}
 FAILING = {'input': 300, 'a sheet withheld': 50, 'within a line': 75, 'between lines': 120, 'messages': 100, 'no message': 90, 'a refused opening': 40}
 RANDOM = {'input': INPUTS, 'SHEET': 1000, 'PASS': 700, 'FAIL': 600, 'LOOSE': 400, 'GLOBAL PASS': 400, 'GLOBAL HIGH': 400, 'GLOBAL NONE': 80, 'GLOBAL LOW': 10,
           'LINE k UNREADABLE': 1500, 'NO PROPOSAL': 120, 'REFUSED 1': 700, 'REFUSED 10': 500, 'REFUSED 11': 500, 'REFUSED 12': 20, 'REFUSED 13': 15, 'REFUSED 14': 150,
@@ -97,6 +98,20 @@ def interrupted(tally):
     tally.add('coverage of failing inputs', seen.lacking(FAILING))
 
 
+def whole(tally):
+    """Random inputs taken as one whole text, by the function whose contract is the definition of what a text prints: the same bytes as chunk by chunk."""
+    seen = Seen()
+    for seed in range(1000):
+        data = inputs.made(seed)[1]
+        if len(data) <= program.LONGEST:
+            got, want = program.output(data, program.WHOLE), program.output(data)
+            seen.add(got, 'input')
+            tally.add('seed %d as a whole text' % seed, None if got == want else program.first_difference(got, want))
+    tally.add('coverage of whole texts', seen.lacking(WHOLE))
+    longer = program.output(b'U' * (program.LONGEST + 1), program.WHOLE)
+    tally.add('a text that is too long', None if b'longer than' in longer and b'UNREADABLE' not in longer else 'printed %r' % longer[:200])
+
+
 def differential(tally, count):
     """Random inputs from the seeds 0 .. COUNT - 1: the program against the reference."""
     seen = Seen()
@@ -125,6 +140,7 @@ def main():
         for test in streams.BOTH:
             tally.add('%s, %s' % (os.path.relpath(command, program.ROOT), test.__name__), test(command))
     interrupted(tally)
+    whole(tally)
     differential(tally, count)
     print('%d passed, %d failed' % (tally.passed, tally.failed))
     sys.exit(tally.failed != 0)

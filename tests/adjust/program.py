@@ -6,6 +6,8 @@ import sys
 HERE = os.path.dirname(os.path.abspath(__file__))
 ROOT = os.path.dirname(os.path.dirname(HERE))
 PROGRAM = os.path.join(ROOT, 'target', 'bin', 'adjust')
+WHOLE = os.path.join(ROOT, 'target', 'bin', 'whole_texts')
+LONGEST = 8192      # bytes of a text that WHOLE takes
 WRAPPER = os.path.join(ROOT, 'bin', 'adjust')
 sys.path.insert(0, os.path.join(HERE, '..', 'reference'))
 import lines
@@ -14,9 +16,9 @@ import proposals
 LIMIT = 60      # seconds that no run takes
 
 
-def output(data):
+def output(data, path=PROGRAM):
     """What the program prints for these bytes; an error text or a status other than 0 is shown in it, and so is a wrong output."""
-    done = subprocess.run([PROGRAM], input=data, stdout=subprocess.PIPE, stderr=subprocess.PIPE, timeout=LIMIT, close_fds=False)
+    done = subprocess.run([path], input=data, stdout=subprocess.PIPE, stderr=subprocess.PIPE, timeout=LIMIT, close_fds=False)
     if done.returncode or done.stderr:
         return done.stdout + b'(status %d) ' % done.returncode + done.stderr
     return done.stdout

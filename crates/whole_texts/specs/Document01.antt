@@ -27,7 +27,7 @@ use Rattle.book.specs.Run.{final, answers}
 use Rattle.book.specs.Rows.{rowNext, rowSays}
 use Rattle.sheet.specs.Sheet.{sheetWords, room}
 use Rattle.sheet.specs.SheetLaws.{sheet-length}
-use Rattle.checks.specs.Checks.{checked, printRoom, onAcceptance, sheetAfter}
+use Rattle.checks.specs.Checks.{checked, hasRoom, onAcceptance, sheetAfter}
 use Rattle.cases.specs.Table.{stationList, level, table}
 use Rattle.cases.specs.Cases.{rowsOf, bookOf, xOf, mOf, filled, enough, Holds, first}
 use Rattle.cases.specs.Brief.{brief-follows}
@@ -231,7 +231,7 @@ room-is = sym (kinds-room (bookOf first .network) (bookOf first .places)) ∙ rw
 
 -- the words of a sheet are those that it leaves at the front of lent ones
 module _ (b : Book) (x m lent sheet : List ℤ) where
-  words-from : checked b x m (printRoom b lent) ≡ Accepted → room (b .network) (b .places) ≡ length sheet → sheetAfter b x m lent ≡ sheet ++ drop (length sheet) lent
+  words-from : checked b x m (hasRoom b lent) ≡ Accepted → room (b .network) (b .places) ≡ length sheet → sheetAfter b x m lent ≡ sheet ++ drop (length sheet) lent
       → sheetWords (b .network) (b .places) x m ≡ sheet
   unfolding sheetAfter onAcceptance
   words-from accepts long leaves =
@@ -244,7 +244,7 @@ words-are : sheetWords (bookOf first .network) (bookOf first .places) (xOf first
 words-are =
     let lent = replicate enough (pos 0) in
     words-from (bookOf first) (xOf first) (mOf first) lent (first .sheet)
-    (accepted-0 (checked (bookOf first) (xOf first) (mOf first) (printRoom (bookOf first) lent)) (holds .checkSheet lent (lit≤ tt) .number))
+    (accepted-0 (checked (bookOf first) (xOf first) (mOf first) (hasRoom (bookOf first) lent)) (holds .checkSheet lent (lit≤ tt) .number))
     room-is
     (holds .written lent (lit≤ tt))
 
