@@ -1,17 +1,21 @@
--- How the program ends: which bytes it was given, and which it handed to write. Assumes nothing.
+-- How the program ends: which bytes it was given, and which it handed to write. What read gave and what write was handed no contract can name; they stand here as the contents of the
+-- buffers that the two calls were lent. Assumes nothing.
 --   Chunks   night_print, Whole   chunks taken one after the other, and what they print
 --   Concludes   night_print, Closing    what the end of the input prints
 --   Prints   night_print, Print   document 01's print of a text
 use Prim.Native.Nat.{ℕ}
-use mathlib.Core.Bool.{Bool}
-use mathlib.Core.List.{List, _++_}
+use mathlib.Core.Path.{_≡_}
+use mathlib.Core.Bool.{Bool, false}
+use mathlib.Core.List.{List, [], _∷_, _++_}
 use lib.Signed.{ltZ}
 use lib.ListN.{length, take}
 use lib.IntN.{ℤ, pos}
 use Rattle.io.specs.Counts.{clamped}
 use Rattle.text.specs.Lines.{Kept, blank, concat}
-use Rattle.input_lines.specs.Runs.{Run, start}
+use Rattle.input_lines.specs.Runs.{ended, Run, start}
+use Rattle.adjustment.specs.Chunks.{Takes}
 use Rattle.night_print.specs.Closing.{Concludes}
+use Rattle.night_print.specs.Steps.{isEnded}
 use Rattle.night_print.specs.Print.{Prints}
 use Rattle.night_print.specs.Whole.{Chunks}
 use Rattle.adjust.specs.declared.Finish.{Finish}
@@ -24,20 +28,27 @@ readFailed answer = ltZ answer (pos 0)
 abbrev pub readGave : ℤ → List ℕ → List ℕ
 readGave answer chunk = take (clamped answer (length chunk)) chunk
 
--- ════ how the program ends
--- in each case read gave the chunks ss, one after the other, and t was handed to write, chunk by chunk
-pub data ProgramEnds : Finish → Type 0 where
-  -- the input has ended: what the end prints, the front of `after`, was handed to write last, and all of it is the print of all that was read
+-- ════ how the program ends, with what it leaves in its buffers `chunk` and `out`
+-- in each case read gave the chunks ss, one after the other, whose lines printed t, which was handed to write chunk by chunk
+pub data ProgramEnds : Finish → List ℕ → List ℕ → Type 0 where
+  -- the input has ended: what the end prints, the front of `out`, was handed to write last, and all of it is the print of all that was read
   printed :
-      {ss : List (List ℕ)} {t before after : List ℕ} {r : Run} {k : Kept} {n : ℕ} →
+      {ss : List (List ℕ)} {t before chunk out : List ℕ} {r : Run} {k : Kept} {n : ℕ} →
       Chunks start blank ss t r k →
-      Concludes r k before n after →
-      Prints (concat ss) (t ++ take n after) →
-      ProgramEnds Printed
-  -- the opening was refused: t is the print of what was read, whatever chunks would have come after it
+      isEnded (r .phase) ≡ false →
+      Concludes r k before n out →
+      Prints (concat ss) (t ++ take n out) →
+      ProgramEnds Printed chunk out
+  -- the opening was refused at a line of the last chunk, the front of `chunk`: what was handed to write, the front of `out` last, is the print of what was read, whatever would have come after it
   refused :
-      {ss : List (List ℕ)} {t : List ℕ} {r : Run} {k : Kept} → Chunks start blank ss t r k → ((rest : List (List ℕ)) → Prints (concat (ss ++ rest)) t) → ProgramEnds Refused
+      {ss : List (List ℕ)} {t before chunk out : List ℕ} {r r₁ : Run} {k k₁ : Kept} {n : ℕ} (answer : ℤ) →
+      Chunks start blank ss t r k →
+      isEnded (r .phase) ≡ false →
+      Takes r k (readGave answer chunk) before r₁ k₁ n out →
+      r₁ .phase ≡ ended →
+      ((rest : List (List ℕ)) → Prints (concat ((ss ++ (readGave answer chunk ∷ [])) ++ rest)) (t ++ take n out)) →
+      ProgramEnds Refused chunk out
   -- the next read failed: nothing more was handed to write, no end and no sheet
-  unread : {ss : List (List ℕ)} {t : List ℕ} {r : Run} {k : Kept} → Chunks start blank ss t r k → ProgramEnds Unread
+  unread : {ss : List (List ℕ)} {t chunk out : List ℕ} {r : Run} {k : Kept} → Chunks start blank ss t r k → ProgramEnds Unread chunk out
   -- the output took no more
-  unwritten : {ss : List (List ℕ)} {t : List ℕ} {r : Run} {k : Kept} → Chunks start blank ss t r k → ProgramEnds Unwritten
+  unwritten : {ss : List (List ℕ)} {t chunk out : List ℕ} {r : Run} {k : Kept} → Chunks start blank ss t r k → ProgramEnds Unwritten chunk out

@@ -23,9 +23,11 @@ pub record Led (r : Run) (k : Kept) : Type 0 where
   pub chunks : List (List ℕ)
   pub bytes : List ℕ
   pub led : Chunks start blank chunks bytes r k
+  pub going : isEnded (r .phase) ≡ false
 
 pub led-start : {r : Run} {k : Kept} → r ≡ start → k ≡ blank → Led r k
-led-start e b = rw (e, b) (record { chunks = []; bytes = []; led = no-more })
+unfolding isEnded
+led-start e b = rw (e, b) (record { chunks = []; bytes = []; led = no-more; going = refl })
 
 -- a read gives no more than the chunk holds
 pub gave-few : (answer : ℤ) (chunk : List ℕ) → length (readGave answer chunk) ≤ length chunk
@@ -42,13 +44,19 @@ ended-is (opened b) e = differ (cc)
 ended-is ended e = refl
 
 module _ {r r₁ : Run} {k k₁ : Kept} {failed : Bool} {came before after : List ℕ} {p : Progress} {n : ℕ} (s : Steps r k failed came before p r₁ k₁ n after) where
-  pub took : p ≡ progress.Reading → Takes r k came before r₁ k₁ n after
+  pub took : p ≡ progress.Reading → Takes r k came before r₁ k₁ n after × (isEnded (r₁ .phase) ≡ false)
   took e = by failed came refl refl
     where
-      by : (f : Bool) (c : List ℕ) → failed ≡ f → came ≡ c → Takes r k came before r₁ k₁ n after
+      going : (t : Bool) → isEnded (r₁ .phase) ≡ t → p ≡ cond t progress.Refused progress.Reading → isEnded (r₁ .phase) ≡ false
+      going true i q = differ (cc)
+      going false i q = i
+
+      by : (f : Bool) (c : List ℕ) → failed ≡ f → came ≡ c → Takes r k came before r₁ k₁ n after × (isEnded (r₁ .phase) ≡ false)
       by true c f g = let z = s .unread f .0 in differ (cc)
       by false [] f g = let z = s .ends f g .0 in differ (cc)
-      by false (b ∷ c) f g = s .takes f (λ z. differ (cc)) .1
+      by false (b ∷ c) f g =
+          let t = s .takes f (λ z. differ (cc)) in
+          (t .1, going (isEnded (r₁ .phase)) refl (t .0))
 
   pub was-ended : p ≡ progress.Refused → Takes r k came before r₁ k₁ n after × (r₁ .phase ≡ ended)
   was-ended e = by failed came refl refl
@@ -79,19 +87,24 @@ module _ {r r₁ : Run} {k k₁ : Kept} {failed : Bool} {came before after : Lis
   -- ════ one turn more, and the end
   module _ (l : Led r k) where
     pub led-on : p ≡ progress.Reading → Led r₁ k₁
-    led-on e = record { chunks = _; bytes = _; led = chunks-more (l .led) (took e) }
+    led-on e = let t = took e in record { chunks = _; bytes = _; led = chunks-more (l .led) (t .0); going = t .1 }
 
-    pub ran-printed : p ≡ progress.Finished → ProgramEnds Printed
-    ran-printed e = printed (l .led) (closed e) (whole-text (l .led) (closed e))
+    pub ran-printed : (chunk : List ℕ) → p ≡ progress.Finished → ProgramEnds Printed chunk after
+    ran-printed chunk e = printed (l .led) (l .going) (closed e) (whole-text (l .led) (closed e))
 
-    pub ran-refused : p ≡ progress.Refused → ProgramEnds Refused
-    ran-refused e =
-        let t = was-ended e in
-        let c = chunks-more (l .led) (t .0) in
-        refused c (λ rest. stopped-text rest c (t .1))
+pub ran-refused :
+    {r r₁ : Run} {k k₁ : Kept} {failed : Bool} {chunk before after : List ℕ} {p : Progress} {n : ℕ} (answer : ℤ) →
+    Steps r k failed (readGave answer chunk) before p r₁ k₁ n after →
+    Led r k →
+    p ≡ progress.Refused →
+    ProgramEnds Refused chunk after
+ran-refused answer s l e =
+    let t = was-ended s e in
+    let c = chunks-more (l .led) (t .0) in
+    refused answer (l .led) (l .going) (t .0) (t .1) (λ rest. stopped-text rest c (t .1))
 
-pub ran-unread : {r : Run} {k : Kept} → Led r k → ProgramEnds Unread
-ran-unread l = unread (l .led)
+pub ran-unread : {r : Run} {k : Kept} (chunk out : List ℕ) → Led r k → ProgramEnds Unread chunk out
+ran-unread chunk out l = unread (l .led)
 
-pub ran-unwritten : {r : Run} {k : Kept} → Led r k → ProgramEnds Unwritten
-ran-unwritten l = unwritten (l .led)
+pub ran-unwritten : {r : Run} {k : Kept} (chunk out : List ℕ) → Led r k → ProgramEnds Unwritten chunk out
+ran-unwritten chunk out l = unwritten (l .led)

@@ -53,7 +53,7 @@ fn run(
     out: &mut [u8],
 ) -> Finish
     requires { ⌜ (length (now line) ≡ 50000) × (132 ≤ length (now list)) × (48 ≤ length (now x)) × (2304 ≤ length (now m)) × (length (now chunk) ≡ 768) × (64512 ≤ length (now out)) ⌝ }
-    ensures { λ f. ⌜ ProgramEnds f ⌝ }
+    ensures { λ f. ⌜ ProgramEnds f (now (chunk .exit)) (now (out .exit)) ⌝ }
 {
     let mut taken = adjustment::begin();
     let mut answer: isize = 0;
