@@ -78,30 +78,6 @@ fn run(
     Finish::Unread
 }
 
-fn line_room() -> [u8; 50000]
-    ensures { λ r. ⌜ 50000 ≡ length r ⌝ }
-{
-    [0; 50000]
-}
-
-fn list_room() -> [i64; 132]
-    ensures { λ r. ⌜ 132 ≡ length r ⌝ }
-{
-    [0; 132]
-}
-
-fn corrections_room() -> [i64; 48]
-    ensures { λ r. ⌜ 48 ≡ length r ⌝ }
-{
-    [0; 48]
-}
-
-fn matrix_room() -> [i64; 2304]
-    ensures { λ r. ⌜ 2304 ≡ length r ⌝ }
-{
-    [0; 2304]
-}
-
 // The messages of a chunk, at most 84 bytes for each of its own, or a sheet.
 fn out_room() -> [u8; 64512]
     ensures { λ r. ⌜ 64512 ≡ length r ⌝ }
@@ -131,10 +107,10 @@ fn tell(finish: Finish) {
 }
 
 fn main() {
-    let mut line = line_room();
-    let mut list = list_room();
-    let mut x = corrections_room();
-    let mut m = matrix_room();
+    let mut line = night_print::line_room();
+    let mut list = night_print::list_room();
+    let mut x = night_print::corrections_room();
+    let mut m = night_print::matrix_room();
     let mut chunk = chunk_room();
     let mut out = out_room();
     let finish = run(&mut line, &mut list, &mut x, &mut m, &mut chunk, &mut out);

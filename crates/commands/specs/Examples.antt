@@ -1,16 +1,15 @@
--- The definitions at document 01's own example. Assumes nothing.
+-- What single lines ask. What document 01's own lines print is proved in crate whole_texts. Assumes nothing.
 use mathlib.Core.Path.{_≡_, refl}
 use mathlib.Core.Bool.{true, false}
-use mathlib.Core.List.{List, [], _∷_, _++_}
+use mathlib.Core.List.{List, [], _∷_}
 use Prim.Native.Nat.{ℕ}
-use lib.IntN.{ℤ, pos, negsuc}
+use lib.IntN.{pos}
 use Rattle.network.specs.declared.Kind.the-variants as kind
 use Rattle.network.specs.declared.Record.the-variants as record-of
 use Rattle.text.specs.Before.{before}
-use Rattle.text.specs.Numbers.{allDigits, isDecimal, valueAfter, signedOf, numberOf, decimalIn, decimal}
+use Rattle.text.specs.Numbers.{allDigits, isDecimal, valueAfter, signedOf, numberOf}
 use Rattle.text.specs.Fields.{fieldsOf, restFields, letterOf, numbersOf, atMost}
 use Rattle.commands.specs.Commands.{exactly, entryOf, added, replaced, replaceOf, undoOf, counted, kindOf, inTurn, stationOf, otherOf, fieldsCommand, commandOf}
-use Rattle.commands.specs.Sheet.{spaced, highVerdict, verdict, headLine, stationLine, baselineLine, heightLine, globalLine, stationLines, recordLine, recordWords, recordStart, recordLines, globalStart, sheetText}
 use Rattle.commands.specs.declared.Command.the-variants.{Station, Add, Replace, Strike, Undo, Corrections, Unreadable}
 
 -- `S 2 V 0 0 7`, after one S line
@@ -76,27 +75,3 @@ empty-correction = refl
 empty-line : commandOf 2 false [] ≡ Unreadable
 unfolding commandOf fieldsCommand otherOf added entryOf letterOf restFields fieldsOf before
 empty-line = refl
-
--- ════ document 01's sheet: two stations, two height differences
-words : List ℤ
-words =
-    pos 2 ∷ pos 1
-    ∷ pos 1 ∷ pos 0 ∷ pos 0 ∷ pos 100000 ∷ pos 0 ∷ pos 0 ∷ pos 0
-    ∷ pos 2 ∷ pos 0 ∷ pos 0 ∷ pos 101050 ∷ pos 0 ∷ pos 0 ∷ pos 5368709
-    ∷ pos 1 ∷ negsuc 49 ∷ pos 0
-    ∷ pos 2 ∷ pos 50 ∷ pos 0
-    ∷ pos 500000 ∷ pos 1 ∷ pos 0 ∷ []
-
--- `SHEET 2 RECORDS 1 UNKNOWNS`, `1 0 0 100000 0 0 0`, `2 0 0 101050 0 0 5368709`, `1 -50 PASS`, `2 50 PASS`, `GLOBAL 500000 1 PASS`
-printed : List ℕ
-printed =
-    (83 ∷ 72 ∷ 69 ∷ 69 ∷ 84 ∷ 32 ∷ 50 ∷ 32 ∷ 82 ∷ 69 ∷ 67 ∷ 79 ∷ 82 ∷ 68 ∷ 83 ∷ 32 ∷ 49 ∷ 32 ∷ 85 ∷ 78 ∷ 75 ∷ 78 ∷ 79 ∷ 87 ∷ 78 ∷ 83 ∷ 10 ∷ [])
-    ++ (49 ∷ 32 ∷ 48 ∷ 32 ∷ 48 ∷ 32 ∷ 49 ∷ 48 ∷ 48 ∷ 48 ∷ 48 ∷ 48 ∷ 32 ∷ 48 ∷ 32 ∷ 48 ∷ 32 ∷ 48 ∷ 10 ∷ [])
-    ++ (50 ∷ 32 ∷ 48 ∷ 32 ∷ 48 ∷ 32 ∷ 49 ∷ 48 ∷ 49 ∷ 48 ∷ 53 ∷ 48 ∷ 32 ∷ 48 ∷ 32 ∷ 48 ∷ 32 ∷ 53 ∷ 51 ∷ 54 ∷ 56 ∷ 55 ∷ 48 ∷ 57 ∷ 10 ∷ [])
-    ++ (49 ∷ 32 ∷ 45 ∷ 53 ∷ 48 ∷ 32 ∷ 80 ∷ 65 ∷ 83 ∷ 83 ∷ 10 ∷ [])
-    ++ (50 ∷ 32 ∷ 53 ∷ 48 ∷ 32 ∷ 80 ∷ 65 ∷ 83 ∷ 83 ∷ 10 ∷ [])
-    ++ (71 ∷ 76 ∷ 79 ∷ 66 ∷ 65 ∷ 76 ∷ 32 ∷ 53 ∷ 48 ∷ 48 ∷ 48 ∷ 48 ∷ 48 ∷ 32 ∷ 49 ∷ 32 ∷ 80 ∷ 65 ∷ 83 ∷ 83 ∷ 10 ∷ [])
-
-sheet : sheetText words 2 (2 ∷ 2 ∷ []) ≡ printed
-unfolding words printed sheetText headLine stationLines stationLine recordLines recordLine recordStart recordWords heightLine baselineLine globalStart globalLine spaced verdict highVerdict decimal decimalIn
-sheet = refl

@@ -1,5 +1,6 @@
 // The end of an input with a line that is held, and a whole text taken at once.
 use super::Printing;
+use super::rooms;
 use adjustment::Taken;
 ghost use Prim.Native.Nat.{_+_, _*_, _≤_, _<_};
 ghost use mathlib.Core.Path.{_≡_};
@@ -55,30 +56,6 @@ fn print_all(
     printed + n
 }
 
-fn line_room() -> [u8; 50000]
-    ensures { λ r. ⌜ 50000 ≡ length r ⌝ }
-{
-    [0; 50000]
-}
-
-fn list_room() -> [i64; 132]
-    ensures { λ r. ⌜ 132 ≡ length r ⌝ }
-{
-    [0; 132]
-}
-
-fn corrections_room() -> [i64; 48]
-    ensures { λ r. ⌜ 48 ≡ length r ⌝ }
-{
-    [0; 48]
-}
-
-fn matrix_room() -> [i64; 2304]
-    ensures { λ r. ⌜ 2304 ≡ length r ⌝ }
-{
-    [0; 2304]
-}
-
 // Whether out has room for whatever a text of that length prints: 84 bytes for each of its own, and the end.
 fn has_room(text: usize, out: usize) -> bool
     ensures { λ r. ⌜ r ≡ leb (84 * text + 32272) out ⌝ }
@@ -96,10 +73,10 @@ pub fn print_text(text: &[u8], out: &mut [u8]) -> Printing
     if !has_room(text.len(), out.len()) {
         return Printing::NoRoom;
     }
-    let mut line = line_room();
-    let mut list = list_room();
-    let mut x = corrections_room();
-    let mut m = matrix_room();
+    let mut line = rooms::line_room();
+    let mut list = rooms::list_room();
+    let mut x = rooms::corrections_room();
+    let mut m = rooms::matrix_room();
     let n = print_all(text, &mut line, &mut list, &mut x, &mut m, out);
     Printing::Bytes(n)
 }

@@ -1,9 +1,14 @@
 // Document 01's "The night print", all of it but for reading and writing: a run step by step, by what each read gave, and a whole text at once.
 mod closing;
+mod rooms;
 mod stepping;
 
 use adjustment::Taken;
 pub use closing::print_text;
+pub use rooms::corrections_room;
+pub use rooms::line_room;
+pub use rooms::list_room;
+pub use rooms::matrix_room;
 pub use stepping::step;
 
 // The print of a whole text: so many bytes at the front of the lent ones, or too little room for whatever it might print.
