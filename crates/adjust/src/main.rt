@@ -11,6 +11,9 @@ ghost use Rattle.input_lines.specs.States.{runOf, Ready};
 ghost use Rattle.night_print.specs.Steps.{Steps, Goes};
 ghost use Rattle.adjust.specs.Program.{readFailed, readGave, ProgramEnds};
 
+// 2^54 − 1: after so many reads of at most 768 bytes a line's number still fits 64 bits.
+const MOST_READS: usize = 18014398509481983;
+
 // How the program ends: all is printed, the input having ended or the opening having been refused; the input could not be read to its end; the output is closed.
 pub enum Finish {
     Printed,
@@ -42,8 +45,7 @@ fn turn(
     night_print::step(taken, failed, &chunk[..n], line, list, x, m, out)
 }
 
-// Takes chunk after chunk, and writes what each prints before the next is read. The numbers of lines are 64-bit: after 2^54 reads, of at most 768 bytes each, the input counts as one that
-// could not be read to its end.
+// Takes chunk after chunk, and writes what each prints before the next is read. An input of more reads than lines can be numbered counts as one that could not be read to its end.
 fn run(
     line: &mut [u8],
     list: &mut [i64],
@@ -58,7 +60,7 @@ fn run(
     let mut taken = adjustment::begin();
     let mut answer: isize = 0;
     let mut reads: usize = 0;
-    while reads < 18014398509481983 {
+    while reads < MOST_READS {
         let s = turn(taken, &mut answer, line, list, x, m, chunk, out);
         let printed = s.printed;
         let progress = s.progress;

@@ -11,6 +11,12 @@ ghost use Rattle.input_lines.specs.States.{runOf, Ready};
 ghost use Rattle.night_print.specs.Closing.{Concludes};
 ghost use Rattle.night_print.specs.Texts.{PrintsAll, Printed};
 
+// The most bytes that a line prints, a refused opening's message with it; no byte of a text prints more.
+const LINE_PRINT: usize = 84;
+
+// The most bytes that a last line and the end print.
+const END_PRINT: usize = 32272;
+
 // What the end of the input prints, at the front of out. A last line that lacks its LF is taken first, as if it had it.
 pub fn close(
     taken: Taken,
@@ -60,10 +66,10 @@ fn print_all(
 fn has_room(text: usize, out: usize) -> bool
     ensures { λ r. ⌜ r ≡ leb (84 * text + 32272) out ⌝ }
 {
-    if out < 32272 {
+    if out < END_PRINT {
         return false;
     }
-    text <= (out - 32272) / 84
+    text <= (out - END_PRINT) / LINE_PRINT
 }
 
 // Prints a whole text: document 01's "The night print" of all its bytes, at the front of out.
