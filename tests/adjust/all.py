@@ -5,6 +5,7 @@
 Prints what failed, with the seed of a random input (inputs.py SEED writes it), what was seen, and 'N passed, M failed' last."""
 import glob
 import os
+import signal
 import sys
 
 sys.path.insert(0, os.path.join(os.path.dirname(os.path.abspath(__file__)), '..', 'reference'))
@@ -128,6 +129,8 @@ def differential(tally, count):
 
 
 def main():
+    # a shell has what it starts in the background ignore a Ctrl-C, as the gate starts these tests; what they start is to hear it
+    signal.signal(signal.SIGINT, signal.default_int_handler)
     count = int(sys.argv[1]) if len(sys.argv) > 1 else INPUTS
     tally = Tally()
     for test in wrapper.TESTS + building.TESTS + pages.TESTS:
