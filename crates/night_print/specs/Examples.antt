@@ -10,7 +10,6 @@ use Rattle.text.specs.Lines.{linesAfter}
 use Rattle.commands.specs.Messages.{refused}
 use Rattle.reports.specs.Reports.{none}
 use Rattle.network.specs.StationWords.{flat}
-use Rattle.commands.specs.Commands.{commandOf}
 use Rattle.input_lines.specs.Runs.{phaseOpened, openingSays, phaseAfter, phaseSays}
 use Rattle.adjustment.specs.Ends.{phaseEnds}
 use Rattle.night_print.specs.Print.{lineEnters, entrySays, lineNext, lineSays, linesNext, linesSay, endPrints, printed}

@@ -13,17 +13,17 @@ use lib.IntN.{ℤ}
 use Rattle.network.specs.StationWords.{flat, flat-length, flat-one}
 use Rattle.network.specs.declared.Station as station
 use Rattle.text.specs.Fields.{restFields}
-use Rattle.text.specs.Lines.{Kept, kept, linesOf}
+use Rattle.text.specs.Lines.{kept, linesOf}
 use Rattle.commands.specs.Brings.{brings}
 use Rattle.commands.specs.Commands.{commandOf, isStationLine, correctionsIn, matrixIn}
 use Rattle.commands.specs.CommandLaws.{kept-command, kept-station-line}
 use Rattle.commands.specs.declared.Command.{Command}
 use Rattle.commands.specs.declared.Command.the-variants.{Station, Add, Replace, Strike, Undo, Corrections, Matrix, Unreadable}
 use Rattle.reports.specs.Reports.{Offer}
-use Rattle.input_lines.specs.Runs.{Phase, unopened, opened, ended, Given, Run, start, phaseOpened, openingSays, openRun, entered, enteringSays, asked, isUnopened, wordsAfter, readAfter, phaseAfter, phaseSays, correctionsNext, matrixNext, givenBy, obeyed, next, says, runAfter, saysAll}
+use Rattle.input_lines.specs.Runs.{Phase, unopened, opened, ended, Given, Run, start, phaseOpened, openingSays, openRun, entered, enteringSays, asked, isUnopened, wordsAfter, readAfter, givenBy, obeyed, next, says, runAfter, saysAll}
 use Rattle.input_lines.specs.Cut.{noted-one, opening-cut}
-use Rattle.adjustment.specs.Ends.{phaseEnds, endSays}
-use Rattle.night_print.specs.Print.{WholeRun, atStart, opensRun, lineEnters, entrySays, lineAsks, stationsAfter, lineObeyed, lineNext, lineSays, linesNext, linesSay, endPrints, afterLines, printed}
+use Rattle.adjustment.specs.Ends.{endSays}
+use Rattle.night_print.specs.Print.{WholeRun, atStart, opensRun, lineEnters, entrySays, lineAsks, stationsAfter, lineObeyed, lineNext, lineSays, linesNext, linesSay, endPrints, afterLines}
 
 -- ════ what is kept of a run
 abbrev pub keptRun : WholeRun → Run

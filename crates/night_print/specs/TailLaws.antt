@@ -13,7 +13,7 @@ use Rattle.text.specs.Lines.{Kept, blank, came, concat, isLine, lastKept}
 use Rattle.input_lines.specs.Runs.{Run, start, runAfter, saysAll}
 use Rattle.input_lines.specs.StateLaws.{written-front, written-beyond, drop-further}
 use Rattle.adjustment.specs.Chunks.{Takes}
-use Rattle.adjustment.specs.Ends.{endSays, Ends}
+use Rattle.adjustment.specs.Ends.{Ends}
 use Rattle.night_print.specs.Closing.{Concludes}
 use Rattle.night_print.specs.Print.{Prints}
 use Rattle.night_print.specs.Texts.{PrintsAll}

@@ -1,6 +1,5 @@
 -- `turn` meets its contract. Assumes nothing.
 use lib.ListN.{length}
-use Prim.Native.Nat.{_≤_}
 use native.Mathlib.Omega.{arith}
 use mathlib.Core.Path.{_≡_, _∙_}
 use borrow.Author.Needs.{needs}

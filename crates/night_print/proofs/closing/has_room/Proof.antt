@@ -3,8 +3,7 @@ use Rattle.night_print.specs.TailLaws.{room-test}
 use borrow.Author.Tests.{lt-leb}
 use Prim.Native.Nat.{_+_, _*_}
 use native.Mathlib.Omega.{arith}
-use mathlib.Core.Path.{sym, _∙_}
-use borrow.Author.Needs.{needs}
+use mathlib.Core.Path.{sym}
 use Rattle.night_print.proofs.closing.has_room.Statement.{statement}
 use Rattle.night_print.proofs.closing.has_room.Tie as tie
 
