@@ -1,5 +1,5 @@
--- How the program ends: which bytes it was given, and which it handed to write. What read gave and what write was handed no contract can name; they stand here as the contents of the
--- buffers that the two calls were lent. Assumes nothing.
+-- How the program ends. What read gave and what write was handed no contract can name: the contract of `turn` speaks of them as the contents of the buffers that the two calls are lent, and
+-- here they stand as lists that exist, of which the latest are in those buffers. Assumes nothing.
 --   Chunks   night_print, Whole   chunks taken one after the other, and what they print
 --   Concludes   night_print, Closing    what the end of the input prints
 --   Prints   night_print, Print   document 01's print of a text
@@ -29,9 +29,9 @@ abbrev pub readGave : ℤ → List ℕ → List ℕ
 readGave answer chunk = take (clamped answer (length chunk)) chunk
 
 -- ════ how the program ends, with what it leaves in its buffers `chunk` and `out`
--- in each case read gave the chunks ss, one after the other, whose lines printed t, which was handed to write chunk by chunk
+-- in each case there are chunks ss, taken one after the other, whose lines print t: a chunk is what a turn found in its buffer, and t what the turns left at the front of `out`
 pub data ProgramEnds : Finish → List ℕ → List ℕ → Type 0 where
-  -- the input has ended: what the end prints, the front of `out`, was handed to write last, and all of it is the print of all that was read
+  -- the input has ended: the front of `out` is what the end prints after them, and with t it is the print of their text
   printed :
       {ss : List (List ℕ)} {t before chunk out : List ℕ} {r : Run} {k : Kept} {n : ℕ} →
       Chunks start blank ss t r k →
@@ -39,7 +39,7 @@ pub data ProgramEnds : Finish → List ℕ → List ℕ → Type 0 where
       Concludes r k before n out →
       Prints (concat ss) (t ++ take n out) →
       ProgramEnds Printed chunk out
-  -- the opening was refused at a line of the last chunk, the front of `chunk`: what was handed to write, the front of `out` last, is the print of what was read, whatever would have come after it
+  -- the opening was refused at a line of one chunk more, the front of `chunk`: the front of `out` is what its lines print, and with t it is the print of their text, whatever would have come after it
   refused :
       {ss : List (List ℕ)} {t before chunk out : List ℕ} {r r₁ : Run} {k k₁ : Kept} {n : ℕ} (answer : ℤ) →
       Chunks start blank ss t r k →
@@ -48,7 +48,7 @@ pub data ProgramEnds : Finish → List ℕ → List ℕ → Type 0 where
       r₁ .phase ≡ ended →
       ((rest : List (List ℕ)) → Prints (concat ((ss ++ (readGave answer chunk ∷ [])) ++ rest)) (t ++ take n out)) →
       ProgramEnds Refused chunk out
-  -- the next read failed: nothing more was handed to write, no end and no sheet
+  -- the next read failed: nothing is printed after t, no end and no sheet
   unread : {ss : List (List ℕ)} {t chunk out : List ℕ} {r : Run} {k : Kept} → Chunks start blank ss t r k → ProgramEnds Unread chunk out
   -- the output took no more
   unwritten : {ss : List (List ℕ)} {t chunk out : List ℕ} {r : Run} {k : Kept} → Chunks start blank ss t r k → ProgramEnds Unwritten chunk out

@@ -14,6 +14,7 @@ use Rattle.night_print.specs.declared.Progress.the-variants as progress
 use Rattle.adjustment.specs.Chunks.{Takes}
 use Rattle.night_print.specs.Closing.{Concludes}
 use Rattle.night_print.specs.Steps.{isEnded, Steps}
+use Rattle.night_print.specs.StepLaws.{differ}
 use Rattle.night_print.specs.Whole.{Chunks, no-more, chunks-more, whole-text, stopped-text}
 use Rattle.adjust.specs.declared.Finish.the-variants.{Printed, Refused, Unread, Unwritten}
 use Rattle.adjust.specs.Program.{readGave, ProgramEnds, printed, refused, unread, unwritten}
@@ -34,9 +35,6 @@ pub gave-few : (answer : ℤ) (chunk : List ℕ) → length (readGave answer chu
 gave-few answer chunk = let e = length-take (clamped answer (length chunk)) chunk in omega arith
 
 -- ════ what a turn's progress says of the step
-differ : {A : Type 0} → _≡_ {A = ℕ} 0 1 → A
-differ e = absurd (omega arith)
-
 ended-is : (p : Phase) → isEnded p ≡ true → p ≡ ended
 unfolding isEnded
 ended-is unopened e = differ (cc)

@@ -8,7 +8,7 @@ ghost use Prim.Native.Nat.{_+_, _≤_, _<_};
 ghost use lib.ListN.{length};
 ghost use Rattle.text.specs.Lines.{holds};
 ghost use Rattle.input_lines.specs.States.{runOf, Ready};
-ghost use Rattle.night_print.specs.Steps.{Steps, Goes};
+ghost use Rattle.night_print.specs.Steps.{Steps, Continues};
 ghost use Rattle.adjust.specs.Program.{readFailed, readGave, ProgramEnds};
 
 // 2^54 − 1: after so many reads of at most 768 bytes a line's number still fits 64 bits.
@@ -36,7 +36,7 @@ fn turn(
     requires { ⌜ Ready (taken .state) (taken .book) (now list) (now x) (now m) ⌝ }
     requires { ⌜ (length (now line) ≡ 50000) × (taken .len ≤ 50000) × (taken .state .lines + 769 < 18446744073709551616) × (length (now chunk) ≡ 768) × (64512 ≤ length (now out)) ⌝ }
     ensures { λ s. ⌜ Steps (runOf (taken .state) (taken .book) (now (list .entry)) (now (x .entry)) (now (m .entry))) (holds (now (line .entry)) (taken .len) (taken .over)) (readFailed (now (answer .exit))) (readGave (now (answer .exit)) (now (chunk .exit))) (now (out .entry)) (s .progress) (runOf (s .taken .state) (s .taken .book) (now (list .exit)) (now (x .exit)) (now (m .exit))) (holds (now (line .exit)) (s .taken .len) (s .taken .over)) (s .printed) (now (out .exit)) ⌝ }
-    ensures { λ s. ⌜ Goes taken (readGave (now (answer .exit)) (now (chunk .exit))) (s .progress) (s .taken) (s .printed) (now (list .exit)) (now (x .exit)) (now (m .exit)) (now (out .exit)) ⌝ }
+    ensures { λ s. ⌜ Continues taken (readGave (now (answer .exit)) (now (chunk .exit))) (s .progress) (s .taken) (s .printed) (now (list .exit)) (now (x .exit)) (now (m .exit)) (now (out .exit)) ⌝ }
 {
     let got = libc::read(0, chunk);
     *answer = got;

@@ -17,7 +17,7 @@ use Rattle.night_print.specs.declared.Progress.the-variants.{Reading, Fi
 use Rattle.adjustment.specs.Chunks.{Takes}
 use Rattle.night_print.specs.Closing.{Concludes}
 use Rattle.adjustment.specs.declared.Taken.{Taken}
-use Rattle.night_print.specs.Steps.{isEnded, Steps, Goes}
+use Rattle.night_print.specs.Steps.{isEnded, Steps, Continues}
 
 pub ended-phase : (p : code-phase.Phase) (b : Book) → isEnded (phaseOf p b) ≡ endedPhase p
 unfolding isEnded phaseOf endedPhase
@@ -25,8 +25,12 @@ ended-phase Unopened b = refl
 ended-phase Opened b = refl
 ended-phase Ended b = refl
 
+-- anything follows where two different things are equal
+pub differ : {A : Type 0} → _≡_ {A = ℕ} 0 1 → A
+differ e = absurd (omega arith)
+
 never : {A : Type 0} → true ≡ false → A
-never e = let z : _≡_ {A = ℕ} 0 1 = cc in absurd (omega arith)
+never e = differ (cc)
 
 none-left : (l : List ℕ) → length l ≡ 0 → l ≡ []
 none-left [] e = refl
@@ -59,14 +63,14 @@ module _ {r r₁ : Run} {k k₁ : Kept} {failed : Bool} {came before : List ℕ}
 
 -- ════ what the next step asks, where there is one
 not-unread : {A : Type 0} → Unread ≡ Reading → A
-not-unread e = let z : _≡_ {A = ℕ} 0 1 = cc in absurd (omega arith)
+not-unread e = differ (cc)
 
 not-finished : {A : Type 0} → Finished ≡ Reading → A
-not-finished e = let z : _≡_ {A = ℕ} 0 1 = cc in absurd (omega arith)
+not-finished e = differ (cc)
 
 module _ {t t₁ : Taken} {came : List ℕ} {printed : ℕ} {list x m : List ℤ} {out : List ℕ} where
-  pub goes-unread : printed ≤ length out → Goes t came Unread t₁ printed list x m out
-  goes-unread h = record { ready = λ e. not-unread e; short = λ e. not-unread e; lines = λ e. not-unread e; within = h }
+  pub continues-unread : printed ≤ length out → Continues t came Unread t₁ printed list x m out
+  continues-unread h = record { ready = λ e. not-unread e; short = λ e. not-unread e; lines = λ e. not-unread e; within = h }
 
-  pub goes-finished : printed ≤ length out → Goes t came Finished t₁ printed list x m out
-  goes-finished h = record { ready = λ e. not-finished e; short = λ e. not-finished e; lines = λ e. not-finished e; within = h }
+  pub continues-finished : printed ≤ length out → Continues t came Finished t₁ printed list x m out
+  continues-finished h = record { ready = λ e. not-finished e; short = λ e. not-finished e; lines = λ e. not-finished e; within = h }

@@ -10,7 +10,7 @@ ghost use lib.ListN.{length};
 ghost use Rattle.text.specs.Lines.{holds};
 ghost use Rattle.input_lines.specs.States.{runOf, Ready};
 ghost use Rattle.night_print.specs.declared.Progress.the-variants.{Reading, Refused};
-ghost use Rattle.night_print.specs.Steps.{Steps, Goes};
+ghost use Rattle.night_print.specs.Steps.{Steps, Continues};
 
 // A refused opening ends a run.
 fn progress_of(ended: bool) -> Progress
@@ -37,7 +37,7 @@ pub fn step(
     requires { ⌜ Ready (taken .state) (taken .book) (now list) (now x) (now m) ⌝ }
     requires { ⌜ (length (now line) ≡ 50000) × (taken .len ≤ 50000) × (taken .state .lines + length (now came) + 1 < 18446744073709551616) × (84 * length (now came) ≤ length (now out)) × (32272 ≤ length (now out)) ⌝ }
     ensures { λ s. ⌜ Steps (runOf (taken .state) (taken .book) (now (list .entry)) (now (x .entry)) (now (m .entry))) (holds (now (line .entry)) (taken .len) (taken .over)) failed (now (came .entry)) (now (out .entry)) (s .progress) (runOf (s .taken .state) (s .taken .book) (now (list .exit)) (now (x .exit)) (now (m .exit))) (holds (now (line .exit)) (s .taken .len) (s .taken .over)) (s .printed) (now (out .exit)) ⌝ }
-    ensures { λ s. ⌜ Goes taken (now (came .entry)) (s .progress) (s .taken) (s .printed) (now (list .exit)) (now (x .exit)) (now (m .exit)) (now (out .exit)) ⌝ }
+    ensures { λ s. ⌜ Continues taken (now (came .entry)) (s .progress) (s .taken) (s .printed) (now (list .exit)) (now (x .exit)) (now (m .exit)) (now (out .exit)) ⌝ }
 {
     if failed {
         let progress = Progress::Unread;

@@ -17,9 +17,9 @@ use Rattle.network.specs.declared.Station.{Station}
 use Rattle.network.specs.declared.Kind.the-variants as kind
 use Rattle.network.specs.declared.Network.{Network}
 use Rattle.acceptance.specs.Judge.{numberOf}
+use Rattle.acceptance.specs.JudgeLaws.{refusal-least}
 use Rattle.acceptance.specs.declared.Answer.{Answer}
 use Rattle.acceptance.specs.declared.Answer.the-variants.{Accepted, Refused}
-use Rattle.acceptance.specs.declared.Refusal.the-variants.{Lengths, Untied, Correction, Inverse, Defect, Residual, Refinement, TooLarge}
 use Rattle.book.specs.declared.Book.{Book}
 use Rattle.book.specs.Book.{openedBook, bookNext, bookSays}
 use Rattle.book.specs.Calls.{Call, add}
@@ -216,14 +216,7 @@ two-heights = ap kindsOf (holds .records)
 -- only an acceptance has number 0
 accepted-0 : (a : Answer) → numberOf a ≡ 0 → a ≡ Accepted
 accepted-0 Accepted e = refl
-accepted-0 (Refused Lengths) e = absurd (omega arith)
-accepted-0 (Refused (Untied unknown)) e = absurd (omega arith)
-accepted-0 (Refused Correction) e = absurd (omega arith)
-accepted-0 (Refused Inverse) e = absurd (omega arith)
-accepted-0 (Refused Defect) e = absurd (omega arith)
-accepted-0 (Refused Residual) e = absurd (omega arith)
-accepted-0 (Refused Refinement) e = absurd (omega arith)
-accepted-0 (Refused TooLarge) e = absurd (omega arith)
+accepted-0 (Refused refusal) e = absurd (omega (arith, refusal-least refusal))
 
 room-is : room (bookOf first .network) (bookOf first .places) ≡ length (first .sheet)
 unfolding globalStart recordStart recordWords

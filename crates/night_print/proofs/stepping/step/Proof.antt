@@ -1,7 +1,7 @@
 -- `stepping::step` meets its contract. Assumes nothing.
 use mathlib.Core.Bool.{Bool, cond}
 use Rattle.night_print.specs.declared.Progress.the-variants.{Reading, Refused}
-use Rattle.night_print.specs.StepLaws.{ended-phase, step-unread, step-ends, step-takes, goes-unread, goes-finished}
+use Rattle.night_print.specs.StepLaws.{ended-phase, step-unread, step-ends, step-takes, continues-unread, continues-finished}
 use native.Mathlib.Omega.{arith}
 use mathlib.Core.Path.{sym, ap, _∙_}
 use borrow.Author.Needs.{needs}
@@ -9,7 +9,7 @@ use Rattle.night_print.proofs.stepping.step.Statement.{statement}
 use Rattle.night_print.proofs.stepping.step.Tie as tie
 
 returns : tie.Need-returns
-returns c = (step-unread (c .if1 .taken), goes-unread (omega arith))
+returns c = (step-unread (c .if1 .taken), continues-unread (omega arith))
 
 close-requires : tie.Need-close-requires
 close-requires c κs = let s = c .before .before .before .before .before .before .before .before .before .before in (s .pre .0, (s .pre .1 .0, s .pre .1 .1, omega (arith, s .pre .1 .2), s .pre .1 .4))
@@ -32,7 +32,7 @@ same-length-5 c = search needs
 returns-2 : tie.Need-returns-2
 returns-2 c = let s = c .before .before .before .before .before .before .before .before .before .before .before .before .before .before .before .before .before .before in
     let h = c .before .before .before .before .before .before .before .close in
-    (step-ends (c .before .before .before .before .before .before .before .before .before .before .before .before .before .before .if1 .left) (omega (arith, c .before .before .before .before .before .before .before .before .before .before .before .before .before .if2 .taken)) (h .ensures), goes-finished (omega (arith, h .ensures .small, h .kept .1 .1 .1 .1 .1 .0, s .pre .1 .4)))
+    (step-ends (c .before .before .before .before .before .before .before .before .before .before .before .before .before .before .if1 .left) (omega (arith, c .before .before .before .before .before .before .before .before .before .before .before .before .before .if2 .taken)) (h .ensures), continues-finished (omega (arith, h .ensures .small, h .kept .1 .1 .1 .1 .1 .0, s .pre .1 .4)))
 
 take-chunk-requires : tie.Need-take-chunk-requires
 take-chunk-requires c κs = let s = c .before .before .before .before .before .before .before .before .before .before in (s .pre .0, (s .pre .1 .0, s .pre .1 .1, omega (arith, s .pre .1 .2), s .pre .1 .3))
