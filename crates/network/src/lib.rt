@@ -21,6 +21,7 @@ pub use records::joins_of;
 pub use records::misclosures_of;
 pub use records::to_of;
 pub use records::weights_of;
+pub use rules::ends_fit;
 pub use rules::is_empty;
 pub use rules::record_fits;
 pub use rules::record_fits_over;

@@ -23,7 +23,8 @@ fn in_list(count: usize, v: i64) -> bool
     words::index_in(v, count) < count
 }
 
-fn ends_fit(count: usize, from: i64, to: i64) -> bool
+// Both are numbers of stations, and not the same.
+pub fn ends_fit(count: usize, from: i64, to: i64) -> bool
     ensures { λ t. ⌜ t ≡ endsFit count from to ⌝ }
 {
     in_list(count, from) & in_list(count, to) & !words::same(from, to)

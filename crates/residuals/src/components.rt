@@ -1,9 +1,9 @@
-// Corrections by component, and the residuals of a record.
+// Corrections and adjusted coordinates by component, and the residuals of a record.
 use network::Record;
 use network::Station;
 ghost use mathlib.Core.Path.{_≡_};
 ghost use Prim.Native.Nat.{_+_, _*_, _<_, _≤_};
-ghost use lib.IntN.{pos, natAbs, _-ℤ_, _*ℤ_};
+ghost use lib.IntN.{pos, natAbs, _+ℤ_, _-ℤ_, _*ℤ_};
 ghost use lib.ListN.{getD};
 ghost use Rattle.integers.specs.Tables.{Within};
 ghost use Rattle.network.specs.Stations.{unknownCount};
@@ -26,6 +26,14 @@ pub fn corrections_of(stations: [Station; 32], x: &[i64]) -> [i64; 96]
         q = q + 1;
     }
     out
+}
+
+// The adjusted coordinate of component q: provisional plus correction.
+pub fn adjusted(coordinate: &[i64; 96], correction: &[i64; 96], q: usize) -> i64
+    requires { ⌜ (q < 96) × Within 96 500000000 (now coordinate) × Within 96 100000 (now correction) ⌝ }
+    ensures { λ r. ⌜ r ≡ getD (now (coordinate .entry)) q (pos 0) +ℤ getD (now (correction .entry)) q (pos 0) ⌝ }
+{
+    coordinate[q] + correction[q]
 }
 
 // The residual in component a between the stations f and t, with the misclosure l; j is 0 where there is no from end.

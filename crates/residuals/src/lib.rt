@@ -3,6 +3,7 @@ mod components;
 mod variances;
 mod verdicts;
 
+pub use components::adjusted;
 pub use components::corrections_of;
 pub use components::residuals_of;
 pub use variances::Adjugate;

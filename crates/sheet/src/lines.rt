@@ -4,8 +4,8 @@ use network::Level;
 use network::Record;
 ghost use mathlib.Core.Path.{_≡_};
 ghost use Prim.Native.Nat.{_+_, _<_, _≤_};
-ghost use lib.IntN.{pos, natAbs, _+ℤ_};
-ghost use lib.ListN.{getD, length};
+ghost use lib.IntN.{pos};
+ghost use lib.ListN.{length};
 ghost use Rattle.integers.specs.Tables.{Within};
 ghost use Rattle.network.specs.Records.{fromOf, toOf};
 ghost use Rattle.residuals.specs.Components.{Lookup};
@@ -24,14 +24,6 @@ pub fn put_words(sheet: &mut [i64], at: usize, w: &[i64])
         sheet[at + i] = w[i];
         i = i + 1;
     }
-}
-
-// The adjusted coordinate of component q.
-fn adjusted(coordinate: &[i64; 96], correction: &[i64; 96], q: usize) -> i64
-    requires { ⌜ (q < 96) × Within 96 500000000 (now coordinate) × Within 96 100000 (now correction) ⌝ }
-    ensures { λ r. ⌜ r ≡ getD (now (coordinate .entry)) q (pos 0) +ℤ getD (now (correction .entry)) q (pos 0) ⌝ }
-{
-    coordinate[q] + correction[q]
 }
 
 // A number from 1 of what is counted from 0.
@@ -57,9 +49,9 @@ pub fn station_line(
 {
     let q = s * 3;
     let k = numbered(s);
-    let x = adjusted(coordinate, correction, q);
-    let y = adjusted(coordinate, correction, q + 1);
-    let z = adjusted(coordinate, correction, q + 2);
+    let x = residuals::adjusted(coordinate, correction, q);
+    let y = residuals::adjusted(coordinate, correction, q + 1);
+    let z = residuals::adjusted(coordinate, correction, q + 2);
     let e = residuals::covariance(number, unknown, m, n, q, q);
     let f = residuals::covariance(number, unknown, m, n, q + 1, q + 1);
     let g = residuals::covariance(number, unknown, m, n, q + 2, q + 2);

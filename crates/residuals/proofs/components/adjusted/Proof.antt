@@ -3,8 +3,8 @@ use mathlib.Core.List.{[], _∷_}
 use lib.ListN.{getD}
 use lib.IntN.{pos}
 use Rattle.integers.specs.Code.{fit, code-bounds, ringm, code-shapes}
-use Rattle.sheet.proofs.lines.adjusted.Statement.{statement}
-use Rattle.sheet.proofs.lines.adjusted.Tie as tie
+use Rattle.residuals.proofs.components.adjusted.Statement.{statement}
+use Rattle.residuals.proofs.components.adjusted.Tie as tie
 
 mul-result : tie.Need-mul-result
 mul-result c = search needs
