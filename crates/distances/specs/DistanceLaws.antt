@@ -1,0 +1,81 @@
+-- What the tests of a check distance give: the sizes of its values, how large the number of an answer is, and the answer itself. Assumes nothing.
+use Prim.Native.Nat.{ℕ, _≤_}
+use mathlib.Core.Path.{_≡_, refl}
+use mathlib.Core.Bool.{true, false, _&&_}
+use mathlib.Core.List.{[], _∷_}
+use native.Mathlib.Omega.{arith}
+use borrow.Author.Tests.{leb-true}
+use lib.Dec.{lit≤}
+use lib.IntN.{ℤ, pos, negsuc, natAbs}
+use lib.Signed.{leZ, ltZ}
+use Rattle.words.specs.Bools.{clash, and-left, and-right}
+use Rattle.network.specs.All.{each}
+use Rattle.network.specs.Rules.{endsFit}
+use Rattle.network.specs.declared.Network.{Network}
+use Rattle.acceptance.specs.JudgeLaws.{refusal-least, refusal-most}
+use Rattle.distances.specs.Distances.{heightFits, distanceInRange, answered, distanceNumber, agreementNumber}
+use Rattle.distances.specs.declared.CheckDistance.{CheckDistance}
+use Rattle.distances.specs.declared.DistanceRefusal.{DistanceRefusal}
+use Rattle.distances.specs.declared.DistanceRefusal.the-variants.{Ends, Range, Pair}
+use Rattle.distances.specs.declared.Agreement.{Agreement}
+use Rattle.distances.specs.declared.Agreement.the-variants.{Agrees, Disagrees, Refused}
+
+-- ════ sizes
+pub record InRange (d : CheckDistance) : Type 0 where
+  pub instrument : natAbs (d .instrument) ≤ 300000
+  pub target : natAbs (d .target) ≤ 300000
+  pub distance : natAbs (d .distance) ≤ 1800000000
+  pub tolerance : natAbs (d .tolerance) ≤ 100000
+
+-- a number from k to most
+size : (k most : ℕ) (v : ℤ) → leZ (pos k) v && leZ v (pos most) ≡ true → natAbs v ≤ most
+size k most v e = go v (and-left (leZ (pos k) v) (leZ v (pos most)) e) (and-right (leZ (pos k) v) (leZ v (pos most)) e)
+  where
+    go : (v : ℤ) → leZ (pos k) v ≡ true → leZ v (pos most) ≡ true → natAbs v ≤ most
+    go (pos n) p q = leb-true n most q
+    go (negsuc n) p q = clash p refl
+
+pub in-range : (d : CheckDistance) → distanceInRange d ≡ true → InRange d
+unfolding distanceInRange
+in-range d e =
+    let t = each
+    (heightFits (d .instrument) ∷ heightFits (d .target)
+    ∷ (leZ (pos 1) (d .distance) && leZ (d .distance) (pos 1800000000))
+    ∷ (leZ (pos 0) (d .tolerance) && leZ (d .tolerance) (pos 100000)) ∷ ltZ (d .tolerance) (d .distance) ∷ []) e in
+    record {
+      instrument = size 0 300000 (d .instrument) (t .0);
+      target = size 0 300000 (d .target) (t .1 .0);
+      distance = size 1 1800000000 (d .distance) (t .1 .1 .0);
+      tolerance = size 0 100000 (d .tolerance) (t .1 .1 .1 .0);
+    }
+
+-- ════ numbers: that of a refusal is 3 to 17
+pub distance-least : (r : DistanceRefusal) → 3 ≤ distanceNumber r
+distance-least Ends = lit≤ tt
+distance-least Range = lit≤ tt
+distance-least (Pair r) = omega (arith, refusal-least r)
+
+distance-most : (r : DistanceRefusal) → distanceNumber r ≤ 17
+distance-most Ends = lit≤ tt
+distance-most Range = lit≤ tt
+distance-most (Pair r) = omega (arith, refusal-most r)
+
+pub agreement-most : (a : Agreement) → natAbs (agreementNumber a) ≤ 17
+agreement-most Agrees = lit≤ tt
+agreement-most Disagrees = lit≤ tt
+agreement-most (Refused r) = distance-most r
+
+-- ════ the answer by its tests
+module _ (net : Network) (d : CheckDistance) (next : Agreement) where
+  pub ends-refused : endsFit (net .count) (d .from) (d .to) ≡ false → Refused Ends ≡ answered net d next
+  unfolding answered
+  ends-refused e = rw e
+
+  module _ (e : endsFit (net .count) (d .from) (d .to) ≡ true) where
+    pub range-refused : distanceInRange d ≡ false → Refused Range ≡ answered net d next
+    unfolding answered
+    range-refused f = rw (e, f)
+
+    pub not-refused : distanceInRange d ≡ true → next ≡ answered net d next
+    unfolding answered
+    not-refused f = rw (e, f)

@@ -1,0 +1,64 @@
+// The squared slope distance between two marks by the sheet's coordinates, and its comparison with a check distance.
+use super::CheckDistance;
+use super::distance;
+use network::Network;
+use network::Unit;
+ghost use mathlib.Core.Path.{_≡_};
+ghost use mathlib.Core.Bool.{true};
+ghost use Prim.Native.Nat.{_<_, _≤_};
+ghost use lib.IntN.{natAbs, _+ℤ_};
+ghost use Rattle.integers.specs.Tables.{Within};
+ghost use Rattle.network.specs.Rules.{endsFit};
+ghost use Rattle.residuals.specs.Ranges.{Moved};
+ghost use Rattle.distances.specs.Distances.{square, distanceInRange, agreesAt};
+ghost use Rattle.distances.specs.Tables.{differenceIn, slopeIn};
+
+// The difference of the adjusted coordinates in component c, station t minus station f, both counted from 0.
+fn difference(coordinate: &[i64; 96], correction: &[i64; 96], f: usize, t: usize, c: usize) -> i64
+    requires { ⌜ (f < 32) × (t < 32) × (c < 3) × Within 96 500000000 (now coordinate) × Within 96 100000 (now correction) ⌝ }
+    ensures { λ r. ⌜ (r ≡ differenceIn (now (coordinate .entry)) (now (correction .entry)) f t c) × (natAbs r ≤ 1000200000) ⌝ }
+{
+    let a = residuals::adjusted(coordinate, correction, t * 3 + c);
+    let b = residuals::adjusted(coordinate, correction, f * 3 + c);
+    a - b
+}
+
+// e² + n² + u².
+fn squared(e: i64, n: i64, u: i64) -> i64
+    requires { ⌜ (natAbs e ≤ 1000200000) × (natAbs n ≤ 1000200000) × (natAbs u ≤ 1000800000) ⌝ }
+    ensures { λ r. ⌜ r ≡ square e +ℤ square n +ℤ square u ⌝ }
+{
+    e * e + n * n + u * u
+}
+
+// The squared distance between the stations f and t, the U difference taken plus `rise`.
+fn squared_slope(
+    coordinate: &[i64; 96],
+    correction: &[i64; 96],
+    f: usize,
+    t: usize,
+    rise: i64,
+) -> i64
+    requires { ⌜ (f < 32) × (t < 32) × (natAbs rise ≤ 600000) × Within 96 500000000 (now coordinate) × Within 96 100000 (now correction) ⌝ }
+    ensures { λ r. ⌜ r ≡ slopeIn (now (coordinate .entry)) (now (correction .entry)) f t rise ⌝ }
+{
+    let e = difference(coordinate, correction, f, t, 0);
+    let n = difference(coordinate, correction, f, t, 1);
+    let u = difference(coordinate, correction, f, t, 2);
+    squared(e, n, u + rise)
+}
+
+// Whether the distance agrees with the coordinates at the corrections x.
+pub fn agrees(net: Network, x: &[i64], d: CheckDistance) -> bool
+    requires { ⌜ Moved net (now x) × (endsFit (net .count) (d .from) (d .to) ≡ true) × (distanceInRange d ≡ true) ⌝ }
+    ensures { λ r. ⌜ r ≡ agreesAt (net .stations) (now (x .entry)) d ⌝ }
+{
+    let stations = net.stations;
+    let coordinate = network::coordinates_of(stations);
+    let correction = residuals::corrections_of(stations, x);
+    let f = words::index_in(d.from, Unit::STATIONS);
+    let t = words::index_in(d.to, Unit::STATIONS);
+    let rise = d.target - d.instrument;
+    let slope = squared_slope(&coordinate, &correction, f, t, rise);
+    distance::within_tolerance(d.distance, d.tolerance, slope)
+}
