@@ -55,7 +55,7 @@ distance-least Ends = lit≤ tt
 distance-least Range = lit≤ tt
 distance-least (Pair r) = omega (arith, refusal-least r)
 
-distance-most : (r : DistanceRefusal) → distanceNumber r ≤ 17
+pub distance-most : (r : DistanceRefusal) → distanceNumber r ≤ 17
 distance-most Ends = lit≤ tt
 distance-most Range = lit≤ tt
 distance-most (Pair r) = omega (arith, refusal-most r)

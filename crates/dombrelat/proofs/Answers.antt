@@ -1,4 +1,4 @@
--- The cases of a check, without and with a sheet. Assumes nothing.
+-- The cases of a check, without and with a sheet, and of a check distance. Assumes nothing.
 use Prim.Native.Nat.{ℕ}
 use mathlib.Core.Path.{_≡_, sym, ap, _∙_}
 use mathlib.Core.Bool.{Bool, true, false, cond}
@@ -8,9 +8,12 @@ use Rattle.words.specs.Runs.{putWords}
 use Rattle.acceptance.specs.declared.Answer.{Answer}
 use Rattle.book.specs.declared.Book.{Book}
 use Rattle.sheet.specs.Sheet.{sheetWords}
+use Rattle.distances.specs.declared.CheckDistance.{CheckDistance}
+use Rattle.distances.specs.declared.Agreement.{Agreement}
+use Rattle.lent_checks.specs.LentDistances.{agreementWord, agreementLent}
 use Rattle.lent_checks.specs.LentChecks.{answerWord, checkedLent, onAccepted, allWords, sheetFits}
 use Rattle.layout.specs.Bytes.{bookOf, bytesFit}
-use Rattle.dombrelat.specs.CheckCalls.{checkCall, Judged, judgedLent, sheetCall}
+use Rattle.dombrelat.specs.CheckCalls.{checkCall, Judged, judgedLent, sheetCall, distanceCall}
 
 -- ════ a check
 module _ (s x m : List ℕ) where
@@ -43,3 +46,13 @@ module _ (s x m o : List ℕ) where
             ∙ ap (λ (y : Answer). onAccepted y (putWords o 0 (sheetWords (bookOf s .network) (bookOf s .places) (allWords x) (allWords m))) o) is
             ∙ ap (λ (j : Judged). j .sheet) f,
       )
+
+-- ════ a check distance
+module _ (s x m : List ℕ) (d : CheckDistance) where
+  pub distance-unfit : bytesFit s ≡ false → pos 25 ≡ distanceCall s x m d
+  unfolding distanceCall
+  distance-unfit e = rw e
+
+  pub distance-fit : (b : Book) (a : Agreement) → bytesFit s ≡ true → b ≡ bookOf s → a ≡ agreementLent b x m d → agreementWord a ≡ distanceCall s x m d
+  unfolding distanceCall
+  distance-fit b a e p q = rw e (ap agreementWord (q ∙ ap (λ (y : Book). agreementLent y x m d) p))

@@ -1,7 +1,7 @@
 -- Demand 1 over the C calls, the statement alone (specs/Demand1Holds.antt proves it): every call answers on every input; a refusal gives its number and changes nothing. Document 01: "It
 -- changes neither book, history nor sheet. A refused opening makes no book and writes nothing on lent bytes." The crate engine states it over the calls in the language. Assumes nothing.
 --   opens, edit            specs/Calls.antt       what the contracts of the C calls promise: the answer, and the lent bytes afterwards
---   checkCall, sheetCall   specs/CheckCalls.antt
+--   checkCall, sheetCall, distanceCall   specs/CheckCalls.antt
 --   Proposes               specs/Proposal.antt
 --   unknownsCall, sheetBytesCall, stationsCall, recordCall   specs/Reading.antt; numbered: 256 · the number that a call gives
 --   bytesFit               layout, specs/Bytes.antt   what 25 tests of lent book bytes
@@ -13,9 +13,10 @@ use lib.IntN.{ℤ, pos, negsuc}
 use Rattle.book.specs.Calls.{Call}
 use Rattle.network.specs.Stations.{unknownCount}
 use Rattle.sheet.specs.Sheet.{room}
+use Rattle.distances.specs.declared.CheckDistance.{CheckDistance}
 use Rattle.layout.specs.Bytes.{bookOf, bytesFit}
 use Rattle.dombrelat.specs.Calls.{edit, opens}
-use Rattle.dombrelat.specs.CheckCalls.{checkCall, sheetCall}
+use Rattle.dombrelat.specs.CheckCalls.{checkCall, sheetCall, distanceCall}
 use Rattle.dombrelat.specs.Proposal.{Proposes}
 use Rattle.dombrelat.specs.Reading.{numbered, unknownsCall, sheetBytesCall, stationsCall, recordCall}
 
@@ -25,6 +26,7 @@ pub data Asked : Type 0 where
   toEdit : (book : List ℕ) → Call → Asked
   toCheck : (book x m : List ℕ) → Asked
   toCheckSheet : (book x m sheet : List ℕ) → Asked
+  toCheckDistance : (book x m : List ℕ) → CheckDistance → Asked
   toPropose : (book x m : List ℕ) → Asked
   toReadUnknowns : (book : List ℕ) → Asked
   toReadSheetBytes : (book : List ℕ) → Asked
@@ -42,6 +44,7 @@ given (toOpen list book) = record { books = book ∷ []; others = [] }
 given (toEdit book c) = record { books = book ∷ []; others = [] }
 given (toCheck book x m) = record { books = []; others = [] }
 given (toCheckSheet book x m sheet) = record { books = []; others = sheet ∷ [] }
+given (toCheckDistance book x m d) = record { books = []; others = [] }
 given (toPropose book x m) = record { books = []; others = x ∷ m ∷ [] }
 given (toReadUnknowns book) = record { books = []; others = [] }
 given (toReadSheetBytes book) = record { books = []; others = [] }
@@ -55,6 +58,7 @@ Returns (toEdit book c) r left = (r ≡ edit book c .answer) × (left ≡ record
 Returns (toCheck book x m) r left = (r ≡ checkCall book x m) × (left ≡ record { books = []; others = [] })
 Returns (toCheckSheet book x m sheet) r left =
     (r ≡ sheetCall book x m sheet .answer) × (left ≡ record { books = []; others = sheetCall book x m sheet .sheet ∷ [] })
+Returns (toCheckDistance book x m d) r left = (r ≡ distanceCall book x m d) × (left ≡ record { books = []; others = [] })
 Returns (toPropose book x m) r left = (x′ : List ℕ) × (m′ : List ℕ) × Proposes book r x m x′ m′ × (left ≡ record { books = []; others = x′ ∷ m′ ∷ [] })
 Returns (toReadUnknowns book) r left = (r ≡ unknownsCall book) × (left ≡ record { books = []; others = [] })
 Returns (toReadSheetBytes book) r left = (r ≡ sheetBytesCall book) × (left ≡ record { books = []; others = [] })
@@ -64,7 +68,7 @@ Returns (toReadRecord book place out) r left =
     (r ≡ recordCall book place out .answer) × (left ≡ record { books = []; others = recordCall book place out .bytes ∷ [] })
 
 -- ════ an answer taken apart: refusal + 256 · number
--- the refusal, as the header's DOMBRELAT_REFUSAL gives it: 0 where the call is not refused. −1, no proposal, is one by itself
+-- the refusal, as the header's DOMBRELAT_REFUSAL gives it: 0 where the call is not refused. −1, no proposal, and −2, a distance that does not agree, are each one by itself
 unfoldable pub refusalIn : ℤ → ℤ
 refusalIn (pos n) = pos (n % 256)
 refusalIn (negsuc n) = negsuc n
@@ -75,6 +79,7 @@ numberGiven (toOpen list book) = 0
 numberGiven (toEdit book c) = 0
 numberGiven (toCheck book x m) = 0
 numberGiven (toCheckSheet book x m sheet) = 0
+numberGiven (toCheckDistance book x m d) = 0
 numberGiven (toPropose book x m) = 0
 numberGiven (toReadUnknowns book) = unknownCount (bookOf book .network .stations)
 numberGiven (toReadSheetBytes book) = 8 * room (bookOf book .network) (bookOf book .places)

@@ -24,16 +24,22 @@ use Rattle.book.specs.Calls.{Call, placeOf, unless}
 use Rattle.book.specs.CallLaws.{call-small}
 use Rattle.book.specs.Book.{openedBook, opening, outcome}
 use Rattle.sheet.specs.Sheet.{room}
+use Rattle.distances.specs.declared.CheckDistance.{CheckDistance}
+use Rattle.distances.specs.declared.Agreement.{Agreement}
+use Rattle.distances.specs.declared.Agreement.the-variants.{Agrees, Disagrees, Refused as refusing}
+use Rattle.distances.specs.Distances.{distanceNumber, distanceUnknown}
+use Rattle.distances.specs.DistanceLaws.{distance-least, distance-most}
+use Rattle.lent_checks.specs.LentDistances.{agreementWord, agreementLent}
 use Rattle.lent_checks.specs.LentChecks.{answerWord, checkedLent, sheetFits, onAccepted}
 use Rattle.lent_checks.specs.Offers.{Offers, OffersLent, lentLengths}
 use Rattle.layout.specs.Layout.{recordWords}
 use Rattle.layout.specs.Bytes.{bookOf, bytesFit}
 use Rattle.dombrelat.specs.Calls.{Returned, refused, settled, through, edit, opens}
-use Rattle.dombrelat.specs.CheckCalls.{Judged, judgedLent, checkCall, sheetCall}
+use Rattle.dombrelat.specs.CheckCalls.{Judged, judgedLent, checkCall, sheetCall, distanceCall}
 use Rattle.dombrelat.specs.Proposal.{Proposes}
 use Rattle.dombrelat.specs.Reading.{numbered, gives, listWords, unknownsCall, sheetBytesCall, stationsCall, recordCall}
 use Rattle.dombrelat.specs.Demand3Holds.{opened-fits-next, edited-next}
-use Rattle.dombrelat.specs.Demand1.{Asked, toOpen, toEdit, toCheck, toCheckSheet, toPropose, toReadUnknowns, toReadSheetBytes, toReadStations, toReadRecord, Lent, given, Returns, refusalIn, numberGiven, Demand1}
+use Rattle.dombrelat.specs.Demand1.{Asked, toOpen, toEdit, toCheck, toCheckSheet, toCheckDistance, toPropose, toReadUnknowns, toReadSheetBytes, toReadStations, toReadRecord, Lent, given, Returns, refusalIn, numberGiven, Demand1}
 
 -- ════ answers taken apart
 Told : ℕ → ℤ → Type 0
@@ -143,6 +149,17 @@ sheet-right s x m sheet = go (bytesFit s) (judgedLent (checkedLent (bookOf s) x 
     go true j o = o
     go false j o = unfit-right 0 sheet
 
+-- ════ a check distance: 17, and the numbers of the check's own, are refusals, and so is −2
+word-told : (a : Agreement) → Told 0 (agreementWord a)
+unfolding Told agreementWord refusalIn
+word-told Agrees e = refl
+word-told Disagrees e = e
+word-told (refusing r) e = absurd (let z : (distanceNumber r + 256 * distanceUnknown r) % 256 ≡ 0 = remainder _ e in omega (arith, distance-least r, distance-most r))
+
+distance-told : (s x m : List ℕ) (d : CheckDistance) → Told 0 (distanceCall s x m d)
+unfolding distanceCall
+distance-told s x m d = told-either 0 (bytesFit s) (agreementWord (agreementLent (bookOf s) x m d)) (pos 25) (word-told _) (told-25 0)
+
 -- ════ a proposal
 record Offered (r : ℤ) (x m x′ m′ : List ℕ) : Type 0 where
   told : Told 0 r
@@ -225,6 +242,7 @@ told-all (toOpen list book) r left (e, q) = told-as 0 r _ e (opens-right list bo
 told-all (toEdit book c) r left (e, q) = told-as 0 r _ e (edit-right book c .told)
 told-all (toCheck book x m) r left (e, q) = told-as 0 r _ e (check-told book x m)
 told-all (toCheckSheet book x m sheet) r left (e, q) = told-as 0 r _ e (sheet-right book x m sheet .told)
+told-all (toCheckDistance book x m d) r left (e, q) = told-as 0 r _ e (distance-told book x m d)
 told-all (toPropose book x m) r left (x′, m′, p, q) = offered book r x m x′ m′ p .told
 told-all (toReadUnknowns book) r left (e, q) = told-as _ r _ e (unknowns-told book)
 told-all (toReadSheetBytes book) r left (e, q) = told-as _ r _ e (sheet-bytes-told book)
@@ -241,6 +259,7 @@ refused-all (toOpen list book) r left (e, q) h = q ∙ ap (λ (s : List ℕ). re
 refused-all (toEdit book c) r left (e, q) h = q ∙ ap (λ (s : List ℕ). record { books = s ∷ []; others = [] }) (edit-right book c .stays (refused-as r _ e h))
 refused-all (toCheck book x m) r left (e, q) h = q
 refused-all (toCheckSheet book x m sheet) r left (e, q) h = q ∙ ap (λ (s : List ℕ). record { books = []; others = s ∷ [] }) (sheet-right book x m sheet .stays (refused-as r _ e h))
+refused-all (toCheckDistance book x m d) r left (e, q) h = q
 refused-all (toPropose book x m) r left (x′, m′, p, q) h =
     let s = offered book r x m x′ m′ p .stays h in
     q ∙ (λ i. record { books = []; others = s .0 i ∷ s .1 i ∷ [] })
@@ -255,6 +274,7 @@ answers (toOpen list book) = (_, _, (refl, refl))
 answers (toEdit book c) = (_, _, (refl, refl))
 answers (toCheck book x m) = (_, _, (refl, refl))
 answers (toCheckSheet book x m sheet) = (_, _, (refl, refl))
+answers (toCheckDistance book x m d) = (_, _, (refl, refl))
 answers (toPropose book x m) = let p = proposes-something book x m in (p .0, _, (x, m, p .1, refl))
 answers (toReadUnknowns book) = (_, _, (refl, refl))
 answers (toReadSheetBytes book) = (_, _, (refl, refl))
@@ -275,6 +295,7 @@ accepted (toEdit s c) left book (e, q) h =
     subst (λ (k : List ℕ). bytesFit k ≡ true) (only (edit s c .bytes) book (left .books) (ap (λ (y : Lent). y .books) q) h) (edited-next s c (sym e) .fits)
 accepted (toCheck s x m) left book (e, q) h = none book (left .books) (ap (λ (y : Lent). y .books) q) h
 accepted (toCheckSheet s x m sheet) left book (e, q) h = none book (left .books) (ap (λ (y : Lent). y .books) q) h
+accepted (toCheckDistance s x m d) left book (e, q) h = none book (left .books) (ap (λ (y : Lent). y .books) q) h
 accepted (toPropose s x m) left book (x′, m′, p, q) h = none book (left .books) (ap (λ (y : Lent). y .books) q) h
 accepted (toReadUnknowns s) left book (e, q) h = none book (left .books) (ap (λ (y : Lent). y .books) q) h
 accepted (toReadSheetBytes s) left book (e, q) h = none book (left .books) (ap (λ (y : Lent). y .books) q) h

@@ -1,6 +1,7 @@
-// The C calls that check a solution against the book in lent bytes.
+// The C calls that check a solution against the book in lent bytes, and a taped distance against its sheet.
+use distances::CheckDistance;
 ghost use mathlib.Core.Path.{_≡_};
-ghost use Rattle.dombrelat.specs.CheckCalls.{checkCall, sheetCall};
+ghost use Rattle.dombrelat.specs.CheckCalls.{checkCall, sheetCall, distanceOf, distanceCall};
 
 // Checks corrections x and M against the book.
 #[no_mangle]
@@ -33,4 +34,38 @@ pub extern "C" fn dombrelat_check_sheet(book: &[u8], x: &[u8], m: &[u8], out: &m
     let b = layout::book_in(book);
     let a = lent_checks::check_sheet_lent(b, x, m, out);
     lent_checks::answer_word(a)
+}
+
+// Holds a taped distance against the coordinates of an accepted pair.
+#[no_mangle]
+pub extern "C" fn dombrelat_check_distance(
+    book: &[u8],
+    x: &[u8],
+    m: &[u8],
+    from: i64,
+    to: i64,
+    distance: i64,
+    instrument: i64,
+    target: i64,
+    tolerance: i64,
+) -> i64
+    ensures { λ r. ⌜ r ≡ distanceCall (now (book .entry)) (now (x .entry)) (now (m .entry)) (distanceOf from to distance instrument target tolerance) ⌝ }
+{
+    if book.len() < layout::BOOK_BYTES {
+        return 25;
+    }
+    if !layout::fits(book) {
+        return 25;
+    }
+    let b = layout::book_in(book);
+    let d = CheckDistance {
+        from,
+        to,
+        distance,
+        instrument,
+        target,
+        tolerance,
+    };
+    let a = lent_checks::check_distance_lent(b, x, m, d);
+    lent_checks::agreement_word(a)
 }

@@ -2,6 +2,7 @@
 -- Document 01: "It changes neither book, history nor sheet. A refused opening makes no book". The crate dombrelat states it again over the C calls. Assumes nothing.
 --   opening, outcome      book, specs/Book.antt      what the contracts of `Book::open` and of the edits promise: the answer, and the book afterwards
 --   checked, sheetAfter   checks, specs/Checks.antt  what those of `check` and `check_sheet` promise; numberOf (acceptance, specs/Judge.antt): the number of an answer
+--   agreement             distances, specs/Distances.antt   what that of `check_distance` promises; agreementNumber: its number
 --   Proposed              specs/Proposals.antt       what that of `propose` promises
 use mathlib.Core.Path.{_≡_}
 use mathlib.Core.Bool.{true}
@@ -13,6 +14,8 @@ use Rattle.book.specs.Calls.{Call, unless}
 use Rattle.book.specs.Book.{opening, outcome, sound}
 use Rattle.book.specs.Sound.{Sized}
 use Rattle.checks.specs.Checks.{checked, hasRoom, sheetAfter}
+use Rattle.distances.specs.declared.CheckDistance.{CheckDistance}
+use Rattle.distances.specs.Distances.{agreement, agreementNumber}
 use Rattle.engine.specs.Proposals.{Proposed}
 use Rattle.engine.specs.declared.Proposal.{Proposal}
 use Rattle.engine.specs.declared.Proposal.the-variants.{Made, Nothing}
@@ -23,6 +26,7 @@ pub data Asked : Type 0 where
   toEdit : Book → Call → Asked
   toCheck : Book → (x m : List ℤ) → Asked
   toCheckSheet : Book → (x m sheet : List ℤ) → Asked
+  toCheckDistance : Book → (x m : List ℤ) → CheckDistance → Asked
   toPropose : Book → (x m : List ℤ) → Asked
 
 -- the book that a call gives back, if it gives one, and the slices that it is lent to write on
@@ -36,9 +40,10 @@ given (toOpen list) = record { books = []; slices = [] }
 given (toEdit b c) = record { books = b ∷ []; slices = [] }
 given (toCheck b x m) = record { books = []; slices = [] }
 given (toCheckSheet b x m sheet) = record { books = []; slices = sheet ∷ [] }
+given (toCheckDistance b x m d) = record { books = []; slices = [] }
 given (toPropose b x m) = record { books = []; slices = x ∷ m ∷ [] }
 
--- ════ the answer r, 0 where the call is not refused, and what it leaves: as the contracts have it. "A refused opening makes no book"; no proposal is −1
+-- ════ the answer r, 0 where the call is not refused, and what it leaves: as the contracts have it. "A refused opening makes no book"; no proposal is −1, a check distance that does not agree −2
 unfoldable pub proposalNumber : Proposal → ℤ
 proposalNumber Made = pos 0
 proposalNumber Nothing = negsuc 0
@@ -48,6 +53,7 @@ Returns (toOpen list) r left = (r ≡ pos (opening list .refusal)) × (left ≡ 
 Returns (toEdit b c) r left = (r ≡ pos (outcome b c .refusal)) × (left ≡ record { books = outcome b c .book ∷ []; slices = [] })
 Returns (toCheck b x m) r left = (r ≡ pos (numberOf (checked b x m true))) × (left ≡ record { books = []; slices = [] })
 Returns (toCheckSheet b x m sheet) r left = (r ≡ pos (numberOf (checked b x m (hasRoom b sheet)))) × (left ≡ record { books = []; slices = sheetAfter b x m sheet ∷ [] })
+Returns (toCheckDistance b x m d) r left = (r ≡ agreementNumber (agreement b x m d)) × (left ≡ record { books = []; slices = [] })
 Returns (toPropose b x m) r left =
     (p : Proposal) × (x′ : List ℤ) × (m′ : List ℤ)
     × Proposed p (checked b x′ m′ true) x m x′ m′ × (r ≡ proposalNumber p) × (left ≡ record { books = []; slices = x′ ∷ m′ ∷ [] })

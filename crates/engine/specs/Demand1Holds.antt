@@ -22,7 +22,7 @@ use Rattle.checks.specs.Checks.{checked, hasRoom, onAcceptance, sheetAfter}
 use Rattle.engine.specs.Proposals.{Proposed}
 use Rattle.engine.specs.declared.Proposal.{Proposal}
 use Rattle.engine.specs.declared.Proposal.the-variants.{Made, Nothing}
-use Rattle.engine.specs.Demand1.{Asked, toOpen, toEdit, toCheck, toCheckSheet, toPropose, Kept, given, proposalNumber, Returns, Demand1}
+use Rattle.engine.specs.Demand1.{Asked, toOpen, toEdit, toCheck, toCheckSheet, toCheckDistance, toPropose, Kept, given, proposalNumber, Returns, Demand1}
 
 -- ════ a refused call leaves what it was given
 unless-refused : {A : Type 0} (n : ℕ) (a b : A) → (n ≡ 0 → ⊥) → unless n a b ≡ a
@@ -55,6 +55,7 @@ refused (toEdit b c) r left (e, q) h =
 refused (toCheck b x m) r left (e, q) h = q
 refused (toCheckSheet b x m sheet) r left (e, q) h =
     q ∙ ap (λ (w : List ℤ). record { books = []; slices = w ∷ [] }) (sheet-refused b x m sheet (not-number r (numberOf (checked b x m (hasRoom b sheet))) e h))
+refused (toCheckDistance b x m d) r left (e, q) h = q
 refused (toPropose b x m) r left (p, x′, m′, o, e, q) h =
     let s = proposal-refused p (checked b x′ m′ true) x m x′ m′ o (λ z. h (e ∙ z)) in
     q ∙ (λ i. record { books = []; slices = s .0 i ∷ s .1 i ∷ [] })
@@ -66,6 +67,7 @@ answers (toOpen list) = (_, _, (refl, refl))
 answers (toEdit b c) = (_, _, (refl, refl))
 answers (toCheck b x m) = (_, _, (refl, refl))
 answers (toCheckSheet b x m sheet) = (_, _, (refl, refl))
+answers (toCheckDistance b x m d) = (_, _, (refl, refl))
 answers (toPropose b x m) = (_, _, (Nothing, x, m, (refl, refl), refl, refl))
 
 -- ════ an accepted opening or edit gives a sound book
@@ -98,6 +100,7 @@ accepted (toEdit b c) g left k (e, q) h =
     (parts-sound (outcome b c .book) (sound-next b (sound-parts b (s .1) (s .0)) c))
 accepted (toCheck b x m) g left k (e, q) h = none k (left .books) (ap (λ (y : Kept). y .books) q) h
 accepted (toCheckSheet b x m sheet) g left k (e, q) h = none k (left .books) (ap (λ (y : Kept). y .books) q) h
+accepted (toCheckDistance b x m d) g left k (e, q) h = none k (left .books) (ap (λ (y : Kept). y .books) q) h
 accepted (toPropose b x m) g left k (p, x′, m′, o, e, q) h = none k (left .books) (ap (λ (y : Kept). y .books) q) h
 
 pub demand-1 : Demand1

@@ -1,7 +1,7 @@
--- Lent slices of a size that fits, and what is delivered. Assumes nothing.
+-- Lent slices of a size that fits, the words that are read of them, and what is delivered. Assumes nothing.
 use Prim.Native.Nat.{ℕ, _*_, _/_, _%_, _≤_}
-use mathlib.Core.Path.{_≡_, refl, ap, _∙_}
-use mathlib.Core.Bool.{Bool, true, _&&_}
+use mathlib.Core.Path.{_≡_, refl, sym, ap, _∙_}
+use mathlib.Core.Bool.{Bool, true, false, cond, _&&_}
 use mathlib.Core.List.{List}
 use native.Mathlib.Omega.{arith}
 use borrow.Author.Tests.{leb-true}
@@ -40,3 +40,14 @@ sheet-test b o n t p q = q ∙ ap (λ (k : ℕ). eqb (length o % 8) 0 && leb k (
 
 pub sheet-long : (o : List ℕ) (n : ℕ) → eqb (length o % 8) 0 && leb n (length o / 8) ≡ true → 8 * n ≤ length o
 sheet-long o n e = let h : n ≤ length o / 8 = leb-true _ _ (and-right (eqb (length o % 8) 0) (leb n (length o / 8)) e) in omega arith
+
+-- ════ the words that are read of a lent pair, t telling whether its sizes fit
+module _ (x m : List ℕ) where
+  pub read-few : (t : Bool) → t ≡ (isWhole x && isWhole m && leb (length x) 384 && leb (length m) 18432)
+      → (cond t (length x / 8) 0 ≤ 48) × (cond t (length m / 8) 0 ≤ 2304)
+  read-few true e = let h = lengths-fit x m (sym e) in (omega (arith, h .0), omega (arith, h .1))
+  read-few false e = (let h : 0 ≤ 48 = omega arith in h, let h : 0 ≤ 2304 = omega arith in h)
+
+pub read-within : (t : Bool) (k : ℕ) → 8 * cond t (k / 8) 0 ≤ k
+read-within true k = let h : 8 * (k / 8) ≤ k = omega arith in h
+read-within false k = let h : 0 ≤ k = omega arith in h

@@ -39,7 +39,7 @@ use Rattle.checks.specs.Demand2Holds.{demand-2}
 use Rattle.lent_checks.specs.LentChecks.{allWords, isWhole, checkedLent, onAccepted}
 
 -- ════ test 1 fails
-test-1 : (b : Book) (x m : List ℤ) (r : Bool) → lengthsFit (n (b .network)) x m r ≡ false → Refused Lengths ≡ checked b x m r
+pub test-1 : (b : Book) (x m : List ℤ) (r : Bool) → lengthsFit (n (b .network)) x m r ≡ false → Refused Lengths ≡ checked b x m r
 unfolding checked answer judge thenNine
 test-1 b x m r e = rw e
 

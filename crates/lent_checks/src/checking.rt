@@ -36,7 +36,7 @@ pub fn inverse() -> [i64; 2304]
 }
 
 // Whole words, and no more than a book can ask for.
-fn sizes_fit(x: &[u8], m: &[u8]) -> bool
+pub fn sizes_fit(x: &[u8], m: &[u8]) -> bool
     ensures { λ r. ⌜ r ≡ (isWhole (now (x .entry)) && isWhole (now (m .entry)) && leb (length (now (x .entry))) 384 && leb (length (now (m .entry))) 18432) ⌝ }
 {
     (x.len() % 8 == 0) & (m.len() % 8 == 0) & (x.len() <= 384) & (m.len() <= 18432)
