@@ -1,17 +1,21 @@
 -- The coordinates of marks over tables of the 96 components, as the code holds them: each is what Distances says of the station list. Assumes nothing.
-use Prim.Native.Nat.{ℕ, _+_, _*_, _<_}
-use mathlib.Core.Path.{_≡_, ap₂}
+use Prim.Native.Nat.{ℕ, _+_, _*_, _<_, _≤_}
+use mathlib.Core.Path.{_≡_, ap₂, subst}
 use mathlib.Core.List.{List, [], _∷_}
 use native.Mathlib.Omega.{arith}
 use lib.ListN.{getD}
-use lib.IntN.{ℤ, pos, _+ℤ_, _-ℤ_, _*ℤ_}
+use lib.IntN.{ℤ, pos, natAbs, _+ℤ_, _-ℤ_, _*ℤ_}
+use Rattle.integers.specs.Bounds.{bounds, absle}
 use Rattle.integers.specs.Solvers.{ring, shapes}
 use Rattle.integers.specs.Tables.{getD-tabulate}
 use Rattle.words.specs.Signed.{indexIn}
 use Rattle.network.specs.Stations.{coordinate, coordinates}
+use Rattle.network.specs.RuleLaws.{sound-stations}
+use Rattle.network.specs.declared.Network.{Network}
 use Rattle.network.specs.declared.Station.{Station}
 use Rattle.residuals.specs.Residuals.{correction, adjusted}
 use Rattle.residuals.specs.Components.{correctionsOf}
+use Rattle.residuals.specs.Ranges.{Moved, corrections-within}
 use Rattle.distances.specs.Distances.{square, squaredDistance, mark}
 use Rattle.distances.specs.declared.CheckDistance.{CheckDistance}
 
@@ -50,3 +54,13 @@ module _ (stations : List Station) (x : List ℤ) where
       λ c l. difference-in (d .from) (d .to) c h k l in
       rw (same 0 (omega arith), same 1 (omega arith), same 2 (omega arith))
       (ring (b 0 ∷ a 0 ∷ b 1 ∷ a 1 ∷ b 2 ∷ a 2 ∷ d .target ∷ d .instrument ∷ []) (search shapes depth 12) tt)
+
+-- the size of a coordinate
+pub mark-small : {net : Network} {x : List ℤ} → Moved net x → (k : ℤ) (c : ℕ) → indexIn k 32 < 32 → c < 3 → natAbs (mark (net .stations) x k c) ≤ 500100000
+unfolding mark
+mark-small {net} {x} g k c h l =
+    let q = indexIn k 32 * 3 + c in
+    let a = sound-stations net (g .network) .provisional .bound q in
+    let b = corrections-within g .bound q in
+    subst (λ (z : ℤ). natAbs z ≤ 500100000) (adjusted-in (net .stations) x q (omega arith))
+    (absle (adjustedIn (coordinates (net .stations)) (correctionsOf (net .stations) x) q) (search bounds) (omega arith))

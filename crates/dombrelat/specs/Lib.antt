@@ -10,3 +10,4 @@ pub mod Demand2Holds
 pub mod Demand3
 pub mod Demand3Holds
 pub mod ReadingLaws
+pub mod DistanceLaws

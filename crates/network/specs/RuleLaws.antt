@@ -99,24 +99,24 @@ height-passed count c h e =
     record { ends = x .0; range = y .0; closes = not-refused (misclosureFits c (height h)) 0 5 (y .1) .0 }
 
 -- ════ the ends of a record that is not refused
-in-list : (count : ℕ) (v : ℤ) → count ≤ 32 → inList count v ≡ true → indexIn v 32 < 32
+pub in-list : (count : ℕ) (v : ℤ) → count ≤ 32 → inList count v ≡ true → indexIn v 32 < count
 in-list count (pos zero) h e = clash e refl
 in-list count (pos (suc k)) h e =
     let p : suc k ≤ count = leb-true (suc k) count (and-right (leZ (pos 1) (pos (suc k))) (leZ (pos (suc k)) (pos count)) e) in
     let q : k < 32 = omega arith in
-    rw (index-suc k 32 q) q
+    rw (index-suc k 32 q) p
 in-list count (negsuc k) h e = clash e refl
 
 module _ (count : ℕ) (from to : ℤ) (few : count ≤ 32) (e : endsFit count from to ≡ true) where
-  ends : Each (inList count from ∷ inList count to ∷ not (eqZ from to) ∷ [])
+  pub ends : Each (inList count from ∷ inList count to ∷ not (eqZ from to) ∷ [])
   unfolding endsFit
   ends = each (inList count from ∷ inList count to ∷ not (eqZ from to) ∷ []) e
 
   pub from-in-list : indexIn from 32 < 32
-  from-in-list = in-list count from few (ends .0)
+  from-in-list = let h = in-list count from few (ends .0) in omega arith
 
   pub to-in-list : indexIn to 32 < 32
-  to-in-list = in-list count to few (ends .1 .0)
+  to-in-list = let h = in-list count to few (ends .1 .0) in omega arith
 
   pub ends-apart : indexIn from 32 ≡ indexIn to 32 → ⊥
   ends-apart q =

@@ -5,6 +5,7 @@ use mathlib.Core.List.{List, [], _∷_, _++_}
 use Prim.Native.Nat.{ℕ, zero, suc, _+_, _*_, _<_, _≤_}
 use native.Mathlib.Omega.{arith}
 use lib.ListN.{length, getD}
+use lib.Seq.{ext-getD}
 use lib.IntN.{ℤ, pos}
 use mir.Syntax.{w64}
 use mir.Val.{SFits}
@@ -67,16 +68,26 @@ run-word s at ws j (inl o) = word-same _ _ j (λ p a b. run-out s at ws p (inl (
 run-word s at ws j (inr o) = word-same _ _ j (λ p a b. run-out s at ws p (inr (omega arith)))
 
 -- ---- there and back
+-- a word that fits reads back where it was written
+pub run-at : (s : List ℕ) (at : ℕ) (ws : List ℤ) (i : ℕ) → i < length ws → at + 8 * length ws ≤ length s → SFits w64 (getD ws i (pos 0))
+    → wordAt (putWords s at ws) (at + 8 * i) ≡ getD ws i (pos 0)
+unfolding putWords
+run-at s at [] i h l f = absurd (omega arith)
+run-at s at (w ∷ ws) zero h l f =
+    let here : at + 8 * 0 ≡ at = omega arith in
+    ap (wordAt (putWords (putWord s at w) (at + 8) ws)) here
+    ∙ run-word (putWord s at w) (at + 8) ws at (inl (omega arith))
+    ∙ word-back s at w (omega arith) f
+run-at s at (w ∷ ws) (suc i) h l f =
+    let there : at + 8 * suc i ≡ at + 8 + 8 * i = omega arith in
+    ap (wordAt (putWords (putWord s at w) (at + 8) ws)) there
+    ∙ run-at (putWord s at w) (at + 8) ws i (omega arith) (omega (arith, length-word s at w)) f
+
 -- the run that was written is read
 pub run-back : (s : List ℕ) (at : ℕ) (ws : List ℤ) → at + 8 * length ws ≤ length s → ((i : ℕ) → SFits w64 (getD ws i (pos 0))) → wordsAt (putWords s at ws) at (length ws) ≡ ws
-unfolding wordsAt putWords
-run-back s at [] h f = refl
-run-back s at (w ∷ ws) h f =
-    let first : wordAt (putWords (putWord s at w) (at + 8) ws) at ≡ w =
-    run-word (putWord s at w) (at + 8) ws at (inl (omega arith)) ∙ word-back s at w (omega arith) (f 0) in
-    let rest : wordsAt (putWords (putWord s at w) (at + 8) ws) (at + 8) (length ws) ≡ ws =
-    run-back (putWord s at w) (at + 8) ws (rw length-word (omega arith)) (λ i. f (suc i)) in
-    cc
+run-back s at ws h f =
+    let n = length-words (putWords s at ws) at (length ws) in
+    ext-getD (pos 0) _ ws n (λ i l. words-at (putWords s at ws) at (length ws) i (omega arith) ∙ run-at s at ws i (omega arith) h (f i))
 
 -- writing the run that was read changes nothing
 pub run-kept : (s : List ℕ) (at n : ℕ) → Bytes s → putWords s at (wordsAt s at n) ≡ s
