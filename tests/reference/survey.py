@@ -1,4 +1,4 @@
-"""An independent implementation of document 01, for the tests: stations, records, the ledger, the check, the sheet. Written from the document
+"""An independent implementation of document 01 and of check distances (document 02), for the tests: stations, records, the ledger, the check, the sheet. Written from the documents
 alone, in whole numbers, with no thought for speed. Numbers of stations, places and unknowns count from 1 as in the document; lists from 0."""
 from dataclasses import dataclass, field
 
@@ -11,6 +11,8 @@ CHI_SQUARE = [  # 95% limits in thousandths, D = 1 to 30
     (9591, 34170), (10283, 35479), (10982, 36781), (11689, 38076), (12401, 39364), (13120, 40646), (13844, 41923), (14573, 43195),
     (15308, 44461), (16047, 45722), (16791, 46979)]
 PASS, FAIL, LOOSE, LOW, HIGH, NONE = range(6)
+MOST_DISTANCE, MOST_HEIGHT, MOST_TOLERANCE = 1_800_000_000, 300_000, 100_000      # of a check distance
+DISAGREES = -2                         # the answer to a check distance that does not agree
 
 
 @dataclass(frozen=True)
@@ -73,6 +75,16 @@ class Level:
         return S // self.single
 
 
+@dataclass(frozen=True)
+class CheckDistance:
+    start: int
+    end: int
+    distance: int
+    instrument_height: int    # above the mark that it is taped from
+    target_height: int        # above the mark that it is taped to
+    tolerance: int
+
+
 class Network:
     def __init__(self, stations):
         self.stations = list(stations)
@@ -101,10 +113,15 @@ def open_number(rows):
     return 0 if 1 <= Network(Station(*row) for row in rows).n <= 48 else 1
 
 
+def ends_fit(net, r):
+    """Whether from and to are in the list, and not equal."""
+    count = len(net.stations)
+    return 1 <= r.start <= count and 1 <= r.end <= count and r.start != r.end
+
+
 def record_number(net, r):
     """Refusals 3 to 6 of a record; 0 for none."""
-    count = len(net.stations)
-    if not (1 <= r.start <= count and 1 <= r.end <= count) or r.start == r.end:
+    if not ends_fit(net, r):
         return 3
     if any(abs(v) > 1_000_000_000 for v in r.observed):
         return 4
@@ -271,14 +288,18 @@ def sheet_room(net, records):
     return 5 + 7 * len(net.stations) + sum(7 if isinstance(r, Baseline) else 3 for r in records.values())
 
 
+def adjusted(net, x, number):
+    """A station's coordinates: provisional plus correction."""
+    return [net.at(number).coordinate(c) + (x[net.index[number, c]] if (number, c) in net.index else 0) for c in range(3)]
+
+
 def sheet(net, records, x, m):
     """The words of the sheet of an accepted pair."""
     n = net.n
     words = [len(records), n]
-    for number, station in enumerate(net.stations, 1):
+    for number in range(1, len(net.stations) + 1):
         indices = [net.index.get((number, c)) for c in range(3)]
-        words.append(number)
-        words += [station.coordinate(c) + (x[i] if i is not None else 0) for c, i in enumerate(indices)]
+        words += [number, *adjusted(net, x, number)]
         words += [m[i * n + i] if i is not None else 0 for i in indices]
     for place, r in sorted(records.items()):
         words.append(place)
@@ -286,3 +307,33 @@ def sheet(net, records, x, m):
         words += [local_verdict(net, r, x, m, c) for c in r.components]
     t, d = weighted_squares(net, records, x), freedom(net, records)
     return words + [t, d, global_verdict(t, d)]
+
+
+def distance_number(net, d):
+    """Refusals 3 and 17 of a check distance; 0 for none."""
+    if not ends_fit(net, d):
+        return 3
+    in_range = all(0 <= h <= MOST_HEIGHT for h in (d.instrument_height, d.target_height)) and 1 <= d.distance <= MOST_DISTANCE and 0 <= d.tolerance <= MOST_TOLERANCE
+    return 0 if in_range and d.tolerance < d.distance else 17
+
+
+def squared_distance(start, end, d):
+    """D² between the coordinates of the two stations: the sum of squared differences, the U difference taken plus target height minus instrument height."""
+    east, north, up = (b - a for a, b in zip(start, end))
+    return east ** 2 + north ** 2 + (up + d.target_height - d.instrument_height) ** 2
+
+
+def agrees(square, d):
+    return (d.distance - d.tolerance) ** 2 <= square <= (d.distance + d.tolerance) ** 2
+
+
+def check_distance(net, records, x, m, d, checked=None):
+    """The answer to a check distance asked with a pair: (0,) where it agrees, (DISAGREES,) where not, (3,), (17,), or what `check` refuses the pair with. `checked` is the
+    answer of `check` to the pair, where the caller has it already."""
+    number = distance_number(net, d)
+    if number:
+        return (number,)
+    checked = checked or check(net, records, x, m)
+    if checked != (0,):
+        return checked
+    return (0,) if agrees(squared_distance(adjusted(net, x, d.start), adjusted(net, x, d.end), d), d) else (DISAGREES,)
