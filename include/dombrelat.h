@@ -14,8 +14,9 @@
  * replace, strike and undo write), and nobody reads it meanwhile; calls that only read may share it.
  *
  * A result is refusal + 256 * number. DOMBRELAT_REFUSAL(result) is 0 (done, or accepted) or the refusal's number: DOMBRELAT_ constants below, in words in docs/REFUSALS.md. Where
- * several apply, the lowest number is given, but DOMBRELAT_BAD_BOOK comes before all others. DOMBRELAT_NUMBER(result) is the number that a call gives: the unknown of
- * DOMBRELAT_UNTIED, or what a reading call counts; otherwise 0. So a switch goes through DOMBRELAT_REFUSAL, since no result is DOMBRELAT_UNTIED itself:
+ * several apply, the lowest number is given, but DOMBRELAT_BAD_BOOK comes before all others, and DOMBRELAT_BAD_DISTANCE before 10 to 16. DOMBRELAT_NUMBER(result) is the number
+ * that a call gives: the unknown of DOMBRELAT_UNTIED, or what a reading call counts; otherwise 0. Two results are negative and stand by themselves, DOMBRELAT_NO_PROPOSAL and
+ * DOMBRELAT_DISAGREES: DOMBRELAT_REFUSAL gives them as they are. So a switch goes through DOMBRELAT_REFUSAL, since no result is DOMBRELAT_UNTIED itself:
  *
  *     switch (DOMBRELAT_REFUSAL(result)) {
  *     case DOMBRELAT_UNTIED: printf("unknown %d\n", (int)DOMBRELAT_NUMBER(result)); break; ...
@@ -52,6 +53,11 @@ extern "C" {
 #define DOMBRELAT_PLACES 256
 #define DOMBRELAT_UNDOS 64
 
+/* The largest numbers of a check distance, in units. */
+#define DOMBRELAT_DISTANCE_MAX 1800000000
+#define DOMBRELAT_INSTRUMENT_HEIGHT_MAX 300000 /* of the target too */
+#define DOMBRELAT_TOLERANCE_MAX 100000
+
 /* Kinds of station. */
 #define DOMBRELAT_KNOWN 1  /* E, N, U held */
 #define DOMBRELAT_FREE 2   /* E, N, U unknown */
@@ -74,8 +80,10 @@ extern "C" {
 #define DOMBRELAT_BAD_INVERSE 14      /* M is not near enough to 2^30 times the inverse of N */
 #define DOMBRELAT_BAD_RESIDUAL 15     /* x does not solve the normal equations nearly enough */
 #define DOMBRELAT_BAD_SOLUTION 16     /* x may be further than one unit from the least squares answer */
+#define DOMBRELAT_BAD_DISTANCE 17     /* check_distance: a height not 0 to 300,000, a distance not 1 to 1,800,000,000, a tolerance not 0 to 100,000 or not below the distance */
 #define DOMBRELAT_BAD_BOOK 25         /* the lent book bytes are too short, damaged, or not a book */
-#define DOMBRELAT_NO_PROPOSAL (-1)    /* propose: no pair that the check accepts was found. It stands by itself: its refusal is -1, its number 0 */
+#define DOMBRELAT_NO_PROPOSAL (-1)    /* propose: no pair that the check accepts was found */
+#define DOMBRELAT_DISAGREES (-2)      /* check_distance: the distance does not agree with the sheet; an answer, as 0 is */
 
 /* A result taken apart. The number of DOMBRELAT_UNTIED is the first unknown without a chain, counted from 1. */
 #define DOMBRELAT_REFUSAL(result) ((result) % 256)
@@ -123,6 +131,13 @@ int64_t dombrelat_check(const uint8_t *book, size_t book_bytes, const uint8_t *x
  * Refusals as for checking. */
 int64_t dombrelat_check_sheet(const uint8_t *book, size_t book_bytes, const uint8_t *x, size_t x_bytes, const uint8_t *m, size_t m_bytes,
                               uint8_t *sheet, size_t sheet_bytes);
+
+/* Holds a slope distance, taped after setting out, against the sheet of a pair that the check accepts. The instrument stands at from, the target at to, each so high above its mark.
+ * D is the length from instrument to target by the sheet's coordinates at x: D² is the sum of the squared differences to minus from, that in U plus target_height minus
+ * instrument_height. 0: it agrees, which is that (distance - tolerance)² <= D² <= (distance + tolerance)². DOMBRELAT_DISAGREES: it does not. It is no record, so it never enters the
+ * adjustment, and nothing is written. Refusals, in this order: 25, 3, 17, then as for checking. */
+int64_t dombrelat_check_distance(const uint8_t *book, size_t book_bytes, const uint8_t *x, size_t x_bytes, const uint8_t *m, size_t m_bytes,
+                                 int64_t from, int64_t to, int64_t distance, int64_t instrument_height, int64_t target_height, int64_t tolerance);
 
 /* Proposes a pair that the check accepts, and writes it to x (n words) and m (n·n words), which are just so long. Refusals: 25, 10 (another length), DOMBRELAT_NO_PROPOSAL. */
 int64_t dombrelat_propose(const uint8_t *book, size_t book_bytes, uint8_t *x, size_t x_bytes, uint8_t *m, size_t m_bytes);
