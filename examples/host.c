@@ -1,4 +1,4 @@
-/* A small levelling network, from the station list to the printed sheet. All that a program needs is include/dombrelat.h.
+/* A small levelling network, from the station list to the printed sheet and two taped distances held against it. All that a program needs is include/dombrelat.h.
  *
  *     rt staticlib dombrelat
  *     gcc -std=c99 -Wall -Wextra -Iinclude examples/host.c target/staticlib/libdombrelat.a -o host && ./host
@@ -23,6 +23,12 @@ static const int64_t stations[][4] = {
 /* Levelled height differences: from, to, difference, weight (100: a standard deviation of 1 mm). */
 static const int64_t levels[RECORDS][4] = {
     {1, 2, 120180, 400}, {2, 3, 124940, 400}, {3, 4, -314850, 100}, {4, 1, 69730, 400}, {2, 4, -189960, 100},
+};
+
+/* Slope distances that the crew taped after setting out: from, to, distance, heights of instrument and target above their marks, tolerance. The second was read 10 cm too long. */
+static const int64_t taped[][6] = {
+    {1, 2, 2695500, 155000, 160000, 200},
+    {3, 4, 2941900, 155000, 160000, 200},
 };
 
 static uint8_t book[DOMBRELAT_BOOK_BYTES];
@@ -84,6 +90,17 @@ static void print_sheet(const int64_t *word) {
     printf("global test: %" PRId64 " with %" PRId64 " degrees of freedom: %s\n", word[0], word[1], verdicts[word[2]]);
 }
 
+/* Whether a taped distance agrees with the sheet of x and M. One that does not is no refusal: the question was answered. */
+static void print_taped(const int64_t *d, size_t x_bytes, size_t m_bytes) {
+    int64_t result = dombrelat_check_distance(book, sizeof book, (const uint8_t *)x, x_bytes, (const uint8_t *)m, m_bytes, d[0], d[1], d[2], d[3], d[4], d[5]);
+    const char *answer = "does not agree with the sheet: tape it again";
+    if (result != DOMBRELAT_DISAGREES) {
+        number("a taped distance", result);
+        answer = "agrees with the sheet";
+    }
+    printf("taped from station %" PRId64 " to %" PRId64 ", %.3f m, tolerance %.0f mm: %s\n", d[0], d[1], (double)d[2] / 100000, (double)d[5] / 100, answer);
+}
+
 int main(void) {
     int64_t result, record[14];
     size_t n, x_bytes, m_bytes, sheet_bytes;
@@ -113,5 +130,7 @@ int main(void) {
     sheet_bytes = (size_t)number("the sheet's bytes", dombrelat_sheet_bytes(book, sizeof book));
     number("the check", dombrelat_check_sheet(book, sizeof book, (const uint8_t *)x, x_bytes, (const uint8_t *)m, m_bytes, (uint8_t *)sheet, sheet_bytes));
     print_sheet(sheet);
+    print_taped(taped[0], x_bytes, m_bytes);
+    print_taped(taped[1], x_bytes, m_bytes);
     return 0;
 }
