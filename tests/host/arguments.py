@@ -1,4 +1,5 @@
 """Random arguments of the C calls, valid ones and such as must be refused, and damage to a book's bytes. All from one random source, so that a seed fixes a run."""
+import math
 import struct
 
 from layout import BYTES, HELD_AT, MATRIX_AT, NEXT_AT, PLACES, PLACES_AT, SLOTS, SLOTS_AT, WORDS
@@ -12,7 +13,7 @@ SHORT = [0, 1, 7, 8, BYTES // 2, BYTES - 8, BYTES - 1]
 LENGTHS = {'as asked': lambda data: data, 'empty': lambda data: b'', 'a word short': lambda data: data[:-8], 'a byte short': lambda data: data[:-1],
            'a byte long': lambda data: data + b'\x5a', 'a word long': lambda data: data + b'\x5a' * 8, 'far longer': lambda data: data + b'\x5a' * 24_000}
 DAMAGE = ['cut short', 'a bit', 'a word', 'a head', 'a journal word', 'places exchanged']
-SLICES = {'check': ('x', 'm'), 'check_sheet': ('x', 'm', 'sheet'), 'propose': ('x', 'm'), 'stations': ('list',), 'record': ('record',)}
+SLICES = {'check': ('x', 'm'), 'check_sheet': ('x', 'm', 'sheet'), 'check_distance': ('x', 'm'), 'propose': ('x', 'm'), 'stations': ('list',), 'record': ('record',)}
 
 
 class Arguments:
@@ -120,6 +121,18 @@ class Arguments:
             m[k] = r.choice([m[k] + 1, m[k] - 1, m[k] + 1000, m[k] + 2 ** 20, m[k] - 2 ** 28, 2 ** 34 + 1, -2 ** 63])
         return x, m
 
+    def distance(self, book):
+        """The numbers of a check distance: most about as long as the exact corrections make it, some extreme."""
+        r = self.rng
+        net = book.net
+        x = (self.exact(book) or ([0] * net.n,))[0]
+        start, end = (r.randint(1, len(net.stations)) for _ in range(2))
+        heights = [r.randint(0, survey.MOST_HEIGHT) for _ in range(2)]
+        tolerance = r.choice([0, 1, 50, 3_000])
+        between = survey.CheckDistance(start, end, 0, *heights, tolerance)
+        length = math.isqrt(survey.squared_distance(survey.adjusted(net, x, start), survey.adjusted(net, x, end), between))
+        return [self.odd(v) for v in (start, end, length + r.randint(-tolerance - 2, tolerance + 2), *heights, tolerance)]
+
     def place(self, book):
         """A place to read: most often a filled one, or one at a limit."""
         return self.rng.choice([self.rng.randint(-1, 258), self.rng.choice(sorted(book.records) or [1]), self.rng.choice([0, 1, 256, 257, *EXTREME])])
@@ -128,7 +141,7 @@ class Arguments:
         """(the slices of a call in their order, {slice: the name of its length}): most as the book asks, in the others one slice has another length."""
         r = self.rng
         n = book.net.n
-        if name in ('check', 'check_sheet'):
+        if name in ('check', 'check_sheet', 'check_distance'):
             lent = [packed(v) for v in self.pair(book)]
         elif name == 'propose':
             lent = [self.bytes(8 * n), self.bytes(8 * n * n)]

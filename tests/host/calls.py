@@ -110,7 +110,8 @@ class Run:
             return
         lent, lengths = self.arguments.slices(name, near) if name in SLICES else ([], {})
         place = [self.arguments.place(near)] if name == 'record' else []
-        result = self.ask(name, book, model, place + [Buffer(v) for v in lent])
+        distance = self.arguments.distance(near) if name == 'check_distance' else []
+        result = self.ask(name, book, model, place + [Buffer(v) for v in lent] + distance)
         if model is not None:
             for slice_, length in lengths.items():
                 self.coverage.note('%s, length of %s' % (name, slice_), length)

@@ -1,4 +1,4 @@
-"""What each C call answers and writes, by document 01, include/dombrelat.h and docs/BOOK.md, independently of the library.
+"""What each C call answers and writes, by documents 01 and 02, include/dombrelat.h and docs/BOOK.md, independently of the library.
 
 A result is the refusal's number plus 256 times the number that the call gives. A book is given as a layout.Book; bytes that hold none are refused with 25 before all else."""
 import struct
@@ -9,13 +9,19 @@ import survey
 EDITS = ('add_baseline', 'add_height', 'replace_baseline', 'replace_height', 'strike', 'undo')
 CHECKS = ('check', 'check_sheet')
 READINGS = ('unknowns', 'sheet_bytes', 'stations', 'record')
-ON_BOOKS = EDITS + CHECKS + ('propose',) + READINGS
+ON_BOOKS = EDITS + CHECKS + ('check_distance', 'propose') + READINGS
 NO_BOOK, BAD_LIST, BAD_PLACE, BAD_LENGTHS, NO_PROPOSAL = 25, 1, 2, 10, -1
 
 
 def refusal(result):
-    """DOMBRELAT_REFUSAL: C's remainder, so that no proposal stays −1"""
+    """DOMBRELAT_REFUSAL: C's remainder, so that −1 and −2 stay"""
     return result % 256 if result >= 0 else result
+
+
+def result_of(answer):
+    """The result of a check's answer, which for 11 has the unknown too."""
+    number, *unknown = answer
+    return number + 256 * sum(unknown)
 
 
 def packed(words):
@@ -59,9 +65,14 @@ def check(book, x, m, sheet=None):
     parts = [words_in(v) for v in (x, m) + (() if sheet is None else (sheet,))]
     if None in parts:
         return BAD_LENGTHS, []
-    number, *unknown = survey.check(book.net, book.records, *parts[:2], None if sheet is None else len(parts[2]))
-    accepted = number == 0 and sheet is not None
-    return number + 256 * sum(unknown), survey.sheet(book.net, book.records, *parts[:2]) if accepted else []
+    answer = survey.check(book.net, book.records, *parts[:2], None if sheet is None else len(parts[2]))
+    accepted = answer == (0,) and sheet is not None
+    return result_of(answer), survey.sheet(book.net, book.records, *parts[:2]) if accepted else []
+
+
+def check_distance(book, x, m, *numbers):
+    """The result. A slice that does not hold whole words fails test 1, as one without words does."""
+    return result_of(survey.check_distance(book.net, book.records, words_in(x) or [], words_in(m) or [], survey.CheckDistance(*numbers)))
 
 
 def reading(name, book, place=None, room=0):
@@ -89,6 +100,8 @@ def outcome(name, book, arguments):
         return number, b'' if number else book.bytes()
     if name in CHECKS:
         result, words = check(book, *arguments)
+    elif name == 'check_distance':
+        result, words = check_distance(book, *arguments), []
     elif name == 'record':
         result, words = reading(name, book, arguments[0], len(arguments[1]))
     else:
