@@ -4,11 +4,11 @@ Prints 'N passed, M failed' last.
 
     python3 tests/host/calls.py LIBRARY.so
 """
-import random
 import sys
 
-from arguments import SHORT, SLICES, Arguments
-from coverage import CALLS, SIZES, Coverage
+from arguments import SHORT, SLICES
+from comparison import Comparison
+from coverage import CALLS, SIZES
 from expected import BAD_LENGTHS, EDITS, NO_BOOK, NO_PROPOSAL, ON_BOOKS, edit_given, lengths_fit, opening, outcome, packed, refusal, words_in
 from layout import BYTES, judge
 from library import Buffer, Library
@@ -17,44 +17,10 @@ import survey
 BOOKS, EDITS_A_BOOK = 180, 120                                         # random books
 NETWORKS = {'1 to 9': 50, '10 to 24': 40, '25 to 47': 20, '48': 10}      # by numbers of unknowns
 VERDICTS = ('PASS', 'FAIL', 'LOOSE', 'LOW', 'HIGH', 'NONE')              # by their words in a sheet
-MOST_FAILURES = 20                                                       # then the run ends
 
 
-class Run:
-    def __init__(self, library, seed):
-        self.lib = library
-        self.rng = random.Random(seed)
-        self.arguments = Arguments(self.rng)
-        self.coverage = Coverage()
-        self.calls = 0
-        self.failed = []
-
-    def same(self, what, got, want):
-        if got == want:
-            return
-        if isinstance(got, bytes):
-            self.failed.append('%s: byte %d is another' % (what, next(k for k in range(max(len(got), len(want))) if got[k:k + 1] != want[k:k + 1])))
-        else:
-            self.failed.append('%s: %r, not %r' % (what, got, want))
-        if len(self.failed) == MOST_FAILURES:
-            raise TooMany
-
+class Calls(Comparison):
     # ---- one call
-    def call(self, name, *arguments):
-        """(result, lent slices before, lent slices after)"""
-        lent = [a for a in arguments if isinstance(a, Buffer)]
-        before = [b.get() for b in lent]
-        result = self.lib.call(name, *arguments)
-        self.calls += 1
-        self.coverage.note(name, refusal(result))
-        return result, before, [b.get() for b in lent]
-
-    def compare(self, name, got, result, left):
-        """The result and the lent slices of a call against those wanted."""
-        self.same(name, got[0], result)
-        for k, (is_, was, want) in enumerate(zip(got[2], got[1], left)):
-            self.same('slice %d after %s%s' % (k, name, ', where nothing is written' if want == was else ''), is_, want)
-
     def ask(self, name, book, model, arguments):
         """A call on lent book bytes; the model, the book in them or None, follows. Returns the result."""
         got = self.call(name, book, *arguments)
@@ -145,6 +111,13 @@ class Run:
         self.every(Buffer(data), model, near)
 
     # ---- runs of calls
+    def run(self):
+        for _ in range(BOOKS):
+            self.book()
+        for size, count in NETWORKS.items():
+            for _ in range(count):
+                self.network(*SIZES[size])
+
     def edit(self, book, model, ledger):
         """A random edit, also against the plain ledger."""
         name = self.rng.choice(['add_baseline', 'add_height', 'add_baseline', 'replace_baseline', 'replace_height', 'strike', 'undo', 'undo'])
@@ -188,26 +161,5 @@ class Run:
             self.ask('check_sheet', book, model, [Buffer(x), Buffer(m), Buffer(self.arguments.bytes(lent))])
 
 
-class TooMany(Exception):
-    pass
-
-
-def main():
-    run = Run(Library(sys.argv[1]), 20261115)
-    try:
-        for _ in range(BOOKS):
-            run.book()
-        for size, count in NETWORKS.items():
-            for _ in range(count):
-                run.network(*SIZES[size])
-        run.failed += run.coverage.shortfalls(CALLS)
-    except TooMany:
-        pass
-    for line in run.failed:
-        print(line)
-    print(run.coverage.text())
-    print('%d passed, %d failed' % (max(0, run.calls - len(run.failed)), len(run.failed)))
-
-
 if __name__ == '__main__':
-    main()
+    Calls(Library(sys.argv[1]), 20261115).report(CALLS)
