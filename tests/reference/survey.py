@@ -309,12 +309,10 @@ def sheet(net, records, x, m):
     return words + [t, d, global_verdict(t, d)]
 
 
-def distance_number(net, d):
-    """Refusals 3 and 17 of a check distance; 0 for none."""
-    if not ends_fit(net, d):
-        return 3
-    in_range = all(0 <= h <= MOST_HEIGHT for h in (d.instrument_height, d.target_height)) and 1 <= d.distance <= MOST_DISTANCE and 0 <= d.tolerance <= MOST_TOLERANCE
-    return 0 if in_range and d.tolerance < d.distance else 17
+def in_range(d):
+    """Whether the values of a check distance are within their limits."""
+    heights = all(0 <= h <= MOST_HEIGHT for h in (d.instrument_height, d.target_height))
+    return heights and 1 <= d.distance <= MOST_DISTANCE and 0 <= d.tolerance <= MOST_TOLERANCE and d.tolerance < d.distance
 
 
 def squared_distance(start, end, d):
@@ -330,9 +328,10 @@ def agrees(square, d):
 def check_distance(net, records, x, m, d, checked=None):
     """The answer to a check distance asked with a pair: (0,) where it agrees, (DISAGREES,) where not, (3,), (17,), or what `check` refuses the pair with. `checked` is the
     answer of `check` to the pair, where the caller has it already."""
-    number = distance_number(net, d)
-    if number:
-        return (number,)
+    if not ends_fit(net, d):
+        return (3,)
+    if not in_range(d):
+        return (17,)
     checked = checked or check(net, records, x, m)
     if checked != (0,):
         return checked
