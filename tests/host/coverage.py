@@ -1,12 +1,19 @@
 """What the tests of the C calls must have met at least so many times, in one place: a test that no longer reaches what it is for fails. Each number is about half of what the
 fixed seeds give. What a table does not have must not come at all: refusal 9, for one."""
 from collections import Counter
+import itertools
 
 SIZES = {'1 to 9': (1, 9), '10 to 24': (10, 24), '25 to 47': (25, 47), '48': (48, 48)}      # classes of numbers of unknowns
 
 
 def lengths(least):
     return dict.fromkeys(('as asked', 'empty', 'a word short', 'a byte short', 'a byte long', 'a word long', 'far longer'), least)
+
+
+def distance_refusals(least):
+    """3, 17 and one of the check's own, each alone and with the others."""
+    apply = itertools.product(('', '3'), ('', '17'), ('', *map(str, range(10, 17))))
+    return dict.fromkeys((' '.join(filter(None, numbers)) for numbers in apply if any(numbers)), least)
 
 
 # tests/host/calls.py. Each call by its refusals, 0 where it is done; then the lengths of lent slices on bytes that hold a book, damage, and what was written.
@@ -48,6 +55,22 @@ CALLS = {
     'accepted sheets by unknowns': {'1 to 9': 300, '10 to 24': 75, '25 to 47': 35, '48': 18},
     'accepted sheets by global verdict': {'PASS': 15, 'LOW': 15, 'HIGH': 250, 'NONE': 140},
     'local verdicts of accepted sheets': {'PASS': 20_000, 'FAIL': 15_000, 'LOOSE': 1_000},
+}
+
+# tests/host/distances.py. How many are asked and refused is what the request wants, a third refused; then what applies where a distance is refused, and what was near a limit with an
+# accepted pair.
+DISTANCES = {
+    'distances': {'asked': 20_000, 'refused': 7_000},
+    'check_distance': {-2: 12_000, 0: 8_000, 3: 6_000, 10: 650, 11: 320, 12: 320, 13: 320, 14: 320, 15: 260, 16: 380, 17: 5_000},
+    'answers': {'agrees': 4_000, 'does not': 6_000},
+    'what refuses': distance_refusals(120),
+    'limits of 17': {**dict.fromkeys(('%s %d' % (name, value) for name, most in (('instrument_height', 300_000), ('target_height', 300_000), ('tolerance', 100_000))
+                                      for value in (-1, 0, most, most + 1)), 32),
+                     **dict.fromkeys(('distance 0', 'distance 1', 'distance 1800000000', 'distance 1800000001'), 32), 'tolerance s - 1': 190, 'tolerance s': 170},
+    'extreme numbers': dict.fromkeys(('start', 'end', 'distance', 'instrument_height', 'target_height', 'tolerance'), 120),
+    'D² beside (s - t)²': {'one below': 130, 'at': 170, 'one above': 150},
+    'D² beside (s + t)²': {'one below': 130, 'at': 170, 'one above': 150},
+    'size of D²': {'to 10^6': 160, 'to 10^12': 6_000, 'to 10^18': 2_700, 'to 2.9·10^18': 1_100, 'to 3·10^18': 18, 'above': 90},
 }
 
 # tests/host/flips.py, by the part of the book
