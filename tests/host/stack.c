@@ -11,7 +11,7 @@
 #define SIZE (4u << 20)
 #define PAINT 0xA5
 #define BUDGET (512u << 10)
-#define CALLS 15
+#define CALLS 16
 
 static uint8_t book[DOMBRELAT_BOOK_BYTES];
 static int64_t stations[DOMBRELAT_STATIONS][4], x[DOMBRELAT_UNKNOWNS], m[DOMBRELAT_UNKNOWNS * DOMBRELAT_UNKNOWNS];
@@ -43,13 +43,14 @@ static void *run(void *unused) {
     case 12: answer = dombrelat_sheet_bytes(book, sizeof book); break;
     case 13: answer = dombrelat_stations(book, sizeof book, (uint8_t *)stations, sizeof stations); break;
     case 14: answer = dombrelat_record(book, sizeof book, 256, (uint8_t *)sheet, sizeof sheet); break;
+    case 15: answer = dombrelat_check_distance(book, sizeof book, (uint8_t *)x, sizeof x, (uint8_t *)m, sizeof m, 1, 32, 440, 0, 0, 100); break; /* about 439.5 apart */
     }
     return NULL;
 }
 
 int main(void) {
     static const char *const calls[CALLS] = {"open", "add_baseline", "replace_baseline", "replace_height", "strike", "add_height", "undo", "undo", "propose", "check", "check_sheet",
-                                             "unknowns", "sheet_bytes", "stations", "record"};
+                                             "unknowns", "sheet_bytes", "stations", "record", "check_distance"};
     size_t most = 0;
     int k;
     for (k = 0; k < DOMBRELAT_STATIONS; k++) {
