@@ -28,9 +28,9 @@ static inline void least(void (*const calls[])(int), int count, int rounds, int 
     }
 }
 
-/* A line of the table that bench/run prints: what was measured, the library's and the plain C's time, and how many times the plain C's it may take. */
+/* A line of the table that bench/run prints: what was measured, the library's and the plain C's time (or another call's), and how many times that it may take. */
 static inline void report(const char *what, double library, double plain, double budget) {
-    printf("%s\t%.1f\t%.1f\t%.2f\t%.1f\n", what, library, plain, library / plain, budget);
+    printf("%s\t%.1f\t%.1f\t%.3f\t%.2f\n", what, library, plain, library / plain, budget);
 }
 
 /* Times a library call less the time of `part`, a call that does only what the plain C leaves out, and prints the line. */
