@@ -57,17 +57,17 @@ CALLS = {
     'local verdicts of accepted sheets': {'PASS': 20_000, 'FAIL': 15_000, 'LOOSE': 1_000},
 }
 
-# tests/host/distances.py. How many are asked and refused is what the request wants, a third refused; then what applies where a distance is refused, and what was near a limit with an
-# accepted pair.
+# tests/host/distances.py. 20,000 distances are to be asked, and a third of those that the seed gives to be refused; then what applies where one is refused, and what was near a limit
+# with an accepted pair.
 DISTANCES = {
-    'distances': {'asked': 20_000, 'refused': 7_000},
+    'distances': {'asked': 20_000, 'refused': 12_000},
     'check_distance': {-2: 12_000, 0: 8_000, 3: 6_000, 10: 650, 11: 320, 12: 320, 13: 320, 14: 320, 15: 260, 16: 380, 17: 5_000},
     'answers': {'agrees': 4_000, 'does not': 6_000},
     'what refuses': distance_refusals(120),
     'limits of 17': {**dict.fromkeys(('%s %d' % (name, value) for name, most in (('instrument_height', 300_000), ('target_height', 300_000), ('tolerance', 100_000))
                                       for value in (-1, 0, most, most + 1)), 32),
                      **dict.fromkeys(('distance 0', 'distance 1', 'distance 1800000000', 'distance 1800000001'), 32), 'tolerance s - 1': 190, 'tolerance s': 170},
-    'extreme numbers': dict.fromkeys(('start', 'end', 'distance', 'instrument_height', 'target_height', 'tolerance'), 120),
+    'extreme numbers': dict.fromkeys(('start', 'end', 'distance', 'instrument_height', 'target_height', 'tolerance', 'all but the ends'), 120),
     'D² beside (s - t)²': {'one below': 130, 'at': 170, 'one above': 150},
     'D² beside (s + t)²': {'one below': 130, 'at': 170, 'one above': 150},
     'size of D²': {'to 10^6': 160, 'to 10^12': 6_000, 'to 10^18': 2_700, 'to 2.9·10^18': 1_100, 'to 3·10^18': 18, 'above': 90},

@@ -77,18 +77,23 @@ class Distances(Comparison):
         return model
 
     def adjusted_network(self, wanted):
-        """A network whose exact corrections put station k at the coordinates of wanted[k - 1] = (kind, coordinates, number of the known station that its record comes from)."""
+        """A network whose exact corrections put station k at the coordinates of wanted[k - 1] = (kind, coordinates), each by one record from station 1, which is known."""
         r = self.rng
-        moves = [[r.choice([1, 50, 20_000, 100_000]) * r.choice([-1, 1]) if survey.Station(kind, 0, 0, 0).unknown(c) else 0 for c in range(3)] for kind, _, _ in wanted]
-        moves = [[-d if abs(v - d) > CORNER else d for v, d in zip(at, move)] for (_, at, _), move in zip(wanted, moves)]
-        model = Book([(kind, *(v - d for v, d in zip(at, move))) for (kind, at, _), move in zip(wanted, moves)])
-        for place, (kind, at, tie) in enumerate(wanted, 1):
-            observed = tuple(a - b for a, b in zip(at, wanted[tie - 1][1]))
+        rows, start = [], wanted[0][1]
+        for kind, at in wanted:
+            moves = [r.choice([-1, 1]) * r.choice([1, 50, 20_000, 100_000]) if survey.Station(kind, *at).unknown(c) else 0 for c in range(3)]
+            rows.append((kind, *(v + d if abs(v - d) > CORNER else v - d for v, d in zip(at, moves))))
+        model = Book(rows)
+        for number, (kind, at) in enumerate(wanted, 1):
+            observed = tuple(b - a for a, b in zip(start, at))
             if kind == survey.FREE:
-                model.put(place, survey.Baseline(tie, place, observed, (100, r.randint(-9, 9), 0, 120, r.randint(-9, 9), 90)))
+                model.put(number, survey.Baseline(1, number, observed, self.weights()))
             elif kind == survey.HEIGHT:
-                model.put(place, survey.Level(tie, place, observed[2], r.randint(50, 9_000)))
+                model.put(number, survey.Level(1, number, observed[2], r.randint(50, 9_000)))
         return model
+
+    def weights(self):
+        return 100, self.rng.randint(-9, 9), 0, 120, self.rng.randint(-9, 9), 90
 
     def near_square(self, off, most):
         """(a, b, c, root) with a² + b² + c² = root² + off, a, b, c at most `most`: a reflection keeps a² + b² + c² − root², and in the end the numbers grow."""
@@ -100,24 +105,23 @@ class Distances(Comparison):
             grown = [abs(v - step) for v in signed]
             if max(grown) > most:
                 return (*r.sample(sides, 3), root)
-            sides, root = grown, root - step
+            sides, root = grown, abs(root - step)
 
     def square_network(self):
         """(network, distances at their limits): station 1 is at a corner, and D² from it to each other station, with certain heights, is a square, one less or one more."""
         r = self.rng
         toward = [r.choice([-1, 1]) for _ in range(3)]
         corner = [-CORNER * t for t in toward]
-        wanted, distances = [(survey.KNOWN, corner, 1)], []
-        for number in range(2, 18):
+        wanted, distances = [(survey.KNOWN, corner)], []
+        for _ in range(16):
             heights = [r.choice([0, survey.MOST_HEIGHT, r.randint(0, survey.MOST_HEIGHT)]) for _ in range(2)]
             *sides, root = self.near_square(r.choice([-1, 0, 1]), 2 * CORNER // 10 ** r.choice([0, 0, 1, 2, 3, 4, 5, 6, 7]))
             at = [v + side * t for v, side, t in zip(corner, sides, toward)]
             at[2] -= heights[1] - heights[0]
-            kind = r.choice([survey.KNOWN, survey.FREE, survey.HEIGHT])
             if abs(at[2]) <= CORNER and root > 1:
-                wanted.append((kind, at, 1))
+                wanted.append((r.choice([survey.KNOWN, survey.FREE, survey.HEIGHT]), at))
                 distances += self.at_limits(survey.CheckDistance(1, len(wanted), 0, *heights, 0), root)
-        wanted.append((survey.FREE, [v + 1_000 * t for v, t in zip(corner, toward)], 1))      # so that there is an unknown
+        wanted.append((survey.FREE, [v + 1_000 * t for v, t in zip(corner, toward)]))      # so that there is an unknown
         return self.adjusted_network(wanted), distances
 
     def at_limits(self, d, root):
@@ -134,7 +138,7 @@ class Distances(Comparison):
         model = Book([(kind, *at) for kind in (survey.KNOWN, survey.FREE, survey.FREE, survey.KNOWN) for at in corners])
         for number in range(9, 25):
             out = tuple(v // 5_000 if r.random() < 0.8 else r.randint(-1_000, 1_000) for v in model.rows[number - 1][1:])
-            model.put(number, survey.Baseline((number - 1) % 8 + 1, number, out, (100, r.randint(-9, 9), 0, 120, r.randint(-9, 9), 90)))
+            model.put(number, survey.Baseline((number - 1) % 8 + 1, number, out, self.weights()))
         return model
 
     # ---- pairs that the check refuses
@@ -192,10 +196,13 @@ class Distances(Comparison):
             yield replace(d, distance=s, tolerance=s)
 
     def with_extremes(self, d):
-        """The distance with an extreme number in each value in turn."""
-        for name in FIELDS:
+        """The distance with an extreme number in each value in turn, and in all of them but the ends."""
+        far = {name: self.rng.choice(extremes(getattr(d, name))) for name in FIELDS}
+        for name, value in far.items():
             self.coverage.note('extreme numbers', name)
-            yield replace(d, **{name: self.rng.choice(extremes(getattr(d, name)))})
+            yield replace(d, **{name: value})
+        self.coverage.note('extreme numbers', 'all but the ends')
+        yield replace(d, **{name: far[name] for name in LIMITS})
 
     def bad_ends(self, pair, d):
         r = self.rng
@@ -253,11 +260,12 @@ class Distances(Comparison):
                 self.coverage.note('D² beside ' + name, BESIDE[square - limit ** 2])
 
     def network(self, model, distances=()):
-        """The distances given and random ones, with the exact pair of a network, with it again and with pairs that the check refuses."""
+        """The distances given and random ones with the exact pair of a network; such as are refused, with it and with pairs that the check refuses."""
         x, m = self.arguments.exact(model)
-        self.answered(Pair(self, model, packed(x), packed(m)), distances)
-        for lent in [(model, packed(x), packed(m)), *self.refused_pairs(model, x, m)]:
-            self.refused(Pair(self, *lent))
+        exact = Pair(self, model, packed(x), packed(m))
+        self.answered(exact, distances)
+        for pair in [exact, *(Pair(self, *lent) for lent in self.refused_pairs(model, x, m))]:
+            self.refused(pair)
 
     def answered(self, pair, distances):
         """The distances given, random ones and such as are near their limits."""
@@ -277,8 +285,9 @@ class Distances(Comparison):
                 self.ask(pair, given)
 
     def run(self):
+        constants = header()
         for name, want in HEADER.items():
-            self.same('the header\'s ' + name, header().get(name), want)
+            self.same('%s in the header' % name, constants.get(name), want)
         for _ in range(RANDOM_NETWORKS):
             self.network(self.random_network())
         for _ in range(SQUARE_NETWORKS):
