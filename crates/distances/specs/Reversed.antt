@@ -11,11 +11,9 @@ use lib.Signed.{leZ, ltZ}
 use Rattle.integers.specs.Solvers.{ring, shapes}
 use Rattle.words.specs.Signed.{eqZ}
 use Rattle.network.specs.Rules.{inList, endsFit}
-use Rattle.network.specs.declared.Station.{Station}
 use Rattle.book.specs.declared.Book.{Book}
-use Rattle.checks.specs.Checks.{checked}
 use Rattle.distances.specs.declared.CheckDistance.{CheckDistance}
-use Rattle.distances.specs.Distances.{heightFits, distanceInRange, squaredDistance, withinTolerance, mark, agreesAt, onPair, answered, agreement}
+use Rattle.distances.specs.Distances.{heightFits, distanceInRange, squaredDistance, mark, answered, agreement}
 
 abbrev pub reversed : CheckDistance → CheckDistance
 reversed d = record { from = d .to; to = d .from; distance = d .distance; instrument = d .target; target = d .instrument; tolerance = d .tolerance }

@@ -26,18 +26,16 @@ use Rattle.acceptance.specs.declared.Answer.{Answer}
 use Rattle.acceptance.specs.declared.Answer.the-variants.{Accepted, Refused}
 use Rattle.book.specs.declared.Book.{Book}
 use Rattle.book.specs.Book.{sound}
-use Rattle.residuals.specs.Ranges.{Moved}
 use Rattle.sheet.specs.Sheet.{sheetWords, room}
 use Rattle.sheet.specs.SheetLaws.{sheet-length}
 use Rattle.checks.specs.Checks.{checked}
 use Rattle.checks.specs.CheckLaws.{rules, solved, has-room, checked-is}
 use Rattle.distances.specs.declared.CheckDistance.{CheckDistance}
-use Rattle.distances.specs.declared.Agreement.{Agreement}
 use Rattle.distances.specs.declared.Agreement.the-variants.{Agrees, Disagrees}
-use Rattle.distances.specs.Distances.{distanceInRange, mark, agrees, agreesAt, onPair, answered}
+use Rattle.distances.specs.Distances.{distanceInRange, mark, agrees, agreesAt, onPair}
 use Rattle.distances.specs.DistanceLaws.{not-refused}
 use Rattle.distances.specs.Tables.{mark-small}
-use Rattle.distances.specs.SheetWords.{coordinateWord, markIn, agrees-as, sheet-mark}
+use Rattle.distances.specs.SheetWords.{coordinateWord, agrees-as, sheet-mark}
 use Rattle.lent_checks.specs.LentChecks.{allWords, isWhole, answerWord, checkedLent, sheetFits}
 use Rattle.lent_checks.specs.LentDistances.{agreementWord, agreementLent}
 use Rattle.layout.specs.Bytes.{bookOf, bytesFit}

@@ -1,13 +1,12 @@
 -- Laws of the check distance on a lent pair: the words that are read give the answer of the whole slices, and how large the unknown of an answer is. Assumes nothing.
-use Prim.Native.Nat.{ℕ, _+_, _*_, _/_, _<_, _≤_}
-use mathlib.Core.Path.{_≡_, refl, sym, ap, _∙_, subst}
+use Prim.Native.Nat.{ℕ, _*_, _/_, _<_, _≤_}
+use mathlib.Core.Path.{_≡_, refl, sym, ap, _∙_}
 use mathlib.Core.Bool.{Bool, true, false, cond, _&&_}
 use mathlib.Core.List.{List, []}
 use native.Mathlib.Omega.{arith}
 use borrow.Author.Tests.{ne-eqb}
-use lib.Dec.{eqb, leb}
+use lib.Dec.{leb}
 use lib.ListN.{length}
-use lib.IntN.{ℤ}
 use Rattle.words.specs.Runs.{wordsAt}
 use Rattle.network.specs.Rules.{endsFit}
 use Rattle.network.specs.RuleLaws.{sound-stations}

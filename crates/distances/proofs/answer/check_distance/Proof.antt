@@ -1,14 +1,13 @@
 use borrow.Author.Needs.{needs}
 use borrow.Author.Tests.{not-true, not-false}
 use mathlib.Core.Path.{_≡_, sym, ap, ap₂, _∙_}
-use mathlib.Core.Bool.{true, false}
+use mathlib.Core.Bool.{true}
 use lib.IntN.{ℤ}
 use mir.Syntax.{w64}
 use mir.ValLaws.{toZ-ofZ}
 use Rattle.network.specs.Rules.{endsFit}
 use Rattle.acceptance.specs.declared.Answer.{Answer}
 use Rattle.acceptance.specs.declared.Answer.the-variants.{Accepted}
-use Rattle.residuals.specs.Ranges.{Moved}
 use Rattle.checks.specs.Checks.{checked}
 use Rattle.checks.specs.CheckLaws.{solved, checked-is}
 use Rattle.distances.specs.Distances.{distanceInRange, agreesAt, onPair, agreement}
