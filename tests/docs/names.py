@@ -1,5 +1,6 @@
 """The documents point at what is there: every relative link of README.md, docs/ and examples/ has its file, and in docs/PROOFS.md every name in a row of a
 table that links to files stands in one of them."""
+import glob
 import os
 import re
 import sys
@@ -39,8 +40,7 @@ def faults_of(document):
 
 
 def main():
-    documents = ['README.md'] + ['docs/' + name for name in sorted(os.listdir('docs'))]
-    documents += ['examples/README.md'] if os.path.exists('examples/README.md') else []
+    documents = ['README.md', *sorted(glob.glob('docs/**/*.md', recursive=True)), 'examples/README.md']
     passed = failed = 0
     for document in documents:
         for faults in faults_of(document):
