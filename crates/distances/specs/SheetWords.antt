@@ -2,13 +2,12 @@
 use Prim.Native.Nat.{ℕ, zero, suc, _+_, _*_, _<_, _≤_}
 use mathlib.Core.Path.{_≡_, refl, sym, ap, _∙_, subst}
 use mathlib.Core.Bool.{Bool, true, cond}
-use mathlib.Core.List.{List, [], _∷_, _++_}
-use native.Mathlib.Decide.{ℕ-discrete}
+use mathlib.Core.List.{List, [], _∷_, _++_, append-assoc}
 use native.Mathlib.Omega.{arith}
-use lib.ListN.{length, getD, drop, length-append, List·getD-append}
-use lib.Seq.{getD-append-add}
+use lib.ListN.{length, getD, drop, List·getD-append}
 use lib.IntN.{ℤ, pos}
 use Rattle.words.specs.Signed.{indexIn}
+use Rattle.words.specs.Joined.{joined, inside}
 use Rattle.network.specs.Stations.{unknownCount}
 use Rattle.network.specs.Rules.{inList, endsFit}
 use Rattle.network.specs.RuleLaws.{network-few, in-list, ends}
@@ -22,7 +21,8 @@ use Rattle.acceptance.specs.declared.Answer.the-variants.{Accepted}
 use Rattle.book.specs.declared.Book.{Book}
 use Rattle.book.specs.Book.{sound}
 use Rattle.sheet.specs.Sheet.{stationWords, stationLines, recordLines, globalWords, sheetWords, room}
-use Rattle.sheet.specs.SheetLaws.{stations-long, sheet-length}
+use Rattle.sheet.specs.Lines.{station-lines}
+use Rattle.sheet.specs.SheetLaws.{sheet-length}
 use Rattle.checks.specs.Checks.{checked, hasRoom, sheetAfter}
 use Rattle.checks.specs.CheckLaws.{rules, has-room, checked-is, after-accepted}
 use Rattle.distances.specs.Distances.{distanceInRange, squaredDistance, mark, agrees, agreesAt, onPair, agreement}
@@ -32,28 +32,14 @@ use Rattle.distances.specs.declared.CheckDistance.{CheckDistance}
 
 -- ════ where the words stand: after two, seven a station; the first is its number, the next three its coordinates
 abbrev pub coordinateWord : ℕ → ℕ → ℕ
-coordinateWord s c = 2 + (s * 7 + (1 + c))
+coordinateWord s c = 2 + s * 7 + (1 + c)
 
 module _ (stations : List Station) (x m : List ℤ) where
-  -- word j of station s's line
-  line-at : (k s j : ℕ) → s < k → j < 7 → getD (stationLines stations x m k) (s * 7 + j) (pos 0) ≡ getD (stationWords stations x m s) j (pos 0)
-  unfolding stationLines
-  line-at zero s j h l = absurd (omega arith)
-  line-at (suc k) s j h l = go (λ q. line-at k s j q l) (ℕ-discrete s k)
-    where
-      all : List ℤ
-      all = stationLines stations x m k
+  line-long : (s : ℕ) → length (stationWords stations x m s) ≡ 7
+  unfolding stationWords
+  line-long s = refl
 
-      go : (s < k → getD all (s * 7 + j) (pos 0) ≡ getD (stationWords stations x m s) j (pos 0)) → Dec (s ≡ k) → getD (all ++ stationWords stations x m k) (s * 7 + j) (pos 0) ≡ getD (stationWords stations x m s) j (pos 0)
-      go before (yes p) =
-          let at : s * 7 + j ≡ length all + j = omega (arith, stations-long stations x m k) in
-          ap (λ (i : ℕ). getD (all ++ stationWords stations x m k) i (pos 0)) at
-          ∙ getD-append-add all (stationWords stations x m k) j (pos 0)
-          ∙ ap (λ (i : ℕ). getD (stationWords stations x m i) j (pos 0)) (sym p)
-      go before (no q) =
-          List·getD-append all (stationWords stations x m k) (pos 0) (s * 7 + j) (omega (arith, stations-long stations x m k)) ∙ before (omega arith)
-
-  -- of those the coordinates
+  -- the coordinates in a station's line
   coordinate-at : (s c : ℕ) → c < 3 → getD (stationWords stations x m s) (1 + c) (pos 0) ≡ adjusted stations x (s * 3 + c)
   unfolding stationWords
   coordinate-at s zero h = ap (adjusted stations x) (let e : s * 3 ≡ s * 3 + 0 = omega arith in e)
@@ -66,17 +52,12 @@ module _ (net : Network) (places : List Place) (x m : List ℤ) where
       → getD (sheetWords net places x m) (coordinateWord s c) (pos 0) ≡ adjusted (net .stations) x (s * 3 + c)
   unfolding sheetWords
   sheet-coordinate s c h l =
-      List·getD-append (H ++ L ++ R) G (pos 0) i (omega (arith, length-append (H ++ L) R, length-append H L, long))
-      ∙ List·getD-append (H ++ L) R (pos 0) i (omega (arith, length-append H L, long))
-      ∙ getD-append-add H L (s * 7 + (1 + c)) (pos 0)
-      ∙ line-at (net .stations) x m (net .count) s (1 + c) h (omega arith)
+      ap (λ (w : List ℤ). getD w (coordinateWord s c) (pos 0)) parted
+      ∙ inside H (R ++ G) 7 (net .count) s (1 + c) 2 (stationWords (net .stations) x m) (pos 0) (line-long (net .stations) x m) refl h (omega arith)
       ∙ coordinate-at (net .stations) x m s c l
     where
       H : List ℤ
       H = pos (recordCount places) ∷ pos (unknownCount (net .stations)) ∷ []
-
-      L : List ℤ
-      L = stationLines (net .stations) x m (net .count)
 
       R : List ℤ
       R = recordLines (net .stations) x m places 256
@@ -84,11 +65,13 @@ module _ (net : Network) (places : List Place) (x m : List ℤ) where
       G : List ℤ
       G = globalWords (net .stations) places x
 
-      long : length L ≡ 7 * net .count
-      long = stations-long (net .stations) x m (net .count)
+      L : List ℤ
+      L = stationLines (net .stations) x m (net .count)
 
-      i : ℕ
-      i = coordinateWord s c
+      parted : H ++ L ++ R ++ G ≡ H ++ (joined (net .count) (stationWords (net .stations) x m) ++ (R ++ G))
+      parted =
+          append-assoc (H ++ L) R G ∙ append-assoc H L (R ++ G)
+          ∙ ap (λ (w : List ℤ). H ++ (w ++ (R ++ G))) (station-lines (net .stations) x m (net .count))
 
 -- ════ a station by its number
 -- the coordinates of the station with the number k, in the words of a sheet

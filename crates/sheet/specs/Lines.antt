@@ -9,6 +9,7 @@ use lib.ListN.{getD, length, length-append}
 use lib.IntN.{ℤ, pos, _+ℤ_, _-ℤ_}
 use Rattle.integers.specs.Sums.{sumN, sumN-suc, sumN-ext, sumN-first}
 use Rattle.integers.specs.Tables.{getD-tabulate}
+use Rattle.words.specs.Joined.{joined, joined-none, joined-+1, length-joined, joined-ext}
 use Rattle.network.specs.Stations.{unknownCount, coordinate, coordinates}
 use Rattle.network.specs.Records.{acts, fromOf, toOf, joins, recordAt}
 use Rattle.network.specs.declared.Station.{Station}
@@ -22,27 +23,10 @@ use Rattle.residuals.specs.Components.{unknownsOf, numbersOf, correctionsOf, co
 use Rattle.sheet.specs.Written.{written, written-none, written-then}
 
 -- ════ lines one after the other
-unfoldable pub lines : ℕ → (ℕ → List ℤ) → List ℤ
-lines zero f = []
-lines (suc k) f = lines k f ++ f k
-
-pub lines-zero : (f : ℕ → List ℤ) → lines 0 f ≡ []
-unfolding lines
-lines-zero f = refl
-
-pub lines-+1 : (k : ℕ) (f : ℕ → List ℤ) → lines (k + 1) f ≡ lines k f ++ f k
-unfolding lines
-lines-+1 k f = rw (add-one k)
-
-pub lines-ext : (k : ℕ) (f g : ℕ → List ℤ) → ((i : ℕ) → i < k → f i ≡ g i) → lines k f ≡ lines k g
-unfolding lines
-lines-ext zero f g h = refl
-lines-ext (suc k) f g h = ap₂ _++_ (lines-ext k f g (λ i l. h i (omega arith))) (h k (omega arith))
-
-pub length-lines : (k : ℕ) (f : ℕ → List ℤ) → length (lines k f) ≡ sumN k (λ i. length (f i))
-unfolding lines sumN
+length-lines : (k : ℕ) (f : ℕ → List ℤ) → length (joined k f) ≡ sumN k (λ i. length (f i))
+unfolding joined sumN
 length-lines zero f = refl
-length-lines (suc k) f = length-append (lines k f) (f k) ∙ ap (λ (n : ℕ). n + length (f k)) (length-lines k f)
+length-lines (suc k) f = length-append (joined k f) (f k) ∙ ap (λ (n : ℕ). n + length (f k)) (length-lines k f)
 
 -- a sheet on which w was stored from index `from` on, and the next index is `at`
 pub record Put (l : List ℤ) (from : ℕ) (w sheet : List ℤ) (at : ℕ) : Type 0 where
@@ -99,40 +83,37 @@ module _ (numbers : List ℕ) (unknowns m : List ℤ) (n : ℕ) where
 -- ════ the first k lines
 module _ (coordinate corrections : List ℤ) (numbers : List ℕ) (unknowns m : List ℤ) (n : ℕ) where
   unfoldable pub stationLinesIn : ℕ → List ℤ
-  stationLinesIn k = lines k (stationWordsIn coordinate corrections numbers unknowns m n)
+  stationLinesIn k = joined k (stationWordsIn coordinate corrections numbers unknowns m n)
 
   recordLineIn : List Place → ℕ → List ℤ
   recordLineIn places p = recordWordsIn numbers unknowns m n p (recordAt places p) (residualsIn coordinate corrections (recordAt places p))
 
   unfoldable pub recordLinesIn : List Place → ℕ → List ℤ
   unfolding recordLineIn
-  recordLinesIn places k = lines k (recordLineIn places)
+  recordLinesIn places k = joined k (recordLineIn places)
 
   pub stations-none : stationLinesIn 0 ≡ []
   unfolding stationLinesIn
-  stations-none = lines-zero (stationWordsIn coordinate corrections numbers unknowns m n)
+  stations-none = joined-none (stationWordsIn coordinate corrections numbers unknowns m n)
 
   pub stations-more : (k : ℕ) → stationLinesIn (k + 1) ≡ stationLinesIn k ++ stationWordsIn coordinate corrections numbers unknowns m n k
   unfolding stationLinesIn
-  stations-more k = lines-+1 k (stationWordsIn coordinate corrections numbers unknowns m n)
+  stations-more k = joined-+1 k (stationWordsIn coordinate corrections numbers unknowns m n)
 
   pub stations-length : (k : ℕ) → length (stationLinesIn k) ≡ 7 * k
-  unfolding stationLinesIn sumN
-  stations-length k = length-lines k (stationWordsIn coordinate corrections numbers unknowns m n) ∙ sevens k
-    where
-      sevens : (k : ℕ) → sumN k (λ s. length (stationWordsIn coordinate corrections numbers unknowns m n s)) ≡ 7 * k
-      sevens zero = omega arith
-      sevens (suc k) = omega (arith, sevens k, station-length coordinate corrections numbers unknowns m n k)
+  unfolding stationLinesIn
+  stations-length k =
+      length-joined 7 (stationWordsIn coordinate corrections numbers unknowns m n) (station-length coordinate corrections numbers unknowns m n) k ∙ omega arith
 
   module _ (places : List Place) where
     pub records-none : recordLinesIn places 0 ≡ []
     unfolding recordLinesIn
-    records-none = lines-zero (recordLineIn places)
+    records-none = joined-none (recordLineIn places)
 
     pub records-more : (k : ℕ) → recordLinesIn places (k + 1)
         ≡ recordLinesIn places k ++ recordWordsIn numbers unknowns m n k (recordAt places k) (residualsIn coordinate corrections (recordAt places k))
     unfolding recordLinesIn recordLineIn
-    records-more k = lines-+1 k (recordLineIn places)
+    records-more k = joined-+1 k (recordLineIn places)
 
     pub records-length : (k : ℕ) → length (recordLinesIn places k) ≡ sumN k (λ p. wordsOf (recordAt places p))
     unfolding recordLinesIn recordLineIn
@@ -187,23 +168,23 @@ module _ (stations : List Station) (x m : List ℤ) where
       )
   record-in p (height h) f t = rw (residual-in stations x (height h) f t 2 (lit< tt) refl, verdict-in (height h) f t 2 (lit< tt))
 
-  station-lines : (k : ℕ) → stationLines stations x m k ≡ lines k (stationWords stations x m)
-  unfolding stationLines lines
+  pub station-lines : (k : ℕ) → stationLines stations x m k ≡ joined k (stationWords stations x m)
+  unfolding stationLines joined
   station-lines zero = refl
   station-lines (suc k) = ap (λ (l : List ℤ). l ++ stationWords stations x m k) (station-lines k)
 
-  record-lines : (places : List Place) (k : ℕ) → recordLines stations x m places k ≡ lines k (λ p. recordWords stations x m p (recordAt places p))
-  unfolding recordLines lines
+  record-lines : (places : List Place) (k : ℕ) → recordLines stations x m places k ≡ joined k (λ p. recordWords stations x m p (recordAt places p))
+  unfolding recordLines joined
   record-lines places zero = refl
   record-lines places (suc k) = ap (λ (l : List ℤ). l ++ recordWords stations x m k (recordAt places k)) (record-lines places k)
 
   pub stations-in : (k : ℕ) → k ≤ 32
       → stationLinesIn (coordinates stations) (correctionsOf stations x) (numbersOf stations) (unknownsOf stations) m (unknownCount stations) k ≡ stationLines stations x m k
   unfolding stationLinesIn
-  stations-in k h = lines-ext k _ (stationWords stations x m) (λ s l. station-in s (omega arith)) ∙ sym (station-lines k)
+  stations-in k h = joined-ext k _ (stationWords stations x m) (λ s l. station-in s (omega arith)) ∙ sym (station-lines k)
 
   pub records-in : (places : List Place) → ((p : ℕ) → p < 256 → (fromOf (recordAt places p) < 32) × (toOf (recordAt places p) < 32))
       → recordLinesIn (coordinates stations) (correctionsOf stations x) (numbersOf stations) (unknownsOf stations) m (unknownCount stations) places 256 ≡ recordLines stations x m places 256
   unfolding recordLinesIn recordLineIn
   records-in places h =
-      lines-ext 256 _ (λ p. recordWords stations x m p (recordAt places p)) (λ p l. record-in p (recordAt places p) (h p l .0) (h p l .1)) ∙ sym (record-lines places 256)
+      joined-ext 256 _ (λ p. recordWords stations x m p (recordAt places p)) (λ p l. record-in p (recordAt places p) (h p l .0) (h p l .1)) ∙ sym (record-lines places 256)
