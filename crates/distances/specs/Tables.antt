@@ -3,45 +3,35 @@ use Prim.Native.Nat.{ℕ, _+_, _*_, _<_, _≤_}
 use mathlib.Core.Path.{_≡_, ap₂, subst}
 use mathlib.Core.List.{List, [], _∷_}
 use native.Mathlib.Omega.{arith}
-use lib.ListN.{getD}
-use lib.IntN.{ℤ, pos, natAbs, _+ℤ_, _-ℤ_}
+use lib.IntN.{ℤ, natAbs, _+ℤ_, _-ℤ_}
 use Rattle.integers.specs.Bounds.{bounds, absle}
 use Rattle.integers.specs.Solvers.{ring, shapes}
-use Rattle.integers.specs.Tables.{getD-tabulate}
 use Rattle.words.specs.Signed.{indexIn}
 use Rattle.network.specs.Stations.{coordinate, coordinates}
 use Rattle.network.specs.RuleLaws.{sound-stations}
 use Rattle.network.specs.declared.Network.{Network}
 use Rattle.network.specs.declared.Station.{Station}
-use Rattle.residuals.specs.Residuals.{correction, adjusted}
-use Rattle.residuals.specs.Components.{correctionsOf}
+use Rattle.residuals.specs.Residuals.{correction}
+use Rattle.residuals.specs.Components.{correctionsOf, adjustedIn, adjusted-in}
 use Rattle.residuals.specs.Ranges.{Moved, corrections-within}
 use Rattle.distances.specs.Distances.{square, squaredDistance, mark}
 use Rattle.distances.specs.declared.CheckDistance.{CheckDistance}
 
--- component q of a table of coordinates and one of corrections
-abbrev adjustedIn : List ℤ → List ℤ → ℕ → ℤ
-adjustedIn coordinate correction q = getD coordinate q (pos 0) +ℤ getD correction q (pos 0)
-
 -- component c, station t minus station f, both counted from 0
-unfoldable pub differenceIn : List ℤ → List ℤ → ℕ → ℕ → ℕ → ℤ
-differenceIn coordinate correction f t c = adjustedIn coordinate correction (t * 3 + c) -ℤ adjustedIn coordinate correction (f * 3 + c)
+unfoldable pub separationIn : List ℤ → List ℤ → ℕ → ℕ → ℕ → ℤ
+separationIn coordinate correction f t c = adjustedIn coordinate correction (t * 3 + c) -ℤ adjustedIn coordinate correction (f * 3 + c)
 
 -- the squared distance between them, the U difference taken plus `rise`
 unfoldable pub slopeIn : List ℤ → List ℤ → ℕ → ℕ → ℤ → ℤ
 slopeIn coordinate correction f t rise =
-    square (differenceIn coordinate correction f t 0) +ℤ square (differenceIn coordinate correction f t 1) +ℤ square (differenceIn coordinate correction f t 2 +ℤ rise)
+    square (separationIn coordinate correction f t 0) +ℤ square (separationIn coordinate correction f t 1) +ℤ square (separationIn coordinate correction f t 2 +ℤ rise)
 
 module _ (stations : List Station) (x : List ℤ) where
-  adjusted-in : (q : ℕ) → q < 96 → adjustedIn (coordinates stations) (correctionsOf stations x) q ≡ adjusted stations x q
-  unfolding adjusted
-  adjusted-in q h = ap₂ _+ℤ_ (getD-tabulate 96 (coordinate stations) q (pos 0) h) (getD-tabulate 96 (correction stations x) q (pos 0) h)
-
   -- the difference between the stations numbered a and b
-  difference-in : (a b : ℤ) (c : ℕ) → indexIn a 32 < 32 → indexIn b 32 < 32 → c < 3
-      → differenceIn (coordinates stations) (correctionsOf stations x) (indexIn a 32) (indexIn b 32) c ≡ mark stations x b c -ℤ mark stations x a c
-  unfolding differenceIn mark
-  difference-in a b c h k l = ap₂ _-ℤ_ (adjusted-in (indexIn b 32 * 3 + c) (omega arith)) (adjusted-in (indexIn a 32 * 3 + c) (omega arith))
+  separation-in : (a b : ℤ) (c : ℕ) → indexIn a 32 < 32 → indexIn b 32 < 32 → c < 3
+      → separationIn (coordinates stations) (correctionsOf stations x) (indexIn a 32) (indexIn b 32) c ≡ mark stations x b c -ℤ mark stations x a c
+  unfolding separationIn mark
+  separation-in a b c h k l = ap₂ _-ℤ_ (adjusted-in stations x (indexIn b 32 * 3 + c) (omega arith)) (adjusted-in stations x (indexIn a 32 * 3 + c) (omega arith))
 
   pub slope-in : (d : CheckDistance) → indexIn (d .from) 32 < 32 → indexIn (d .to) 32 < 32
       → slopeIn (coordinates stations) (correctionsOf stations x) (indexIn (d .from) 32) (indexIn (d .to) 32) (d .target -ℤ d .instrument)
@@ -50,8 +40,8 @@ module _ (stations : List Station) (x : List ℤ) where
   slope-in d h k =
       let a = mark stations x (d .from) in
       let b = mark stations x (d .to) in
-      let same : (c : ℕ) → c < 3 → differenceIn (coordinates stations) (correctionsOf stations x) (indexIn (d .from) 32) (indexIn (d .to) 32) c ≡ b c -ℤ a c =
-      λ c l. difference-in (d .from) (d .to) c h k l in
+      let same : (c : ℕ) → c < 3 → separationIn (coordinates stations) (correctionsOf stations x) (indexIn (d .from) 32) (indexIn (d .to) 32) c ≡ b c -ℤ a c =
+      λ c l. separation-in (d .from) (d .to) c h k l in
       rw (same 0 (omega arith), same 1 (omega arith), same 2 (omega arith))
       (ring (b 0 ∷ a 0 ∷ b 1 ∷ a 1 ∷ b 2 ∷ a 2 ∷ d .target ∷ d .instrument ∷ []) (search shapes depth 12) tt)
 

@@ -11,12 +11,12 @@ ghost use Rattle.integers.specs.Tables.{Within};
 ghost use Rattle.network.specs.Rules.{endsFit};
 ghost use Rattle.residuals.specs.Ranges.{Moved};
 ghost use Rattle.distances.specs.Distances.{square, distanceInRange, agreesAt};
-ghost use Rattle.distances.specs.Tables.{differenceIn, slopeIn};
+ghost use Rattle.distances.specs.Tables.{separationIn, slopeIn};
 
 // The difference of the adjusted coordinates in component c, station t minus station f, both counted from 0.
 fn difference(coordinate: &[i64; 96], correction: &[i64; 96], f: usize, t: usize, c: usize) -> i64
     requires { ⌜ (f < 32) × (t < 32) × (c < 3) × Within 96 500000000 (now coordinate) × Within 96 100000 (now correction) ⌝ }
-    ensures { λ r. ⌜ (r ≡ differenceIn (now (coordinate .entry)) (now (correction .entry)) f t c) × (natAbs r ≤ 1000200000) ⌝ }
+    ensures { λ r. ⌜ (r ≡ separationIn (now (coordinate .entry)) (now (correction .entry)) f t c) × (natAbs r ≤ 1000200000) ⌝ }
 {
     let a = residuals::adjusted(coordinate, correction, t * 3 + c);
     let b = residuals::adjusted(coordinate, correction, f * 3 + c);

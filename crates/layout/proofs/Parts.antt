@@ -21,7 +21,7 @@ use Rattle.network.specs.RecordWords.{recordOf, recordIn}
 use Rattle.network.specs.declared.Record.{Record}
 use Rattle.network.specs.declared.Record.the-variants.{Baseline as baseline, Height as height}
 use Rattle.normals.specs.Same.{sameEntries}
-use Rattle.words.specs.Joined.{joined, joined-more, length-joined}
+use Rattle.words.specs.Concat.{concat, concat-more, length-concat}
 use Rattle.network.specs.StationWords.{stationWords}
 use Rattle.layout.specs.Layout.{stationPart, recordWords, networkIn, bookIn}
 use Rattle.layout.specs.Laid.{recordLaid, stationLaid}
@@ -109,15 +109,15 @@ module _ (s : List ℕ) (k : ℕ) (h : k < 32) where
       (λ j l. ap₂ eqZ (station-list list part n p q e j l) (ap (λ (x : List ℤ). getD x j (pos 0)) is))
 
 -- ════ parts of m words written one behind the other, from byte `at` on
-pub parts-none : (s : List ℕ) (at : ℕ) (f : ℕ → List ℤ) → s ≡ putWords s at (joined 0 f)
-unfolding joined putWords
+pub parts-none : (s : List ℕ) (at : ℕ) (f : ℕ → List ℤ) → s ≡ putWords s at (concat 0 f)
+unfolding concat putWords
 parts-none s at f = refl
 
-pub parts-more : (s₀ s t : List ℕ) (at m k here : ℕ) (f : ℕ → List ℤ) → ((i : ℕ) → length (f i) ≡ m) → here ≡ at + 8 * (k * m) → s ≡ putWords s₀ at (joined k f) → t ≡ putWords s here (f k)
-    → t ≡ putWords s₀ at (joined (k + 1) f)
+pub parts-more : (s₀ s t : List ℕ) (at m k here : ℕ) (f : ℕ → List ℤ) → ((i : ℕ) → length (f i) ≡ m) → here ≡ at + 8 * (k * m) → s ≡ putWords s₀ at (concat k f) → t ≡ putWords s here (f k)
+    → t ≡ putWords s₀ at (concat (k + 1) f)
 parts-more s₀ s t at m k here f even e p q =
     q
     ∙ ap (λ (x : List ℕ). putWords x here (f k)) p
-    ∙ ap (λ (i : ℕ). putWords (putWords s₀ at (joined k f)) i (f k)) (e ∙ ap (λ (n : ℕ). at + 8 * n) (sym (length-joined m f even k)))
-    ∙ sym (run-append s₀ at (joined k f) (f k))
-    ∙ ap (putWords s₀ at) (sym (joined-more k f) ∙ ap (λ (n : ℕ). joined n f) (sym (add-one k)))
+    ∙ ap (λ (i : ℕ). putWords (putWords s₀ at (concat k f)) i (f k)) (e ∙ ap (λ (n : ℕ). at + 8 * n) (sym (length-concat m f even k)))
+    ∙ sym (run-append s₀ at (concat k f) (f k))
+    ∙ ap (putWords s₀ at) (sym (concat-more k f) ∙ ap (λ (n : ℕ). concat n f) (sym (add-one k)))

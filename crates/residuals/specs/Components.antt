@@ -13,7 +13,7 @@ use Rattle.integers.specs.Bounds.{bounds, absle}
 use Rattle.integers.specs.Solvers.{ring, shapes}
 use Rattle.integers.specs.Sums.{sum, sum-ext, sum--, sum-*l, sum-δ, δ}
 use Rattle.integers.specs.Tables.{tabulate, getD-tabulate, Within}
-use Rattle.network.specs.Stations.{unknown, number, place, unknownCount, coordinates}
+use Rattle.network.specs.Stations.{unknown, number, place, unknownCount, coordinate, coordinates}
 use Rattle.network.specs.StationLaws.{bit-cases, number-below}
 use Rattle.network.specs.Records.{acts, fromOf, toOf, joins, joins-one, misclosures, l}
 use Rattle.network.specs.RecordLaws.{Observed}
@@ -21,7 +21,7 @@ use Rattle.network.specs.declared.Station.{Station}
 use Rattle.network.specs.declared.Record.{Record}
 use Rattle.normals.specs.Formulas.{A, isUnknown}
 use Rattle.normals.specs.Acting.{A-acting}
-use Rattle.residuals.specs.Residuals.{correction, covariance, residual, differenceVariance}
+use Rattle.residuals.specs.Residuals.{correction, adjusted, covariance, residual, differenceVariance}
 
 -- ════ the tables
 -- 1 at each unknown component, 0 at each held one
@@ -34,6 +34,14 @@ numbersOf stations = tabulate 96 (place stations)
 
 abbrev pub correctionsOf : List Station → List ℤ → List ℤ
 correctionsOf stations x = tabulate 96 (correction stations x)
+
+-- the adjusted coordinate of component q, from the tables of coordinates and corrections
+abbrev pub adjustedIn : List ℤ → List ℤ → ℕ → ℤ
+adjustedIn coordinate corrections q = getD coordinate q (pos 0) +ℤ getD corrections q (pos 0)
+
+pub adjusted-in : (stations : List Station) (x : List ℤ) (q : ℕ) → q < 96 → adjustedIn (coordinates stations) (correctionsOf stations x) q ≡ adjusted stations x q
+unfolding adjusted
+adjusted-in stations x q h = ap₂ _+ℤ_ (getD-tabulate 96 (coordinate stations) q (pos 0) h) (getD-tabulate 96 (correction stations x) q (pos 0) h)
 
 -- ════ the number of a component is an index of x
 module _ (stations : List Station) where

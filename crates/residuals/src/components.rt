@@ -3,11 +3,11 @@ use network::Record;
 use network::Station;
 ghost use mathlib.Core.Path.{_≡_};
 ghost use Prim.Native.Nat.{_+_, _*_, _<_, _≤_};
-ghost use lib.IntN.{pos, natAbs, _+ℤ_, _-ℤ_, _*ℤ_};
+ghost use lib.IntN.{pos, natAbs, _-ℤ_, _*ℤ_};
 ghost use lib.ListN.{getD};
 ghost use Rattle.integers.specs.Tables.{Within};
 ghost use Rattle.network.specs.Stations.{unknownCount};
-ghost use Rattle.residuals.specs.Components.{correctionsOf, residualsIn, Closes};
+ghost use Rattle.residuals.specs.Components.{correctionsOf, adjustedIn, residualsIn, Closes};
 
 // The correction of each component, 0 for a held one.
 pub fn corrections_of(stations: [Station; 32], x: &[i64]) -> [i64; 96]
@@ -31,7 +31,7 @@ pub fn corrections_of(stations: [Station; 32], x: &[i64]) -> [i64; 96]
 // The adjusted coordinate of component q: provisional plus correction.
 pub fn adjusted(coordinate: &[i64; 96], correction: &[i64; 96], q: usize) -> i64
     requires { ⌜ (q < 96) × Within 96 500000000 (now coordinate) × Within 96 100000 (now correction) ⌝ }
-    ensures { λ r. ⌜ r ≡ getD (now (coordinate .entry)) q (pos 0) +ℤ getD (now (correction .entry)) q (pos 0) ⌝ }
+    ensures { λ r. ⌜ r ≡ adjustedIn (now (coordinate .entry)) (now (correction .entry)) q ⌝ }
 {
     coordinate[q] + correction[q]
 }

@@ -3,30 +3,28 @@ use Prim.Native.Nat.{ℕ, zero, suc, _+_, _*_, _<_, _≤_}
 use mathlib.Core.Path.{_≡_, refl, sym, ap, ap₂, _∙_}
 use mathlib.Core.List.{List, [], _∷_, _++_}
 use native.Mathlib.Omega.{arith}
-use native.Mathlib.Numerals.{add-one}
 use lib.Dec.{lit<}
 use lib.ListN.{getD, length, length-append}
-use lib.IntN.{ℤ, pos, _+ℤ_, _-ℤ_}
+use lib.IntN.{ℤ, pos, _-ℤ_}
 use Rattle.integers.specs.Sums.{sumN, sumN-suc, sumN-ext, sumN-first}
-use Rattle.integers.specs.Tables.{getD-tabulate}
-use Rattle.words.specs.Joined.{joined, joined-none, joined-+1, length-joined, joined-ext}
+use Rattle.words.specs.Concat.{concat, concat-none, concat-+1, length-concat, concat-ext}
 use Rattle.network.specs.Stations.{unknownCount, coordinate, coordinates}
 use Rattle.network.specs.Records.{acts, fromOf, toOf, joins, recordAt}
 use Rattle.network.specs.declared.Station.{Station}
 use Rattle.network.specs.declared.Place.{Place}
 use Rattle.network.specs.declared.Record.{Record}
 use Rattle.network.specs.declared.Record.the-variants.{Empty, Baseline as baseline, Height as height}
-use Rattle.residuals.specs.Residuals.{correction, adjusted, residual, observationVariance, residualVariance}
+use Rattle.residuals.specs.Residuals.{residual, observationVariance, residualVariance}
 use Rattle.residuals.specs.Verdicts.{verdictWord, localVerdict}
 use Rattle.sheet.specs.Sheet.{stationWords, stationLines, recordWords, recordLines, verdictAt, wordsOf}
-use Rattle.residuals.specs.Components.{unknownsOf, numbersOf, correctionsOf, covarianceIn, covariance-in, differenceIn, difference-in, residualsIn, residual-in}
+use Rattle.residuals.specs.Components.{unknownsOf, numbersOf, correctionsOf, adjustedIn, adjusted-in, covarianceIn, covariance-in, differenceIn, difference-in, residualsIn, residual-in}
 use Rattle.sheet.specs.Written.{written, written-none, written-then}
 
 -- ════ lines one after the other
-length-lines : (k : ℕ) (f : ℕ → List ℤ) → length (joined k f) ≡ sumN k (λ i. length (f i))
-unfolding joined sumN
+length-lines : (k : ℕ) (f : ℕ → List ℤ) → length (concat k f) ≡ sumN k (λ i. length (f i))
+unfolding concat sumN
 length-lines zero f = refl
-length-lines (suc k) f = length-append (joined k f) (f k) ∙ ap (λ (n : ℕ). n + length (f k)) (length-lines k f)
+length-lines (suc k) f = length-append (concat k f) (f k) ∙ ap (λ (n : ℕ). n + length (f k)) (length-lines k f)
 
 -- a sheet on which w was stored from index `from` on, and the next index is `at`
 pub record Put (l : List ℤ) (from : ℕ) (w sheet : List ℤ) (at : ℕ) : Type 0 where
@@ -46,13 +44,10 @@ put-more {l} {from} {w} {sheet} {at} p v now then e q =
 
 -- ════ the line of a station
 module _ (coordinate corrections : List ℤ) (numbers : List ℕ) (unknowns m : List ℤ) (n : ℕ) where
-  abbrev pub adjustedIn : ℕ → ℤ
-  adjustedIn q = getD coordinate q (pos 0) +ℤ getD corrections q (pos 0)
-
   unfoldable pub stationWordsIn : ℕ → List ℤ
   stationWordsIn s =
       pos (s + 1)
-      ∷ adjustedIn (s * 3) ∷ adjustedIn (s * 3 + 1) ∷ adjustedIn (s * 3 + 2)
+      ∷ adjustedIn coordinate corrections (s * 3) ∷ adjustedIn coordinate corrections (s * 3 + 1) ∷ adjustedIn coordinate corrections (s * 3 + 2)
       ∷ covarianceIn numbers unknowns m n (s * 3) (s * 3) ∷ covarianceIn numbers unknowns m n (s * 3 + 1) (s * 3 + 1) ∷ covarianceIn numbers unknowns m n (s * 3 + 2) (s * 3 + 2)
       ∷ []
 
@@ -83,37 +78,37 @@ module _ (numbers : List ℕ) (unknowns m : List ℤ) (n : ℕ) where
 -- ════ the first k lines
 module _ (coordinate corrections : List ℤ) (numbers : List ℕ) (unknowns m : List ℤ) (n : ℕ) where
   unfoldable pub stationLinesIn : ℕ → List ℤ
-  stationLinesIn k = joined k (stationWordsIn coordinate corrections numbers unknowns m n)
+  stationLinesIn k = concat k (stationWordsIn coordinate corrections numbers unknowns m n)
 
   recordLineIn : List Place → ℕ → List ℤ
   recordLineIn places p = recordWordsIn numbers unknowns m n p (recordAt places p) (residualsIn coordinate corrections (recordAt places p))
 
   unfoldable pub recordLinesIn : List Place → ℕ → List ℤ
   unfolding recordLineIn
-  recordLinesIn places k = joined k (recordLineIn places)
+  recordLinesIn places k = concat k (recordLineIn places)
 
   pub stations-none : stationLinesIn 0 ≡ []
   unfolding stationLinesIn
-  stations-none = joined-none (stationWordsIn coordinate corrections numbers unknowns m n)
+  stations-none = concat-none (stationWordsIn coordinate corrections numbers unknowns m n)
 
   pub stations-more : (k : ℕ) → stationLinesIn (k + 1) ≡ stationLinesIn k ++ stationWordsIn coordinate corrections numbers unknowns m n k
   unfolding stationLinesIn
-  stations-more k = joined-+1 k (stationWordsIn coordinate corrections numbers unknowns m n)
+  stations-more k = concat-+1 k (stationWordsIn coordinate corrections numbers unknowns m n)
 
   pub stations-length : (k : ℕ) → length (stationLinesIn k) ≡ 7 * k
   unfolding stationLinesIn
   stations-length k =
-      length-joined 7 (stationWordsIn coordinate corrections numbers unknowns m n) (station-length coordinate corrections numbers unknowns m n) k ∙ omega arith
+      length-concat 7 (stationWordsIn coordinate corrections numbers unknowns m n) (station-length coordinate corrections numbers unknowns m n) k ∙ omega arith
 
   module _ (places : List Place) where
     pub records-none : recordLinesIn places 0 ≡ []
     unfolding recordLinesIn
-    records-none = joined-none (recordLineIn places)
+    records-none = concat-none (recordLineIn places)
 
     pub records-more : (k : ℕ) → recordLinesIn places (k + 1)
         ≡ recordLinesIn places k ++ recordWordsIn numbers unknowns m n k (recordAt places k) (residualsIn coordinate corrections (recordAt places k))
     unfolding recordLinesIn recordLineIn
-    records-more k = joined-+1 k (recordLineIn places)
+    records-more k = concat-+1 k (recordLineIn places)
 
     pub records-length : (k : ℕ) → length (recordLinesIn places k) ≡ sumN k (λ p. wordsOf (recordAt places p))
     unfolding recordLinesIn recordLineIn
@@ -129,19 +124,15 @@ module _ (coordinate corrections : List ℤ) (numbers : List ℕ) (unknowns m : 
 
 -- ════ over the tables of a station list they are the sheet's
 module _ (stations : List Station) (x m : List ℤ) where
-  adjusted-in : (q : ℕ) → q < 96 → getD (coordinates stations) q (pos 0) +ℤ getD (correctionsOf stations x) q (pos 0) ≡ adjusted stations x q
-  unfolding adjusted
-  adjusted-in q h = ap₂ _+ℤ_ (getD-tabulate 96 (coordinate stations) q (pos 0) h) (getD-tabulate 96 (correction stations x) q (pos 0) h)
-
   station-in : (s : ℕ) → s < 32
       → stationWordsIn (coordinates stations) (correctionsOf stations x) (numbersOf stations) (unknownsOf stations) m (unknownCount stations) s ≡ stationWords stations x m s
   unfolding stationWordsIn stationWords
   station-in s h =
       let e : s * 3 < 96 = omega arith in let n : s * 3 + 1 < 96 = omega arith in let u : s * 3 + 2 < 96 = omega arith in
       rw (
-        adjusted-in (s * 3) e,
-        adjusted-in (s * 3 + 1) n,
-        adjusted-in (s * 3 + 2) u,
+        adjusted-in stations x (s * 3) e,
+        adjusted-in stations x (s * 3 + 1) n,
+        adjusted-in stations x (s * 3 + 2) u,
         covariance-in stations m (s * 3) (s * 3) e e,
         covariance-in stations m (s * 3 + 1) (s * 3 + 1) n n,
         covariance-in stations m (s * 3 + 2) (s * 3 + 2) u u,
@@ -168,23 +159,23 @@ module _ (stations : List Station) (x m : List ℤ) where
       )
   record-in p (height h) f t = rw (residual-in stations x (height h) f t 2 (lit< tt) refl, verdict-in (height h) f t 2 (lit< tt))
 
-  pub station-lines : (k : ℕ) → stationLines stations x m k ≡ joined k (stationWords stations x m)
-  unfolding stationLines joined
+  pub station-lines : (k : ℕ) → stationLines stations x m k ≡ concat k (stationWords stations x m)
+  unfolding stationLines concat
   station-lines zero = refl
   station-lines (suc k) = ap (λ (l : List ℤ). l ++ stationWords stations x m k) (station-lines k)
 
-  record-lines : (places : List Place) (k : ℕ) → recordLines stations x m places k ≡ joined k (λ p. recordWords stations x m p (recordAt places p))
-  unfolding recordLines joined
+  record-lines : (places : List Place) (k : ℕ) → recordLines stations x m places k ≡ concat k (λ p. recordWords stations x m p (recordAt places p))
+  unfolding recordLines concat
   record-lines places zero = refl
   record-lines places (suc k) = ap (λ (l : List ℤ). l ++ recordWords stations x m k (recordAt places k)) (record-lines places k)
 
   pub stations-in : (k : ℕ) → k ≤ 32
       → stationLinesIn (coordinates stations) (correctionsOf stations x) (numbersOf stations) (unknownsOf stations) m (unknownCount stations) k ≡ stationLines stations x m k
   unfolding stationLinesIn
-  stations-in k h = joined-ext k _ (stationWords stations x m) (λ s l. station-in s (omega arith)) ∙ sym (station-lines k)
+  stations-in k h = concat-ext k _ (stationWords stations x m) (λ s l. station-in s (omega arith)) ∙ sym (station-lines k)
 
   pub records-in : (places : List Place) → ((p : ℕ) → p < 256 → (fromOf (recordAt places p) < 32) × (toOf (recordAt places p) < 32))
       → recordLinesIn (coordinates stations) (correctionsOf stations x) (numbersOf stations) (unknownsOf stations) m (unknownCount stations) places 256 ≡ recordLines stations x m places 256
   unfolding recordLinesIn recordLineIn
   records-in places h =
-      joined-ext 256 _ (λ p. recordWords stations x m p (recordAt places p)) (λ p l. record-in p (recordAt places p) (h p l .0) (h p l .1)) ∙ sym (record-lines places 256)
+      concat-ext 256 _ (λ p. recordWords stations x m p (recordAt places p)) (λ p l. record-in p (recordAt places p) (h p l .0) (h p l .1)) ∙ sym (record-lines places 256)

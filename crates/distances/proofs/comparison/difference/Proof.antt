@@ -8,7 +8,7 @@ use lib.IntN.{ℤ, pos, natAbs, _+ℤ_, _-ℤ_}
 use Rattle.network.specs.Stored.{stored}
 use Rattle.integers.specs.Bounds.{bounds, absle}
 use Rattle.integers.specs.Code.{fit, code-bounds, ringm, code-shapes}
-use Rattle.distances.specs.Tables.{differenceIn}
+use Rattle.distances.specs.Tables.{separationIn}
 use Rattle.distances.proofs.comparison.difference.Statement.{statement}
 use Rattle.distances.proofs.comparison.difference.Tie as tie
 
@@ -54,7 +54,7 @@ difference-is : (c : tie.After-adjusted2) → stored (stored (c .before .adjuste
 difference-is c = let x = a-small (c .before) in let y = b-small c in ringm (c .before .adjusted .result ∷ c .adjusted2 .result ∷ []) (search code-shapes depth 12) tt
 
 returns : tie.Need-returns
-unfolding differenceIn
+unfolding separationIn
 returns c =
     let x = a-small (c .before) in let y = b-small c in
     let d = difference-is c in (
