@@ -1,7 +1,8 @@
 /* A small levelling network, from the station list to the printed sheet and two taped distances held against it. All that a program needs is include/dombrelat.h.
+ * At the repository's root:
  *
  *     rt staticlib dombrelat
- *     gcc -std=c99 -Wall -Wextra -Iinclude examples/host.c target/staticlib/libdombrelat.a -o host && ./host
+ *     gcc -std=c99 -Wall -Wextra -Iinclude examples/host.c target/staticlib/libdombrelat.a -o target/host && target/host
  *
  * It treats an array of int64_t as the bytes of words, which holds on a little-endian machine. */
 #include "dombrelat.h"
@@ -93,7 +94,7 @@ static void print_sheet(const int64_t *word) {
 /* Whether a taped distance agrees with the sheet of x and M. One that does not is no refusal: the question was answered. */
 static void print_taped(const int64_t *d, size_t x_bytes, size_t m_bytes) {
     int64_t result = dombrelat_check_distance(book, sizeof book, (const uint8_t *)x, x_bytes, (const uint8_t *)m, m_bytes, d[0], d[1], d[2], d[3], d[4], d[5]);
-    const char *answer = "does not agree with the sheet: tape it again";
+    const char *answer = "does not agree with the sheet: look at the stations and heights, then tape it again";
     if (result != DOMBRELAT_DISAGREES) {
         number("a taped distance", result);
         answer = "agrees with the sheet";

@@ -13,7 +13,7 @@
  * The calls keep no state and allocate nothing, so they are re-entrant: threads may call at the same time, on books of their own. One book has one writer at a time (open, add,
  * replace, strike and undo write), and nobody reads it meanwhile; calls that only read may share it.
  *
- * A result is refusal + 256 * number. DOMBRELAT_REFUSAL(result) is 0 (done, or accepted) or the refusal's number: DOMBRELAT_ constants below, in words in docs/REFUSALS.md. Where
+ * A result is refusal + 256 * number. DOMBRELAT_REFUSAL(result) is 0 (done, accepted or agreed) or the refusal's number: DOMBRELAT_ constants below, in words in docs/REFUSALS.md. Where
  * several apply, the lowest number is given, but DOMBRELAT_BAD_BOOK comes before all others, and DOMBRELAT_BAD_DISTANCE before 10 to 16. DOMBRELAT_NUMBER(result) is the number
  * that a call gives: the unknown of DOMBRELAT_UNTIED, or what a reading call counts; otherwise 0. Two results are negative and stand by themselves, DOMBRELAT_NO_PROPOSAL and
  * DOMBRELAT_DISAGREES: DOMBRELAT_REFUSAL gives them as they are. So a switch goes through DOMBRELAT_REFUSAL, since no result is DOMBRELAT_UNTIED itself:
@@ -55,7 +55,7 @@ extern "C" {
 
 /* The largest numbers of a check distance, in units. */
 #define DOMBRELAT_DISTANCE_MAX 1800000000
-#define DOMBRELAT_INSTRUMENT_HEIGHT_MAX 300000 /* of the target too */
+#define DOMBRELAT_HEIGHT_ABOVE_MARK_MAX 300000 /* of the instrument, and of the target */
 #define DOMBRELAT_TOLERANCE_MAX 100000
 
 /* Kinds of station. */
@@ -132,10 +132,10 @@ int64_t dombrelat_check(const uint8_t *book, size_t book_bytes, const uint8_t *x
 int64_t dombrelat_check_sheet(const uint8_t *book, size_t book_bytes, const uint8_t *x, size_t x_bytes, const uint8_t *m, size_t m_bytes,
                               uint8_t *sheet, size_t sheet_bytes);
 
-/* Holds a slope distance, taped after setting out, against the sheet of a pair that the check accepts. The instrument stands at from, the target at to, each so high above its mark.
- * D is the length from instrument to target by the sheet's coordinates at x: D² is the sum of the squared differences to minus from, that in U plus target_height minus
- * instrument_height. 0: it agrees, which is that (distance - tolerance)² <= D² <= (distance + tolerance)². DOMBRELAT_DISAGREES: it does not. It is no record, so it never enters the
- * adjustment, and nothing is written. Refusals, in this order: 25, 3, 17, then as for checking. */
+/* Holds a slope distance, taped after setting out, against the sheet of a pair that the check accepts. The instrument stands at from, the target at to; their heights are those
+ * above the two marks. D is the length from instrument to target by the sheet's coordinates at x: D² is the sum of the squared differences to minus from, that in U plus
+ * target_height minus instrument_height. 0: it agrees, which is that (distance - tolerance)² <= D² <= (distance + tolerance)². DOMBRELAT_DISAGREES: it does not. It is no record,
+ * so it never enters the adjustment, and nothing is written. Refusals, in this order: 25, 3, 17, then as for checking. */
 int64_t dombrelat_check_distance(const uint8_t *book, size_t book_bytes, const uint8_t *x, size_t x_bytes, const uint8_t *m, size_t m_bytes,
                                  int64_t from, int64_t to, int64_t distance, int64_t instrument_height, int64_t target_height, int64_t tolerance);
 

@@ -26,7 +26,7 @@ CORNER = 500_000_000                       # the largest coordinate
 FIELDS = [f.name for f in fields(survey.CheckDistance)]
 LIMITS = {'distance': (1, survey.MOST_DISTANCE), 'instrument_height': (0, survey.MOST_HEIGHT), 'target_height': (0, survey.MOST_HEIGHT), 'tolerance': (0, survey.MOST_TOLERANCE)}
 HEADER = {'BAD_ENDS': 3, 'BAD_DISTANCE': 17, 'DISAGREES': survey.DISAGREES,
-          'DISTANCE_MAX': survey.MOST_DISTANCE, 'INSTRUMENT_HEIGHT_MAX': survey.MOST_HEIGHT, 'TOLERANCE_MAX': survey.MOST_TOLERANCE}      # what it must say
+          'DISTANCE_MAX': survey.MOST_DISTANCE, 'HEIGHT_ABOVE_MARK_MAX': survey.MOST_HEIGHT, 'TOLERANCE_MAX': survey.MOST_TOLERANCE}      # what it must say
 BESIDE = {-1: 'one below', 0: 'at', 1: 'one above'}
 SIZES = {'to 10^6': 10 ** 6, 'to 10^12': 10 ** 12, 'to 10^18': 10 ** 18, 'to 2.9·10^18': 29 * 10 ** 17, 'to 3·10^18': 3 * 10 ** 18, 'above': 2 ** 63}      # of D²
 

@@ -13,7 +13,7 @@ use Rattle.network.specs.All.{each}
 use Rattle.network.specs.Rules.{endsFit}
 use Rattle.network.specs.declared.Network.{Network}
 use Rattle.acceptance.specs.JudgeLaws.{refusal-least, refusal-most}
-use Rattle.distances.specs.Distances.{heightFits, distanceInRange, answered, distanceNumber, agreementNumber}
+use Rattle.distances.specs.Distances.{heightFits, distanceInRange, unlessRefused, distanceNumber, agreementNumber}
 use Rattle.distances.specs.declared.CheckDistance.{CheckDistance}
 use Rattle.distances.specs.declared.DistanceRefusal.{DistanceRefusal}
 use Rattle.distances.specs.declared.DistanceRefusal.the-variants.{Ends, Range, Pair}
@@ -67,15 +67,15 @@ agreement-most (Refused r) = distance-most r
 
 -- ════ the answer by its tests
 module _ (net : Network) (d : CheckDistance) (next : Agreement) where
-  pub ends-refused : endsFit (net .count) (d .from) (d .to) ≡ false → Refused Ends ≡ answered net d next
-  unfolding answered
+  pub ends-refused : endsFit (net .count) (d .from) (d .to) ≡ false → Refused Ends ≡ unlessRefused net d next
+  unfolding unlessRefused
   ends-refused e = rw e
 
   module _ (e : endsFit (net .count) (d .from) (d .to) ≡ true) where
-    pub range-refused : distanceInRange d ≡ false → Refused Range ≡ answered net d next
-    unfolding answered
+    pub range-refused : distanceInRange d ≡ false → Refused Range ≡ unlessRefused net d next
+    unfolding unlessRefused
     range-refused f = rw (e, f)
 
-    pub not-refused : distanceInRange d ≡ true → next ≡ answered net d next
-    unfolding answered
+    pub not-refused : distanceInRange d ≡ true → next ≡ unlessRefused net d next
+    unfolding unlessRefused
     not-refused f = rw (e, f)

@@ -62,11 +62,11 @@ onPair Accepted agreed = cond agreed Agrees Disagrees
 onPair (refused refusal) agreed = Refused (Pair refusal)
 
 -- "Refusals: 17 for a value out of range, after 3 and before the check's own"; 3 is "from or to not in the list, or equal"
-unfoldable pub answered : Network → CheckDistance → Agreement → Agreement
-answered net d next = cond (endsFit (net .count) (d .from) (d .to)) (cond (distanceInRange d) next (Refused Range)) (Refused Ends)
+unfoldable pub unlessRefused : Network → CheckDistance → Agreement → Agreement
+unlessRefused net d next = cond (endsFit (net .count) (d .from) (d .to)) (cond (distanceInRange d) next (Refused Range)) (Refused Ends)
 
 unfoldable pub agreement : Book → List ℤ → List ℤ → CheckDistance → Agreement
-agreement b x m d = answered (b .network) d (onPair (checked b x m true) (agreesAt (b .network .stations) x d))
+agreement b x m d = unlessRefused (b .network) d (onPair (checked b x m true) (agreesAt (b .network .stations) x d))
 
 -- ════ its number: document 02's of a refusal, 0 where the distance agrees, −2 where it does not
 abbrev pub distanceNumber : DistanceRefusal → ℕ

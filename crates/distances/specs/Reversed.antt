@@ -13,7 +13,7 @@ use Rattle.words.specs.Signed.{eqZ}
 use Rattle.network.specs.Rules.{inList, endsFit}
 use Rattle.book.specs.declared.Book.{Book}
 use Rattle.distances.specs.declared.CheckDistance.{CheckDistance}
-use Rattle.distances.specs.Distances.{heightFits, distanceInRange, squaredDistance, mark, answered, agreement}
+use Rattle.distances.specs.Distances.{heightFits, distanceInRange, squaredDistance, mark, unlessRefused, agreement}
 
 abbrev pub reversed : CheckDistance → CheckDistance
 reversed d = record { from = d .to; to = d .from; distance = d .distance; instrument = d .target; target = d .instrument; tolerance = d .tolerance }
@@ -54,7 +54,7 @@ unfolding squaredDistance
 squared-reversed d from to = ring (from 0 ∷ from 1 ∷ from 2 ∷ to 0 ∷ to 1 ∷ to 2 ∷ d .target ∷ d .instrument ∷ []) (search shapes depth 12) tt
 
 pub agreement-reversed : (b : Book) (x m : List ℤ) (d : CheckDistance) → agreement b x m (reversed d) ≡ agreement b x m d
-unfolding agreement answered
+unfolding agreement unlessRefused
 agreement-reversed b x m d =
     rw (
       ends-reversed (b .network .count) (d .from) (d .to),

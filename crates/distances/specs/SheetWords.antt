@@ -7,7 +7,7 @@ use native.Mathlib.Omega.{arith}
 use lib.ListN.{length, getD, drop, List·getD-append}
 use lib.IntN.{ℤ, pos}
 use Rattle.words.specs.Signed.{indexIn}
-use Rattle.words.specs.Concat.{concat, inside}
+use Rattle.words.specs.Concat.{concatBelow, inside}
 use Rattle.network.specs.Stations.{unknownCount}
 use Rattle.network.specs.Rules.{inList, endsFit}
 use Rattle.network.specs.RuleLaws.{network-few, in-list, ends}
@@ -68,7 +68,7 @@ module _ (net : Network) (places : List Place) (x m : List ℤ) where
       L : List ℤ
       L = stationLines (net .stations) x m (net .count)
 
-      parted : H ++ L ++ R ++ G ≡ H ++ (concat (net .count) (stationWords (net .stations) x m) ++ (R ++ G))
+      parted : H ++ L ++ R ++ G ≡ H ++ (concatBelow (net .count) (stationWords (net .stations) x m) ++ (R ++ G))
       parted =
           append-assoc (H ++ L) R G ∙ append-assoc H L (R ++ G)
           ∙ ap (λ (w : List ℤ). H ++ (w ++ (R ++ G))) (station-lines (net .stations) x m (net .count))

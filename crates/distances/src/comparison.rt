@@ -1,4 +1,4 @@
-// The squared slope distance between two marks by the sheet's coordinates, and its comparison with a check distance.
+// The squared distance between two marks by the sheet's coordinates, and its comparison with a check distance.
 use super::CheckDistance;
 use super::distance;
 use network::Network;
@@ -11,10 +11,10 @@ ghost use Rattle.integers.specs.Tables.{Within};
 ghost use Rattle.network.specs.Rules.{endsFit};
 ghost use Rattle.residuals.specs.Ranges.{Moved};
 ghost use Rattle.distances.specs.Distances.{square, distanceInRange, agreesAt};
-ghost use Rattle.distances.specs.Tables.{separationIn, slopeIn};
+ghost use Rattle.distances.specs.Coordinates.{separationIn, squaredDistanceIn};
 
 // The difference of the adjusted coordinates in component c, station t minus station f, both counted from 0.
-fn difference(coordinate: &[i64; 96], correction: &[i64; 96], f: usize, t: usize, c: usize) -> i64
+fn separation(coordinate: &[i64; 96], correction: &[i64; 96], f: usize, t: usize, c: usize) -> i64
     requires { ⌜ (f < 32) × (t < 32) × (c < 3) × Within 96 500000000 (now coordinate) × Within 96 100000 (now correction) ⌝ }
     ensures { λ r. ⌜ (r ≡ separationIn (now (coordinate .entry)) (now (correction .entry)) f t c) × (natAbs r ≤ 1000200000) ⌝ }
 {
@@ -24,7 +24,7 @@ fn difference(coordinate: &[i64; 96], correction: &[i64; 96], f: usize, t: usize
 }
 
 // e² + n² + u².
-fn squared(e: i64, n: i64, u: i64) -> i64
+fn sum_of_squares(e: i64, n: i64, u: i64) -> i64
     requires { ⌜ (natAbs e ≤ 1000200000) × (natAbs n ≤ 1000200000) × (natAbs u ≤ 1000800000) ⌝ }
     ensures { λ r. ⌜ r ≡ square e +ℤ square n +ℤ square u ⌝ }
 {
@@ -32,7 +32,7 @@ fn squared(e: i64, n: i64, u: i64) -> i64
 }
 
 // The squared distance between the stations f and t, the U difference taken plus `rise`.
-fn squared_slope(
+fn squared_distance(
     coordinate: &[i64; 96],
     correction: &[i64; 96],
     f: usize,
@@ -40,12 +40,12 @@ fn squared_slope(
     rise: i64,
 ) -> i64
     requires { ⌜ (f < 32) × (t < 32) × (natAbs rise ≤ 600000) × Within 96 500000000 (now coordinate) × Within 96 100000 (now correction) ⌝ }
-    ensures { λ r. ⌜ r ≡ slopeIn (now (coordinate .entry)) (now (correction .entry)) f t rise ⌝ }
+    ensures { λ r. ⌜ r ≡ squaredDistanceIn (now (coordinate .entry)) (now (correction .entry)) f t rise ⌝ }
 {
-    let e = difference(coordinate, correction, f, t, 0);
-    let n = difference(coordinate, correction, f, t, 1);
-    let u = difference(coordinate, correction, f, t, 2);
-    squared(e, n, u + rise)
+    let e = separation(coordinate, correction, f, t, 0);
+    let n = separation(coordinate, correction, f, t, 1);
+    let u = separation(coordinate, correction, f, t, 2);
+    sum_of_squares(e, n, u + rise)
 }
 
 // Whether the distance agrees with the coordinates at the corrections x.
@@ -59,6 +59,6 @@ pub fn agrees(net: Network, x: &[i64], d: CheckDistance) -> bool
     let f = words::index_in(d.from, Unit::STATIONS);
     let t = words::index_in(d.to, Unit::STATIONS);
     let rise = d.target - d.instrument;
-    let slope = squared_slope(&coordinate, &correction, f, t, rise);
-    distance::within_tolerance(d.distance, d.tolerance, slope)
+    let squared = squared_distance(&coordinate, &correction, f, t, rise);
+    distance::within_tolerance(d.distance, d.tolerance, squared)
 }

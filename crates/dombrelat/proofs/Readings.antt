@@ -20,7 +20,7 @@ use Rattle.network.specs.declared.Network.{Network}
 use Rattle.network.specs.declared.Place.{Place}
 use Rattle.network.specs.declared.Record.{Record}
 use Rattle.sheet.specs.Sheet.{room}
-use Rattle.words.specs.Concat.{concat, concat-front, concat-ext}
+use Rattle.words.specs.Concat.{concatBelow, concatBelow-front, concatBelow-ext}
 use Rattle.layout.specs.Layout.{stationPart, recordWords, bookIn, placesIn}
 use Rattle.layout.specs.BookWords.{length-station, stations-part}
 use Rattle.layout.specs.Bytes.{wordsOf, bookOf, bytesFit}
@@ -62,15 +62,15 @@ pub both : (r t : Returned) (a : ℤ) (o : List ℕ) → r ≡ t → (a ≡ r .a
 both r t a o e p = (p .0 ∙ ap (λ (x : Returned). x .answer) e, p .1 ∙ ap (λ (x : Returned). x .bytes) e)
 
 -- ════ the station list
-list-front : (net : Network) → net .count ≤ 32 → take (4 * net .count) (concat 32 (stationPart net)) ≡ listWords net
+list-front : (net : Network) → net .count ≤ 32 → take (4 * net .count) (concatBelow 32 (stationPart net)) ≡ listWords net
 unfolding listWords stationPart
 list-front net few =
     let n = net .count in
     let all : n + (32 - n) ≡ 32 = omega arith in
     let long : 4 * n ≡ n * 4 = omega arith in
-    ap₂ (λ (k m : ℕ). take k (concat m (stationPart net))) long (sym all)
-    ∙ concat-front 4 (stationPart net) (length-station net) n (32 - n)
-    ∙ concat-ext n (stationPart net) (λ k. stationWords (stationAt (net .stations) k)) (λ k h. rw (lt-ltb k n h))
+    ap₂ (λ (k m : ℕ). take k (concatBelow m (stationPart net))) long (sym all)
+    ∙ concatBelow-front 4 (stationPart net) (length-station net) n (32 - n)
+    ∙ concatBelow-ext n (stationPart net) (λ k. stationWords (stationAt (net .stations) k)) (λ k h. rw (lt-ltb k n h))
 
 module _ (s list : List ℕ) where
   pub stations-unfit : bytesFit s ≡ false → refused 25 list ≡ stationsCall s list
@@ -82,7 +82,7 @@ module _ (s list : List ℕ) where
   unfolding stationsCall
   stations-fit net w e p q =
       let b = bookOf s in
-      let part : w ≡ concat 32 (stationPart (b .network)) = q ∙ ap (λ (l : List ℤ). take 128 (drop 2 l)) (fits-words s e) ∙ stations-part b (read-sized s) in
+      let part : w ≡ concatBelow 32 (stationPart (b .network)) = q ∙ ap (λ (l : List ℤ). take 128 (drop 2 l)) (fits-words s e) ∙ stations-part b (read-sized s) in
       let long : 4 * net .count - 0 ≡ 4 * net .count = omega arith in
       let words : take (4 * net .count - 0) w ≡ listWords (b .network) =
       ap₂ take (long ∙ ap (λ (x : Network). 4 * x .count) p) part ∙ list-front (b .network) (network-few (b .network) (fits-sound s e .network)) in

@@ -68,7 +68,7 @@ Returns (toReadRecord book place out) r left =
     (r ≡ recordCall book place out .answer) × (left ≡ record { books = []; others = recordCall book place out .bytes ∷ [] })
 
 -- ════ an answer taken apart: refusal + 256 · number
--- the refusal, as the header's DOMBRELAT_REFUSAL gives it: 0 where the call is not refused. −1, no proposal, and −2, a distance that does not agree, are each one by itself
+-- the refusal, as the header's DOMBRELAT_REFUSAL gives it: 0 where the call is not refused. −1, no proposal, and −2, the answer that a distance does not agree, stand by themselves; what is said below of refusals holds of both
 unfoldable pub refusalIn : ℤ → ℤ
 refusalIn (pos n) = pos (n % 256)
 refusalIn (negsuc n) = negsuc n

@@ -149,7 +149,7 @@ sheet-right s x m sheet = go (bytesFit s) (judgedLent (checkedLent (bookOf s) x 
     go true j o = o
     go false j o = unfit-right 0 sheet
 
--- ════ a check distance: 17, and the numbers of the check's own, are refusals, and so is −2
+-- ════ a check distance: 3, 17 and the numbers of the check's own are refusals; −2 is no refusal, but is not 0 either
 word-told : (a : Agreement) → Told 0 (agreementWord a)
 unfolding Told agreementWord refusalIn
 word-told Agrees e = refl

@@ -34,7 +34,7 @@ use Rattle.distances.specs.declared.CheckDistance.{CheckDistance}
 use Rattle.distances.specs.declared.Agreement.the-variants.{Agrees, Disagrees}
 use Rattle.distances.specs.Distances.{distanceInRange, mark, agrees, agreesAt, onPair}
 use Rattle.distances.specs.DistanceLaws.{not-refused}
-use Rattle.distances.specs.Tables.{mark-small}
+use Rattle.distances.specs.Coordinates.{mark-small}
 use Rattle.distances.specs.SheetWords.{coordinateWord, agrees-as, sheet-mark}
 use Rattle.lent_checks.specs.LentChecks.{allWords, isWhole, answerWord, checkedLent, sheetFits}
 use Rattle.lent_checks.specs.LentDistances.{agreementWord, agreementLent}

@@ -13,7 +13,7 @@ use Rattle.network.specs.Rules.{inList}
 use Rattle.network.specs.declared.Network.{Network}
 use Rattle.book.specs.Calls.{placeOf}
 use Rattle.sheet.specs.Sheet.{room}
-use Rattle.words.specs.Concat.{concat}
+use Rattle.words.specs.Concat.{concatBelow}
 use Rattle.layout.specs.Layout.{recordWords}
 use Rattle.layout.specs.Bytes.{bookOf, bytesFit}
 use Rattle.dombrelat.specs.Calls.{Returned, refused}
@@ -36,7 +36,7 @@ gives number words out = cond (leb (8 * length words) (length out)) (record { an
 
 -- the station list, four words a station, as an opening takes it
 unfoldable pub listWords : Network → List ℤ
-listWords net = concat (net .count) (λ k. stationWords (stationAt (net .stations) k))
+listWords net = concatBelow (net .count) (λ k. stationWords (stationAt (net .stations) k))
 
 -- the station list, and the number of stations
 unfoldable pub stationsCall : List ℕ → List ℕ → Returned

@@ -38,7 +38,7 @@ use Rattle.book.specs.declared.Edited.{Edited}
 use Rattle.book.specs.Calls.{Call, add, replace, strike, placeOf, placeNo, callNo, unless}
 use Rattle.book.specs.CallLaws.{first-zero, place-inside}
 use Rattle.book.specs.Book.{openedBook, opening, edited, bookAccepts}
-use Rattle.words.specs.Concat.{length-concat, concat-at}
+use Rattle.words.specs.Concat.{length-concatBelow, concatBelow-at}
 use Rattle.layout.specs.Layout.{stationPart, recordWords}
 use Rattle.layout.specs.BookWords.{length-record, station-word}
 use Rattle.layout.specs.WordSizes.{words-fit}
@@ -58,11 +58,11 @@ even net k = refl
 
 list-length : (net : Network) → length (listWords net) ≡ net .count * 4
 unfolding listWords
-list-length net = length-concat 4 (λ k. stationWords (stationAt (net .stations) k)) (even net) (net .count)
+list-length net = length-concatBelow 4 (λ k. stationWords (stationAt (net .stations) k)) (even net) (net .count)
 
 list-at : (net : Network) (k j : ℕ) → k < net .count → j < 4 → getD (listWords net) (k * 4 + j) (pos 0) ≡ getD (stationWords (stationAt (net .stations) k)) j (pos 0)
 unfolding listWords
-list-at net k j h l = concat-at 4 (λ i. stationWords (stationAt (net .stations) i)) (even net) (net .count) k j (pos 0) h l
+list-at net k j h l = concatBelow-at 4 (λ i. stationWords (stationAt (net .stations) i)) (even net) (net .count) k j (pos 0) h l
 
 -- ════ a list that opens: its words are those of the network that it gives
 kind-number : (k : ℕ) → k < 3 → kindWord (kindAt k) ≡ pos (suc k)

@@ -21,7 +21,7 @@ use Rattle.network.specs.RecordWords.{recordOf, recordIn}
 use Rattle.network.specs.declared.Record.{Record}
 use Rattle.network.specs.declared.Record.the-variants.{Baseline as baseline, Height as height}
 use Rattle.normals.specs.Same.{sameEntries}
-use Rattle.words.specs.Concat.{concat, concat-more, length-concat}
+use Rattle.words.specs.Concat.{concatBelow, concatBelow-more, length-concatBelow}
 use Rattle.network.specs.StationWords.{stationWords}
 use Rattle.layout.specs.Layout.{stationPart, recordWords, networkIn, bookIn}
 use Rattle.layout.specs.Laid.{recordLaid, stationLaid}
@@ -65,14 +65,14 @@ record-moved w v at to h =
 
 -- the 14 words from word k on
 module _ (s : List ℕ) (k : ℕ) (h : k + 14 ≤ 7028) where
-  chunk-word : (j : ℕ) → j < 14 → getD (wordsAt s (8 * k) 14) j (pos 0) ≡ getD (wordsOf s) (k + j) (pos 0)
-  chunk-word j l =
+  record-word : (j : ℕ) → j < 14 → getD (wordsAt s (8 * k) 14) j (pos 0) ≡ getD (wordsOf s) (k + j) (pos 0)
+  record-word j l =
       words-at s (8 * k) 14 j l ∙ ap (wordAt s) (let e : 8 * k + 8 * j ≡ 0 + 8 * (k + j) = omega arith in e) ∙ sym (words-at s 0 7028 (k + j) (omega arith))
 
   pub record-is : recordIn (wordsAt s (8 * k) 14) 0 ≡ recordIn (wordsOf s) k
   record-is =
       record-moved (wordsAt s (8 * k) 14) (wordsOf s) 0 k
-      (λ j l. ap (λ (i : ℕ). getD (wordsAt s (8 * k) 14) i (pos 0)) (let e : 0 + j ≡ j = omega arith in e) ∙ chunk-word j l)
+      (λ j l. ap (λ (i : ℕ). getD (wordsAt s (8 * k) 14) i (pos 0)) (let e : 0 + j ≡ j = omega arith in e) ∙ record-word j l)
 
   pub laid-is : (w v : List ℤ) (r : Record) → w ≡ wordsAt s (8 * k) 14 → r ≡ recordIn w 0 → v ≡ recordWords r → sameEntries (length w) w v ≡ recordLaid (wordsOf s) k
   unfolding recordLaid
@@ -81,7 +81,7 @@ module _ (s : List ℕ) (k : ℕ) (h : k + 14 ≤ 7028) where
       let is : v ≡ recordWords (recordIn (wordsOf s) k) = e ∙ ap recordWords (q ∙ ap (λ (x : List ℤ). recordIn x 0) p ∙ record-is) in
       ap (λ (n : ℕ). sameEntries n w v) long
       ∙ all-same 14 (λ j. eqZ (getD w j (pos 0)) (getD v j (pos 0))) (λ j. eqZ (getD (wordsOf s) (k + j) (pos 0)) (getD (recordWords (recordIn (wordsOf s) k)) j (pos 0)))
-      (λ j l. ap₂ eqZ (ap (λ (x : List ℤ). getD x j (pos 0)) p ∙ chunk-word j l) (ap (λ (x : List ℤ). getD x j (pos 0)) is))
+      (λ j l. ap₂ eqZ (ap (λ (x : List ℤ). getD x j (pos 0)) p ∙ record-word j l) (ap (λ (x : List ℤ). getD x j (pos 0)) is))
 
 -- ════ a station's four words
 module _ (s : List ℕ) (k : ℕ) (h : k < 32) where
@@ -109,15 +109,15 @@ module _ (s : List ℕ) (k : ℕ) (h : k < 32) where
       (λ j l. ap₂ eqZ (station-list list part n p q e j l) (ap (λ (x : List ℤ). getD x j (pos 0)) is))
 
 -- ════ parts of m words written one behind the other, from byte `at` on
-pub parts-none : (s : List ℕ) (at : ℕ) (f : ℕ → List ℤ) → s ≡ putWords s at (concat 0 f)
-unfolding concat putWords
+pub parts-none : (s : List ℕ) (at : ℕ) (f : ℕ → List ℤ) → s ≡ putWords s at (concatBelow 0 f)
+unfolding concatBelow putWords
 parts-none s at f = refl
 
-pub parts-more : (s₀ s t : List ℕ) (at m k here : ℕ) (f : ℕ → List ℤ) → ((i : ℕ) → length (f i) ≡ m) → here ≡ at + 8 * (k * m) → s ≡ putWords s₀ at (concat k f) → t ≡ putWords s here (f k)
-    → t ≡ putWords s₀ at (concat (k + 1) f)
+pub parts-more : (s₀ s t : List ℕ) (at m k here : ℕ) (f : ℕ → List ℤ) → ((i : ℕ) → length (f i) ≡ m) → here ≡ at + 8 * (k * m) → s ≡ putWords s₀ at (concatBelow k f) → t ≡ putWords s here (f k)
+    → t ≡ putWords s₀ at (concatBelow (k + 1) f)
 parts-more s₀ s t at m k here f even e p q =
     q
     ∙ ap (λ (x : List ℕ). putWords x here (f k)) p
-    ∙ ap (λ (i : ℕ). putWords (putWords s₀ at (concat k f)) i (f k)) (e ∙ ap (λ (n : ℕ). at + 8 * n) (sym (length-concat m f even k)))
-    ∙ sym (run-append s₀ at (concat k f) (f k))
-    ∙ ap (putWords s₀ at) (sym (concat-more k f) ∙ ap (λ (n : ℕ). concat n f) (sym (add-one k)))
+    ∙ ap (λ (i : ℕ). putWords (putWords s₀ at (concatBelow k f)) i (f k)) (e ∙ ap (λ (n : ℕ). at + 8 * n) (sym (length-concatBelow m f even k)))
+    ∙ sym (run-append s₀ at (concatBelow k f) (f k))
+    ∙ ap (putWords s₀ at) (sym (concatBelow-more k f) ∙ ap (λ (n : ℕ). concatBelow n f) (sym (add-one k)))

@@ -15,7 +15,7 @@ use Rattle.book.specs.declared.Reversal.{Reversal}
 use Rattle.book.specs.declared.Book.{Book}
 use Rattle.book.specs.Journal.{free}
 use Rattle.book.specs.Sound.{Sized}
-use Rattle.words.specs.Concat.{concat, length-concat, concat-ext}
+use Rattle.words.specs.Concat.{concatBelow, length-concatBelow, concatBelow-ext}
 use Rattle.layout.specs.Layout.{recordWords, reversalWords, countsPart, entriesPart}
 use Rattle.layout.specs.BookWords.{length-record, length-reversal, tail, toStations, toPlaces, toCounts, toEntries, length-toStations, length-toPlaces, length-toCounts, length-toEntries, at-places, at-counts, at-entries, at-matrix, at-right, length-book}
 use Rattle.layout.specs.Bytes.{putBook}
@@ -23,15 +23,15 @@ use Rattle.layout.specs.RunPatches.{patch}
 
 -- ════ one of n equal parts
 -- f 0 .. f (i − 1), f i, and what is left
-concat-cut : (f : ℕ → List ℤ) (i n : ℕ) → concat (i + suc n) f ≡ concat i f ++ (f i ++ concat n (λ k. f (i + suc k)))
-unfolding concat
-concat-cut f i zero =
-    ap (λ (m : ℕ). concat m f) (let e : i + suc zero ≡ suc i = omega arith in e) ∙ ap (λ (x : List ℤ). concat i f ++ x) (sym (append-nil (f i)))
-concat-cut f i (suc n) =
-    ap (λ (m : ℕ). concat m f) (let e : i + suc (suc n) ≡ suc (i + suc n) = omega arith in e)
-    ∙ ap (λ (x : List ℤ). x ++ f (i + suc n)) (concat-cut f i n)
-    ∙ append-assoc (concat i f) (f i ++ concat n (λ k. f (i + suc k))) (f (i + suc n))
-    ∙ ap (λ (x : List ℤ). concat i f ++ x) (append-assoc (f i) (concat n (λ k. f (i + suc k))) (f (i + suc n)))
+concatBelow-cut : (f : ℕ → List ℤ) (i n : ℕ) → concatBelow (i + suc n) f ≡ concatBelow i f ++ (f i ++ concatBelow n (λ k. f (i + suc k)))
+unfolding concatBelow
+concatBelow-cut f i zero =
+    ap (λ (m : ℕ). concatBelow m f) (let e : i + suc zero ≡ suc i = omega arith in e) ∙ ap (λ (x : List ℤ). concatBelow i f ++ x) (sym (append-nil (f i)))
+concatBelow-cut f i (suc n) =
+    ap (λ (m : ℕ). concatBelow m f) (let e : i + suc (suc n) ≡ suc (i + suc n) = omega arith in e)
+    ∙ ap (λ (x : List ℤ). x ++ f (i + suc n)) (concatBelow-cut f i n)
+    ∙ append-assoc (concatBelow i f) (f i ++ concatBelow n (λ k. f (i + suc k))) (f (i + suc n))
+    ∙ ap (λ (x : List ℤ). concatBelow i f ++ x) (append-assoc (f i) (concatBelow n (λ k. f (i + suc k))) (f (i + suc n)))
 
 module _ (s : List ℕ) (a c : List ℤ) (m n i at : ℕ) (f g : ℕ → List ℤ) (even-f : (k : ℕ) → length (f k) ≡ m) (even-g : (k : ℕ) → length (g k) ≡ m)
     (same : (k : ℕ) → (k ≡ i → ⊥) → f k ≡ g k) (inside : i < n) (is : length a ≡ at) (room : 8 * (at + n * m + length c) ≤ length s) where
@@ -39,32 +39,32 @@ module _ (s : List ℕ) (a c : List ℤ) (m n i at : ℕ) (f g : ℕ → List �
   left = n - suc i
 
   -- the run, of either
-  cut : (h : ℕ → List ℤ) → a ++ (concat n h ++ c) ≡ (a ++ concat i h) ++ (h i ++ (concat left (λ k. h (i + suc k)) ++ c))
+  cut : (h : ℕ → List ℤ) → a ++ (concatBelow n h ++ c) ≡ (a ++ concatBelow i h) ++ (h i ++ (concatBelow left (λ k. h (i + suc k)) ++ c))
   unfolding left
   cut h =
       let e : n ≡ i + suc (n - suc i) = omega arith in
-      ap (λ (x : List ℤ). a ++ (x ++ c)) (ap (λ (k : ℕ). concat k h) e ∙ concat-cut h i (n - suc i))
-      ∙ ap (λ (x : List ℤ). a ++ x) (append-assoc (concat i h) (h i ++ concat (n - suc i) (λ k. h (i + suc k))) c ∙ ap (λ (x : List ℤ). concat i h ++ x) (append-assoc (h i) (concat (n - suc i) (λ k. h (i + suc k))) c))
-      ∙ sym (append-assoc a (concat i h) _)
+      ap (λ (x : List ℤ). a ++ (x ++ c)) (ap (λ (k : ℕ). concatBelow k h) e ∙ concatBelow-cut h i (n - suc i))
+      ∙ ap (λ (x : List ℤ). a ++ x) (append-assoc (concatBelow i h) (h i ++ concatBelow (n - suc i) (λ k. h (i + suc k))) c ∙ ap (λ (x : List ℤ). concatBelow i h ++ x) (append-assoc (h i) (concatBelow (n - suc i) (λ k. h (i + suc k))) c))
+      ∙ sym (append-assoc a (concatBelow i h) _)
 
-  first : concat i f ≡ concat i g
-  first = concat-ext i f g (λ k l. same k (λ e. omega arith))
+  first : concatBelow i f ≡ concatBelow i g
+  first = concatBelow-ext i f g (λ k l. same k (λ e. omega arith))
 
-  rest : concat left (λ k. f (i + suc k)) ≡ concat left (λ k. g (i + suc k))
-  rest = concat-ext left (λ k. f (i + suc k)) (λ k. g (i + suc k)) (λ k l. same (i + suc k) (λ e. omega arith))
+  rest : concatBelow left (λ k. f (i + suc k)) ≡ concatBelow left (λ k. g (i + suc k))
+  rest = concatBelow-ext left (λ k. f (i + suc k)) (λ k. g (i + suc k)) (λ k l. same (i + suc k) (λ e. omega arith))
 
-  pub concat-patch : putWords (putWords s 0 (a ++ (concat n f ++ c))) (8 * (at + i * m)) (g i) ≡ putWords s 0 (a ++ (concat n g ++ c))
+  pub concatBelow-patch : putWords (putWords s 0 (a ++ (concatBelow n f ++ c))) (8 * (at + i * m)) (g i) ≡ putWords s 0 (a ++ (concatBelow n g ++ c))
   unfolding left
-  concat-patch =
-      let here : length (a ++ concat i f) ≡ at + i * m = length-append a (concat i f) ∙ ap₂ _+_ is (length-concat m f even-f i) in
-      let behind : List ℤ = concat left (λ k. f (i + suc k)) ++ c in
-      let whole : length (a ++ (concat n f ++ c)) ≡ at + n * m + length c =
-      length-append a (concat n f ++ c) ∙ ap₂ _+_ is (length-append (concat n f) c ∙ ap (λ (k : ℕ). k + length c) (length-concat m f even-f n)) ∙ (let e : at + (n * m + length c) ≡ at + n * m + length c = omega arith in e) in
-      let parts : length (a ++ (concat n f ++ c)) ≡ length (a ++ concat i f) + (length (f i) + length behind) =
-      ap length (cut f) ∙ length-append (a ++ concat i f) (f i ++ behind) ∙ ap (λ (k : ℕ). length (a ++ concat i f) + k) (length-append (f i) behind) in
-      let fits : 8 * (length (a ++ concat i f) + length (f i) + length behind) ≤ length s = omega arith in
+  concatBelow-patch =
+      let here : length (a ++ concatBelow i f) ≡ at + i * m = length-append a (concatBelow i f) ∙ ap₂ _+_ is (length-concatBelow m f even-f i) in
+      let behind : List ℤ = concatBelow left (λ k. f (i + suc k)) ++ c in
+      let whole : length (a ++ (concatBelow n f ++ c)) ≡ at + n * m + length c =
+      length-append a (concatBelow n f ++ c) ∙ ap₂ _+_ is (length-append (concatBelow n f) c ∙ ap (λ (k : ℕ). k + length c) (length-concatBelow m f even-f n)) ∙ (let e : at + (n * m + length c) ≡ at + n * m + length c = omega arith in e) in
+      let parts : length (a ++ (concatBelow n f ++ c)) ≡ length (a ++ concatBelow i f) + (length (f i) + length behind) =
+      ap length (cut f) ∙ length-append (a ++ concatBelow i f) (f i ++ behind) ∙ ap (λ (k : ℕ). length (a ++ concatBelow i f) + k) (length-append (f i) behind) in
+      let fits : 8 * (length (a ++ concatBelow i f) + length (f i) + length behind) ≤ length s = omega arith in
       ap (λ (x : List ℤ). putWords (putWords s 0 x) (8 * (at + i * m)) (g i)) (cut f)
-      ∙ patch s (a ++ concat i f) (f i) (g i) behind (8 * (at + i * m)) (even-f i ∙ sym (even-g i)) (ap (λ (k : ℕ). 8 * k) (sym here)) fits
+      ∙ patch s (a ++ concatBelow i f) (f i) (g i) behind (8 * (at + i * m)) (even-f i ∙ sym (even-g i)) (ap (λ (k : ℕ). 8 * k) (sym here)) fits
       ∙ ap (putWords s 0) (ap₂ (λ (x y : List ℤ). (a ++ x) ++ (g i ++ (y ++ c))) first rest ∙ sym (cut g))
 
 -- ════ the parts of a book
@@ -92,8 +92,8 @@ module _ (s : List ℕ) (room : 56224 ≤ length s) (b : Book) (z : Sized b) whe
       let fits : 8 * (130 + 256 * 14 + length (tail b z)) ≤ length s =
       let l = length-book b z in let e = ap length (at-counts b z) ∙ length-append (toPlaces b z) (tail b z) in let p = length-toPlaces b z in omega arith in
       ap (λ (x : List ℤ). putWords (putWords s 0 x) (8 * (130 + i * 14)) (recordWords r)) (at-places b z)
-      ∙ ap (putWords (putWords s 0 (toStations b z ++ (concat 256 f ++ tail b z))) (8 * (130 + i * 14))) (sym new)
-      ∙ concat-patch s (toStations b z) (tail b z) 14 256 i 130 f g (λ p. length-record _) (λ p. length-record _)
+      ∙ ap (putWords (putWords s 0 (toStations b z ++ (concatBelow 256 f ++ tail b z))) (8 * (130 + i * 14))) (sym new)
+      ∙ concatBelow-patch s (toStations b z) (tail b z) 14 256 i 130 f g (λ p. length-record _) (λ p. length-record _)
       (λ k d. ap (λ (q : Place). recordWords (q .entry)) (sym (getD-set-other (b .places) i k (record { entry = r }) vacant d))) h (length-toStations b z) fits
       ∙ ap (putWords s 0) (sym (at-places b′ z′))
 
@@ -109,8 +109,8 @@ module _ (s : List ℕ) (room : 56224 ≤ length s) (b : Book) (z : Sized b) whe
       let fits : 8 * (3716 + 64 * 15 + length c) ≤ length s =
       let l = length-book b z in let e = ap length (at-matrix b z) ∙ length-append (toEntries b z) c in let p = length-toEntries b z in omega arith in
       ap (λ (x : List ℤ). putWords (putWords s 0 x) (8 * (3716 + k * 15)) (reversalWords u)) (at-entries b z)
-      ∙ ap (putWords (putWords s 0 (toCounts b z ++ (concat 64 f ++ c))) (8 * (3716 + k * 15))) (sym new)
-      ∙ concat-patch s (toCounts b z) c 15 64 k 3716 f g (λ p. length-reversal _) (λ p. length-reversal _)
+      ∙ ap (putWords (putWords s 0 (toCounts b z ++ (concatBelow 64 f ++ c))) (8 * (3716 + k * 15))) (sym new)
+      ∙ concatBelow-patch s (toCounts b z) c 15 64 k 3716 f g (λ p. length-reversal _) (λ p. length-reversal _)
       (λ j d. ap reversalWords (sym (getD-set-other (b .journal .entries) k j u free d))) h (length-toCounts b z) fits
       ∙ ap (putWords s 0) (sym (at-entries b′ z′))
 

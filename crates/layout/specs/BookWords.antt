@@ -18,7 +18,7 @@ use Rattle.book.specs.declared.Reversal.{Reversal}
 use Rattle.book.specs.declared.Book.{Book}
 use Rattle.book.specs.Journal.{free}
 use Rattle.book.specs.Sound.{Sized}
-use Rattle.words.specs.Concat.{length-concat, inside}
+use Rattle.words.specs.Concat.{length-concatBelow, inside}
 use Rattle.network.specs.StationWords.{stationWords}
 use Rattle.layout.specs.Layout.{stationPart, recordWords, reversalWords, headWords, stationsPart, placesPart, countsPart, entriesPart, bookWords}
 
@@ -48,13 +48,13 @@ module _ (b : Book) (z : Sized b) where
   tail = countsPart b ++ (entriesPart b ++ (b .normals .matrix ++ b .normals .right))
 
   pub length-stations : length (stationsPart b) ≡ 128
-  length-stations = length-concat 4 (stationPart (b .network)) (length-station (b .network)) 32
+  length-stations = length-concatBelow 4 (stationPart (b .network)) (length-station (b .network)) 32
 
   pub length-places : length (placesPart b) ≡ 3584
-  length-places = length-concat 14 _ (λ p. length-record (recordAt (b .places) p)) 256
+  length-places = length-concatBelow 14 _ (λ p. length-record (recordAt (b .places) p)) 256
 
   pub length-entries : length (entriesPart b) ≡ 960
-  length-entries = length-concat 15 _ (λ k. length-reversal (getD (b .journal .entries) k free)) 64
+  length-entries = length-concatBelow 15 _ (λ k. length-reversal (getD (b .journal .entries) k free)) 64
 
   -- what stands before each part
   abbrev pub toStations : List ℤ

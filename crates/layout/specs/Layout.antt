@@ -20,7 +20,7 @@ use Rattle.book.specs.declared.Reversal.{Reversal}
 use Rattle.book.specs.declared.Journal.{Journal}
 use Rattle.book.specs.declared.Book.{Book}
 use Rattle.book.specs.Journal.{free}
-use Rattle.words.specs.Concat.{concat}
+use Rattle.words.specs.Concat.{concatBelow}
 
 -- ════ words of the parts
 -- four words a station, of the station s of the list, counted from 0; all 0 beyond the count
@@ -47,16 +47,16 @@ abbrev pub headWords : Book → List ℤ
 headWords b = pos 1 ∷ signed (b .network .count) ∷ []
 
 abbrev pub stationsPart : Book → List ℤ
-stationsPart b = concat 32 (stationPart (b .network))
+stationsPart b = concatBelow 32 (stationPart (b .network))
 
 abbrev pub placesPart : Book → List ℤ
-placesPart b = concat 256 (λ p. recordWords (recordAt (b .places) p))
+placesPart b = concatBelow 256 (λ p. recordWords (recordAt (b .places) p))
 
 abbrev pub countsPart : Book → List ℤ
 countsPart b = signed (b .journal .next) ∷ signed (b .journal .held) ∷ []
 
 abbrev pub entriesPart : Book → List ℤ
-entriesPart b = concat 64 (λ k. reversalWords (getD (b .journal .entries) k free))
+entriesPart b = concatBelow 64 (λ k. reversalWords (getD (b .journal .entries) k free))
 
 unfoldable pub bookWords : Book → List ℤ
 bookWords b = headWords b ++ (stationsPart b ++ (placesPart b ++ (countsPart b ++ (entriesPart b ++ (b .normals .matrix ++ b .normals .right)))))

@@ -33,7 +33,7 @@ use Rattle.book.specs.declared.Book.{Book}
 use Rattle.book.specs.Journal.{free, isFree, before, entriesBefore}
 use Rattle.book.specs.Book.{undoable}
 use Rattle.book.specs.Sound.{Sized, Sound, Undoes, undoable-first}
-use Rattle.words.specs.Concat.{concat-at}
+use Rattle.words.specs.Concat.{concatBelow-at}
 use Rattle.layout.specs.BookWords.{length-station, toEntries, length-toEntries, length-toMatrix, at-matrix, at-right, place-word, next-word, held-word, slot-word, stations-part}
 use Rattle.network.specs.StationWords.{stationWords, kind-back}
 use Rattle.layout.specs.Layout.{stationPart, recordWords, reversalWords, stationsPart, bookWords, reversalIn, networkIn, placeIn, placesIn, entriesIn, journalIn, normalsIn, bookIn}
@@ -192,7 +192,7 @@ module _ (b : Book) (o : Sound b) (long : length (b .network .stations) ≡ 32) 
       let stations : tabulate 32 (stationIn (stationsPart b)) ≡ b .network .stations =
       sym (is-tabulate 32 (stationIn (stationsPart b)) (b .network .stations) blank long
       (λ s h. sym (station-back (b .network) (stationsPart b) s (o .network) h
-      (λ j l. concat-at 4 (stationPart (b .network)) (length-station (b .network)) 32 s j (pos 0) h l)))) in
+      (λ j l. concatBelow-at 4 (stationPart (b .network)) (length-station (b .network)) 32 s j (pos 0) h l)))) in
       λ i. record { count = count i; stations = (ap (λ (l : List ℤ). tabulate 32 (stationIn l)) part ∙ stations) i }
 
   places-back : placesIn w ≡ b .places

@@ -34,7 +34,7 @@ use Rattle.book.specs.declared.Reversal.{Reversal}
 use Rattle.book.specs.declared.Book.{Book}
 use Rattle.book.specs.Journal.{free}
 use Rattle.book.specs.Sound.{Sound}
-use Rattle.words.specs.Concat.{concat}
+use Rattle.words.specs.Concat.{concatBelow}
 use Rattle.network.specs.StationWords.{kindWord, stationWords}
 use Rattle.layout.specs.Layout.{stationPart, recordWords, reversalWords, stationsPart, placesPart, countsPart, entriesPart, bookWords}
 use Rattle.layout.specs.ReadBack.{Restores, entry-restores}
@@ -48,10 +48,10 @@ small-append : (a b : List ℤ) → Small L a → Small L b → Small L (a ++ b)
 small-append [] b p q = q
 small-append (x ∷ a) b p q = (p .0, small-append a b (p .1) q)
 
-small-concat : (n : ℕ) (f : ℕ → List ℤ) → ((k : ℕ) → k < n → Small L (f k)) → Small L (concat n f)
-unfolding concat
-small-concat zero f h = tt
-small-concat (suc n) f h = small-append (concat n f) (f n) (small-concat n f (λ k l. h k (omega arith))) (h n (omega arith))
+small-concatBelow : (n : ℕ) (f : ℕ → List ℤ) → ((k : ℕ) → k < n → Small L (f k)) → Small L (concatBelow n f)
+unfolding concatBelow
+small-concatBelow zero f h = tt
+small-concatBelow (suc n) f h = small-append (concatBelow n f) (f n) (small-concatBelow n f (λ k l. h k (omega arith))) (h n (omega arith))
 
 small-list : (l : List ℤ) → ((k : ℕ) → natAbs (getD l k (pos 0)) ≤ L) → Small L l
 small-list [] h = tt
@@ -140,15 +140,15 @@ module _ (b : Book) (o : Sound b) where
       let held = o .journal .held in
       let one : 1 ≤ L = omega arith in
       let tail : Small L (entriesPart b ++ (b .normals .matrix ++ b .normals .right)) =
-      small-append (entriesPart b) _ (small-concat 64 _ (λ k h. reversal-small (b .network) (o .network) (getD (b .journal .entries) k free) (entry-restores b o k h)))
+      small-append (entriesPart b) _ (small-concatBelow 64 _ (λ k h. reversal-small (b .network) (o .network) (getD (b .journal .entries) k free) (entry-restores b o k h)))
       (small-append (b .normals .matrix) (b .normals .right) matrix-small right-small) in
       let counts : Small L (countsPart b ++ (entriesPart b ++ (b .normals .matrix ++ b .normals .right))) =
       (count-small (b .journal .next) (omega arith), (count-small (b .journal .held) (omega arith), tail)) in (
         one,
         (
           count-small (b .network .count) (omega arith),
-          small-append (stationsPart b) _ (small-concat 32 _ (λ s h. station-small (b .network) (o .network) s h))
-              (small-append (placesPart b) _ (small-concat 256 _ (λ p h. record-small (b .network) (o .network) (recordAt (b .places) p) (o .records p))) counts),
+          small-append (stationsPart b) _ (small-concatBelow 32 _ (λ s h. station-small (b .network) (o .network) s h))
+              (small-append (placesPart b) _ (small-concatBelow 256 _ (λ p h. record-small (b .network) (o .network) (recordAt (b .places) p) (o .records p))) counts),
         ),
       )
 

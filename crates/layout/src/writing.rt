@@ -18,7 +18,7 @@ ghost use Rattle.words.specs.Signed.{signed};
 ghost use Rattle.words.specs.Runs.{putWords};
 ghost use Rattle.network.specs.Records.{recordAt};
 ghost use Rattle.book.specs.Journal.{free};
-ghost use Rattle.words.specs.Concat.{concat};
+ghost use Rattle.words.specs.Concat.{concatBelow};
 ghost use Rattle.network.specs.StationWords.{stationWords};
 ghost use Rattle.layout.specs.Layout.{stationPart, recordWords, reversalWords};
 ghost use Rattle.layout.specs.Bytes.{putBook};
@@ -35,7 +35,7 @@ pub fn station_part(count: usize, k: usize, x: Station) -> [i64; 4]
 
 fn put_stations(s: &mut [u8], net: Network)
     requires { ⌜ 56224 ≤ length (now s) ⌝ }
-    ensures { λ _. ⌜ now (s .exit) ≡ putWords (now (s .entry)) 16 (concat 32 (stationPart net)) ⌝ }
+    ensures { λ _. ⌜ now (s .exit) ≡ putWords (now (s .entry)) 16 (concatBelow 32 (stationPart net)) ⌝ }
 {
     let count = net.count;
     let stations = net.stations;
@@ -59,7 +59,7 @@ pub fn put_record(s: &mut [u8], k: usize, r: Record)
 
 fn put_places(s: &mut [u8], places: [Place; 256])
     requires { ⌜ 56224 ≤ length (now s) ⌝ }
-    ensures { λ _. ⌜ now (s .exit) ≡ putWords (now (s .entry)) 1040 (concat 256 (λ p. recordWords (recordAt places p))) ⌝ }
+    ensures { λ _. ⌜ now (s .exit) ≡ putWords (now (s .entry)) 1040 (concatBelow 256 (λ p. recordWords (recordAt places p))) ⌝ }
 {
     let mut p: usize = 0;
     while p < 256 {
@@ -89,7 +89,7 @@ pub fn put_reversal(s: &mut [u8], k: usize, u: Reversal)
 
 fn put_entries(s: &mut [u8], entries: [Reversal; 64])
     requires { ⌜ 56224 ≤ length (now s) ⌝ }
-    ensures { λ _. ⌜ now (s .exit) ≡ putWords (now (s .entry)) 29728 (concat 64 (λ k. reversalWords (getD entries k free))) ⌝ }
+    ensures { λ _. ⌜ now (s .exit) ≡ putWords (now (s .entry)) 29728 (concatBelow 64 (λ k. reversalWords (getD entries k free))) ⌝ }
 {
     let mut k: usize = 0;
     while k < 64 {

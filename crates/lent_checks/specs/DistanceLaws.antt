@@ -24,7 +24,7 @@ use Rattle.distances.specs.declared.CheckDistance.{CheckDistance}
 use Rattle.distances.specs.declared.Agreement.{Agreement}
 use Rattle.distances.specs.declared.Agreement.the-variants.{Refused as refused}
 use Rattle.distances.specs.declared.DistanceRefusal.the-variants.{Ends, Range}
-use Rattle.distances.specs.Distances.{distanceInRange, agreesAt, onPair, answered, agreement, agreementUnknown}
+use Rattle.distances.specs.Distances.{distanceInRange, agreesAt, onPair, unlessRefused, agreement, agreementUnknown}
 use Rattle.lent_checks.specs.LentChecks.{allWords, isWhole, checkedLent}
 use Rattle.lent_checks.specs.LentDistances.{agreementLent}
 use Rattle.lent_checks.specs.CheckLaws.{lent-fit, lent-unfit, lent-small, test-1}
@@ -39,29 +39,29 @@ empty-refused b o =
 
 module _ (b : Book) (o : Sound b) (x m : List ℕ) (d : CheckDistance) where
   -- all of them, where the sizes fit
-  distance-fit : isWhole x && isWhole m && leb (length x) 384 && leb (length m) 18432 ≡ true → agreement b (allWords x) (allWords m) d ≡ agreementLent b x m d
+  read-all : isWhole x && isWhole m && leb (length x) 384 && leb (length m) 18432 ≡ true → agreement b (allWords x) (allWords m) d ≡ agreementLent b x m d
   unfolding agreement agreementLent
-  distance-fit e = ap (λ (a : Answer). answered (b .network) d (onPair a (agreesAt (b .network .stations) (allWords x) d))) (lent-fit b x m true e)
+  read-all e = ap (λ (a : Answer). unlessRefused (b .network) d (onPair a (agreesAt (b .network .stations) (allWords x) d))) (lent-fit b x m true e)
 
   -- none, where they do not: test 1 refuses both
   refused-alike : (t u : Bool) → onPair (Refused Lengths) t ≡ onPair (Refused Lengths) u
   unfolding onPair
   refused-alike t u = refl
 
-  distance-unfit : isWhole x && isWhole m && leb (length x) 384 && leb (length m) 18432 ≡ false → agreement b [] [] d ≡ agreementLent b x m d
+  read-none : isWhole x && isWhole m && leb (length x) 384 && leb (length m) 18432 ≡ false → agreement b [] [] d ≡ agreementLent b x m d
   unfolding agreement agreementLent
-  distance-unfit e =
+  read-none e =
       let none : checked b [] [] true ≡ Refused Lengths = sym (empty-refused b o) in
       let lent : Refused Lengths ≡ checkedLent b x m true = lent-unfit b o x m true e in
-      ap (λ (g : Agreement). answered (b .network) d g)
+      ap (λ (g : Agreement). unlessRefused (b .network) d g)
       (ap (λ (a : Answer). onPair a (agreesAt (b .network .stations) [] d)) none ∙ refused-alike _ _ ∙ ap (λ (a : Answer). onPair a (agreesAt (b .network .stations) (allWords x) d)) lent)
 
   -- so many words of each slice as are read, t telling whether the sizes fit
   pub distance-read : (t : Bool) → t ≡ (isWhole x && isWhole m && leb (length x) 384 && leb (length m) 18432)
       → agreement b (wordsAt x 0 (cond t (length x / 8) 0)) (wordsAt m 0 (cond t (length m / 8) 0)) d ≡ agreementLent b x m d
   unfolding wordsAt
-  distance-read true e = distance-fit (sym e)
-  distance-read false e = distance-unfit (sym e)
+  distance-read true e = read-all (sym e)
+  distance-read false e = read-none (sym e)
 
 -- ════ the unknown of an answer is that of the check's
 pair-unknown : (a : Answer) (t : Bool) → agreementUnknown (onPair a t) ≡ unknownOf a
@@ -70,9 +70,9 @@ pair-unknown Accepted true = refl
 pair-unknown Accepted false = refl
 pair-unknown (Refused r) t = refl
 
-answered-unknown : (net : Network) (d : CheckDistance) (next : Agreement) (k : ℕ) → 256 * agreementUnknown next < k → 0 < k → 256 * agreementUnknown (answered net d next) < k
-unfolding answered
-answered-unknown net d next k h l = go (endsFit (net .count) (d .from) (d .to)) (distanceInRange d)
+refused-unknown : (net : Network) (d : CheckDistance) (next : Agreement) (k : ℕ) → 256 * agreementUnknown next < k → 0 < k → 256 * agreementUnknown (unlessRefused net d next) < k
+unfolding unlessRefused
+refused-unknown net d next k h l = go (endsFit (net .count) (d .from) (d .to)) (distanceInRange d)
   where
     go : (s t : Bool) → 256 * agreementUnknown (cond s (cond t next (refused Range)) (refused Ends)) < k
     go true true = h
@@ -83,4 +83,4 @@ pub distance-small : (b : Book) → Sound b → (x m : List ℕ) (d : CheckDista
 unfolding agreementLent
 distance-small b o x m d =
     let a = checkedLent b x m true in
-    answered-unknown (b .network) d _ 100000 (let h = lent-small b o x m true in let e = pair-unknown a (agreesAt (b .network .stations) (allWords x) d) in omega arith) (omega arith)
+    refused-unknown (b .network) d _ 100000 (let h = lent-small b o x m true in let e = pair-unknown a (agreesAt (b .network .stations) (allWords x) d) in omega arith) (omega arith)

@@ -38,7 +38,7 @@ fn distance_words(
     distances::check_distance(b, xs, ms, d)
 }
 
-// How many words of a slice are read: none where the pair's sizes fit no book, which test 1 refuses as it refuses them.
+// How many words of a slice are read: all, or none where the pair's sizes fit no book. Test 1 refuses a pair without words too.
 fn words_to_read(fits: bool, bytes: usize) -> usize
     ensures { λ r. ⌜ r ≡ cond fits (bytes / 8) 0 ⌝ }
 {

@@ -7,7 +7,7 @@ use lib.Dec.{lit<}
 use lib.ListN.{getD, length, length-append}
 use lib.IntN.{ℤ, pos, _-ℤ_}
 use Rattle.integers.specs.Sums.{sumN, sumN-suc, sumN-ext, sumN-first}
-use Rattle.words.specs.Concat.{concat, concat-none, concat-+1, length-concat, concat-ext}
+use Rattle.words.specs.Concat.{concatBelow, concatBelow-none, concatBelow-+1, length-concatBelow, concatBelow-ext}
 use Rattle.network.specs.Stations.{unknownCount, coordinate, coordinates}
 use Rattle.network.specs.Records.{acts, fromOf, toOf, joins, recordAt}
 use Rattle.network.specs.declared.Station.{Station}
@@ -21,10 +21,10 @@ use Rattle.residuals.specs.Components.{unknownsOf, numbersOf, correctionsOf, ad
 use Rattle.sheet.specs.Written.{written, written-none, written-then}
 
 -- ════ lines one after the other
-length-lines : (k : ℕ) (f : ℕ → List ℤ) → length (concat k f) ≡ sumN k (λ i. length (f i))
-unfolding concat sumN
+length-lines : (k : ℕ) (f : ℕ → List ℤ) → length (concatBelow k f) ≡ sumN k (λ i. length (f i))
+unfolding concatBelow sumN
 length-lines zero f = refl
-length-lines (suc k) f = length-append (concat k f) (f k) ∙ ap (λ (n : ℕ). n + length (f k)) (length-lines k f)
+length-lines (suc k) f = length-append (concatBelow k f) (f k) ∙ ap (λ (n : ℕ). n + length (f k)) (length-lines k f)
 
 -- a sheet on which w was stored from index `from` on, and the next index is `at`
 pub record Put (l : List ℤ) (from : ℕ) (w sheet : List ℤ) (at : ℕ) : Type 0 where
@@ -78,37 +78,37 @@ module _ (numbers : List ℕ) (unknowns m : List ℤ) (n : ℕ) where
 -- ════ the first k lines
 module _ (coordinate corrections : List ℤ) (numbers : List ℕ) (unknowns m : List ℤ) (n : ℕ) where
   unfoldable pub stationLinesIn : ℕ → List ℤ
-  stationLinesIn k = concat k (stationWordsIn coordinate corrections numbers unknowns m n)
+  stationLinesIn k = concatBelow k (stationWordsIn coordinate corrections numbers unknowns m n)
 
   recordLineIn : List Place → ℕ → List ℤ
   recordLineIn places p = recordWordsIn numbers unknowns m n p (recordAt places p) (residualsIn coordinate corrections (recordAt places p))
 
   unfoldable pub recordLinesIn : List Place → ℕ → List ℤ
   unfolding recordLineIn
-  recordLinesIn places k = concat k (recordLineIn places)
+  recordLinesIn places k = concatBelow k (recordLineIn places)
 
   pub stations-none : stationLinesIn 0 ≡ []
   unfolding stationLinesIn
-  stations-none = concat-none (stationWordsIn coordinate corrections numbers unknowns m n)
+  stations-none = concatBelow-none (stationWordsIn coordinate corrections numbers unknowns m n)
 
   pub stations-more : (k : ℕ) → stationLinesIn (k + 1) ≡ stationLinesIn k ++ stationWordsIn coordinate corrections numbers unknowns m n k
   unfolding stationLinesIn
-  stations-more k = concat-+1 k (stationWordsIn coordinate corrections numbers unknowns m n)
+  stations-more k = concatBelow-+1 k (stationWordsIn coordinate corrections numbers unknowns m n)
 
   pub stations-length : (k : ℕ) → length (stationLinesIn k) ≡ 7 * k
   unfolding stationLinesIn
   stations-length k =
-      length-concat 7 (stationWordsIn coordinate corrections numbers unknowns m n) (station-length coordinate corrections numbers unknowns m n) k ∙ omega arith
+      length-concatBelow 7 (stationWordsIn coordinate corrections numbers unknowns m n) (station-length coordinate corrections numbers unknowns m n) k ∙ omega arith
 
   module _ (places : List Place) where
     pub records-none : recordLinesIn places 0 ≡ []
     unfolding recordLinesIn
-    records-none = concat-none (recordLineIn places)
+    records-none = concatBelow-none (recordLineIn places)
 
     pub records-more : (k : ℕ) → recordLinesIn places (k + 1)
         ≡ recordLinesIn places k ++ recordWordsIn numbers unknowns m n k (recordAt places k) (residualsIn coordinate corrections (recordAt places k))
     unfolding recordLinesIn recordLineIn
-    records-more k = concat-+1 k (recordLineIn places)
+    records-more k = concatBelow-+1 k (recordLineIn places)
 
     pub records-length : (k : ℕ) → length (recordLinesIn places k) ≡ sumN k (λ p. wordsOf (recordAt places p))
     unfolding recordLinesIn recordLineIn
@@ -159,23 +159,23 @@ module _ (stations : List Station) (x m : List ℤ) where
       )
   record-in p (height h) f t = rw (residual-in stations x (height h) f t 2 (lit< tt) refl, verdict-in (height h) f t 2 (lit< tt))
 
-  pub station-lines : (k : ℕ) → stationLines stations x m k ≡ concat k (stationWords stations x m)
-  unfolding stationLines concat
+  pub station-lines : (k : ℕ) → stationLines stations x m k ≡ concatBelow k (stationWords stations x m)
+  unfolding stationLines concatBelow
   station-lines zero = refl
   station-lines (suc k) = ap (λ (l : List ℤ). l ++ stationWords stations x m k) (station-lines k)
 
-  record-lines : (places : List Place) (k : ℕ) → recordLines stations x m places k ≡ concat k (λ p. recordWords stations x m p (recordAt places p))
-  unfolding recordLines concat
+  record-lines : (places : List Place) (k : ℕ) → recordLines stations x m places k ≡ concatBelow k (λ p. recordWords stations x m p (recordAt places p))
+  unfolding recordLines concatBelow
   record-lines places zero = refl
   record-lines places (suc k) = ap (λ (l : List ℤ). l ++ recordWords stations x m k (recordAt places k)) (record-lines places k)
 
   pub stations-in : (k : ℕ) → k ≤ 32
       → stationLinesIn (coordinates stations) (correctionsOf stations x) (numbersOf stations) (unknownsOf stations) m (unknownCount stations) k ≡ stationLines stations x m k
   unfolding stationLinesIn
-  stations-in k h = concat-ext k _ (stationWords stations x m) (λ s l. station-in s (omega arith)) ∙ sym (station-lines k)
+  stations-in k h = concatBelow-ext k _ (stationWords stations x m) (λ s l. station-in s (omega arith)) ∙ sym (station-lines k)
 
   pub records-in : (places : List Place) → ((p : ℕ) → p < 256 → (fromOf (recordAt places p) < 32) × (toOf (recordAt places p) < 32))
       → recordLinesIn (coordinates stations) (correctionsOf stations x) (numbersOf stations) (unknownsOf stations) m (unknownCount stations) places 256 ≡ recordLines stations x m places 256
   unfolding recordLinesIn recordLineIn
   records-in places h =
-      concat-ext 256 _ (λ p. recordWords stations x m p (recordAt places p)) (λ p l. record-in p (recordAt places p) (h p l .0) (h p l .1)) ∙ sym (record-lines places 256)
+      concatBelow-ext 256 _ (λ p. recordWords stations x m p (recordAt places p)) (λ p l. record-in p (recordAt places p) (h p l .0) (h p l .1)) ∙ sym (record-lines places 256)

@@ -15,7 +15,7 @@ use Rattle.network.specs.Stored.{stored, back, kept}
 use Rattle.residuals.specs.Ranges.{some-unknowns, corrections-within}
 use Rattle.distances.specs.Distances.{squaredDistance, withinTolerance, mark}
 use Rattle.distances.specs.DistanceLaws.{InRange, in-range}
-use Rattle.distances.specs.Tables.{slopeIn, slope-in}
+use Rattle.distances.specs.Coordinates.{squaredDistanceIn, squared-distance-in}
 use Rattle.distances.proofs.comparison.agrees.Statement.{statement}
 use Rattle.distances.proofs.comparison.agrees.Tie as tie
 
@@ -62,8 +62,8 @@ sub-rise c =
     let b = r .instrument in
     fit (search code-bounds depth 12) tt
 
-squared-slope-requires : tie.Need-squared-slope-requires
-squared-slope-requires c κs =
+squared-distance-requires : tie.Need-squared-distance-requires
+squared-distance-requires c κs =
     let s = c .before .before .before .before .before .before .before .before .before .before .before in
     let r = ranges s in (
       subst (λ k. k < 32) (sym (f-is (c .before .before .before .before .before .before))) (from-inside s),
@@ -79,7 +79,7 @@ within-tolerance-requires c κs =
     let r = ranges (c .before .before .before .before .before .before .before .before .before .before .before .before .before .before) in
     (kept (d .distance) (r .distance) tt, kept (d .tolerance) (r .tolerance) tt)
 
-slope-is : (c : tie.After-squared-slope) → stored (c .squared-slope .result)
+slope-is : (c : tie.After-squared-distance) → stored (c .squared-distance .result)
     ≡ squaredDistance (c .before .before .before .before .before .before .before .before .before .before .before .before .args .d)
     (mark (c .before .before .before .before .before .before .before .before .before .before .before .before .args .net .stations) (c .before .before .before .before .before .before .before .before .before .before .before .before .args .x .now) (c .before .before .before .before .before .before .before .before .before .before .before .before .args .d .from))
     (mark (c .before .before .before .before .before .before .before .before .before .before .before .before .args .net .stations) (c .before .before .before .before .before .before .before .before .before .before .before .before .args .x .now) (c .before .before .before .before .before .before .before .before .before .before .before .before .args .d .to))
@@ -87,10 +87,10 @@ slope-is c =
     let s = c .before .before .before .before .before .before .before .before .before .before .before .before in
     let d = s .args .d in
     let r = ranges s in
-    toZ-ofZ w64 (c .squared-slope .result) (sfits-of (c .squared-slope .ok))
-    ∙ c .squared-slope .ensures
-    ∙ (λ i. slopeIn (c .before .before .before .before .before .before .before .before .before .before .coordinates-of .ensures i) (c .before .before .before .before .before .before .before .before .before .corrections-of .ensures i) (f-is (c .before .before .before .before .before .before .before) i) (t-is (c .before .before .before .before .before) i) (rise-is (d .target) (d .instrument) (r .target) (r .instrument) i))
-    ∙ slope-in (s .args .net .stations) (s .args .x .now) d (from-inside s) (to-inside s)
+    toZ-ofZ w64 (c .squared-distance .result) (sfits-of (c .squared-distance .ok))
+    ∙ c .squared-distance .ensures
+    ∙ (λ i. squaredDistanceIn (c .before .before .before .before .before .before .before .before .before .before .coordinates-of .ensures i) (c .before .before .before .before .before .before .before .before .before .corrections-of .ensures i) (f-is (c .before .before .before .before .before .before .before) i) (t-is (c .before .before .before .before .before) i) (rise-is (d .target) (d .instrument) (r .target) (r .instrument) i))
+    ∙ squared-distance-in (s .args .net .stations) (s .args .x .now) d (from-inside s) (to-inside s)
 
 returns : tie.Need-returns
 returns c =
@@ -109,6 +109,6 @@ agrees-spec =
     index-in-requires
     index-in-requires-2
     sub-rise
-    squared-slope-requires
+    squared-distance-requires
     within-tolerance-requires
     returns)

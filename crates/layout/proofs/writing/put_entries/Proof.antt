@@ -4,7 +4,7 @@ use mathlib.Core.Path.{_≡_, refl, _∙_}
 use native.Mathlib.Omega.{arith}
 use lib.ListN.{length, getD}
 use Rattle.words.specs.Runs.{putWords}
-use Rattle.words.specs.Concat.{concat}
+use Rattle.words.specs.Concat.{concatBelow}
 use Rattle.book.specs.Journal.{free}
 use Rattle.layout.specs.Layout.{reversalWords}
 use Rattle.layout.specs.BookWords.{length-reversal}
@@ -14,7 +14,7 @@ use Rattle.layout.proofs.writing.put_entries.Statement.{statement}
 use Rattle.layout.proofs.writing.put_entries.Tie as tie
 
 abbrev Inv-loop : tie.InvT-loop
-Inv-loop s₀ entries k₀ s k = (s ≡ putWords s₀ 29728 (concat k (λ q. reversalWords (getD entries q free)))) × (length s ≡ length s₀) × (k ≤ 64)
+Inv-loop s₀ entries k₀ s k = (s ≡ putWords s₀ 29728 (concatBelow k (λ q. reversalWords (getD entries q free)))) × (length s ≡ length s₀) × (k ≤ 64)
 
 abbrev μ-loop : tie.MeasureT-loop
 μ-loop s₀ entries k₀ s k = 64 - k

@@ -4,7 +4,7 @@ use mathlib.Core.Path.{_≡_, refl, _∙_}
 use native.Mathlib.Omega.{arith}
 use lib.ListN.{length}
 use Rattle.words.specs.Runs.{putWords}
-use Rattle.words.specs.Concat.{concat}
+use Rattle.words.specs.Concat.{concatBelow}
 use Rattle.network.specs.Records.{recordAt}
 use Rattle.layout.specs.Layout.{recordWords}
 use Rattle.layout.specs.BookWords.{length-record}
@@ -14,7 +14,7 @@ use Rattle.layout.proofs.writing.put_places.Statement.{statement}
 use Rattle.layout.proofs.writing.put_places.Tie as tie
 
 abbrev Inv-loop : tie.InvT-loop
-Inv-loop s₀ places p₀ s p = (s ≡ putWords s₀ 1040 (concat p (λ q. recordWords (recordAt places q)))) × (length s ≡ length s₀) × (p ≤ 256)
+Inv-loop s₀ places p₀ s p = (s ≡ putWords s₀ 1040 (concatBelow p (λ q. recordWords (recordAt places q)))) × (length s ≡ length s₀) × (p ≤ 256)
 
 abbrev μ-loop : tie.MeasureT-loop
 μ-loop s₀ places p₀ s p = 256 - p

@@ -4,7 +4,7 @@ use mathlib.Core.Path.{_≡_, refl, ap, _∙_}
 use native.Mathlib.Omega.{arith}
 use lib.ListN.{length}
 use Rattle.words.specs.Runs.{putWords}
-use Rattle.words.specs.Concat.{concat}
+use Rattle.words.specs.Concat.{concatBelow}
 use Rattle.layout.specs.Layout.{stationPart}
 use Rattle.layout.specs.BookWords.{length-station}
 use Rattle.layout.proofs.Parts.{parts-none, parts-more}
@@ -13,7 +13,7 @@ use Rattle.layout.proofs.writing.put_stations.Statement.{statement}
 use Rattle.layout.proofs.writing.put_stations.Tie as tie
 
 abbrev Inv-loop : tie.InvT-loop
-Inv-loop s₀ count stations k₀ s k = (s ≡ putWords s₀ 16 (concat k (stationPart (record { count = count; stations = stations })))) × (length s ≡ length s₀) × (k ≤ 32)
+Inv-loop s₀ count stations k₀ s k = (s ≡ putWords s₀ 16 (concatBelow k (stationPart (record { count = count; stations = stations })))) × (length s ≡ length s₀) × (k ≤ 32)
 
 abbrev μ-loop : tie.MeasureT-loop
 μ-loop s₀ count stations k₀ s k = 32 - k

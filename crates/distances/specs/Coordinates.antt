@@ -22,8 +22,8 @@ unfoldable pub separationIn : List ℤ → List ℤ → ℕ → ℕ → ℕ → 
 separationIn coordinate correction f t c = adjustedIn coordinate correction (t * 3 + c) -ℤ adjustedIn coordinate correction (f * 3 + c)
 
 -- the squared distance between them, the U difference taken plus `rise`
-unfoldable pub slopeIn : List ℤ → List ℤ → ℕ → ℕ → ℤ → ℤ
-slopeIn coordinate correction f t rise =
+unfoldable pub squaredDistanceIn : List ℤ → List ℤ → ℕ → ℕ → ℤ → ℤ
+squaredDistanceIn coordinate correction f t rise =
     square (separationIn coordinate correction f t 0) +ℤ square (separationIn coordinate correction f t 1) +ℤ square (separationIn coordinate correction f t 2 +ℤ rise)
 
 module _ (stations : List Station) (x : List ℤ) where
@@ -33,11 +33,11 @@ module _ (stations : List Station) (x : List ℤ) where
   unfolding separationIn mark
   separation-in a b c h k l = ap₂ _-ℤ_ (adjusted-in stations x (indexIn b 32 * 3 + c) (omega arith)) (adjusted-in stations x (indexIn a 32 * 3 + c) (omega arith))
 
-  pub slope-in : (d : CheckDistance) → indexIn (d .from) 32 < 32 → indexIn (d .to) 32 < 32
-      → slopeIn (coordinates stations) (correctionsOf stations x) (indexIn (d .from) 32) (indexIn (d .to) 32) (d .target -ℤ d .instrument)
+  pub squared-distance-in : (d : CheckDistance) → indexIn (d .from) 32 < 32 → indexIn (d .to) 32 < 32
+      → squaredDistanceIn (coordinates stations) (correctionsOf stations x) (indexIn (d .from) 32) (indexIn (d .to) 32) (d .target -ℤ d .instrument)
       ≡ squaredDistance d (mark stations x (d .from)) (mark stations x (d .to))
-  unfolding slopeIn squaredDistance
-  slope-in d h k =
+  unfolding squaredDistanceIn squaredDistance
+  squared-distance-in d h k =
       let a = mark stations x (d .from) in
       let b = mark stations x (d .to) in
       let same : (c : ℕ) → c < 3 → separationIn (coordinates stations) (correctionsOf stations x) (indexIn (d .from) 32) (indexIn (d .to) 32) c ≡ b c -ℤ a c =

@@ -8,9 +8,9 @@ use lib.IntN.{ℤ, pos, natAbs, _+ℤ_, _-ℤ_}
 use Rattle.network.specs.Stored.{stored}
 use Rattle.integers.specs.Bounds.{bounds, absle}
 use Rattle.integers.specs.Code.{fit, code-bounds, ringm, code-shapes}
-use Rattle.distances.specs.Tables.{separationIn}
-use Rattle.distances.proofs.comparison.difference.Statement.{statement}
-use Rattle.distances.proofs.comparison.difference.Tie as tie
+use Rattle.distances.specs.Coordinates.{separationIn}
+use Rattle.distances.proofs.comparison.separation.Statement.{statement}
+use Rattle.distances.proofs.comparison.separation.Tie as tie
 
 mul-adjusted : tie.Need-mul-adjusted
 mul-adjusted c = search needs
@@ -50,20 +50,20 @@ b-small c =
 sub-result : tie.Need-sub-result
 sub-result c = let x = a-small (c .before) in let y = b-small c in fit (search code-bounds depth 12) tt
 
-difference-is : (c : tie.After-adjusted2) → stored (stored (c .before .adjusted .result) -ℤ stored (c .adjusted2 .result)) ≡ c .before .adjusted .result -ℤ c .adjusted2 .result
-difference-is c = let x = a-small (c .before) in let y = b-small c in ringm (c .before .adjusted .result ∷ c .adjusted2 .result ∷ []) (search code-shapes depth 12) tt
+separation-is : (c : tie.After-adjusted2) → stored (stored (c .before .adjusted .result) -ℤ stored (c .adjusted2 .result)) ≡ c .before .adjusted .result -ℤ c .adjusted2 .result
+separation-is c = let x = a-small (c .before) in let y = b-small c in ringm (c .before .adjusted .result ∷ c .adjusted2 .result ∷ []) (search code-shapes depth 12) tt
 
 returns : tie.Need-returns
 unfolding separationIn
 returns c =
     let x = a-small (c .before) in let y = b-small c in
-    let d = difference-is c in (
+    let d = separation-is c in (
       d ∙ ap₂ _-ℤ_ (c .before .adjusted .ensures) (c .adjusted2 .ensures),
       subst (λ (z : ℤ). natAbs z ≤ 1000200000) (sym d) (absle (c .before .adjusted .result -ℤ c .adjusted2 .result) (search bounds) (omega arith)),
     )
 
-pub difference-spec : {M : Type 1} → statement M
-difference-spec =
+pub separation-spec : {M : Type 1} → statement M
+separation-spec =
     tie.close
     (tie.spec
     mul-adjusted

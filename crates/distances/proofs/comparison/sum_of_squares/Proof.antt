@@ -1,7 +1,7 @@
 use mathlib.Core.List.{[], _∷_}
 use Rattle.integers.specs.Code.{fit, code-bounds, ringm, code-shapes}
-use Rattle.distances.proofs.comparison.squared.Statement.{statement}
-use Rattle.distances.proofs.comparison.squared.Tie as tie
+use Rattle.distances.proofs.comparison.sum_of_squares.Statement.{statement}
+use Rattle.distances.proofs.comparison.sum_of_squares.Tie as tie
 
 mul-result : tie.Need-mul-result
 mul-result c = let p = c .pre in fit (search code-bounds depth 12) tt
@@ -21,5 +21,5 @@ add-result-2 c = let p = c .pre in fit (search code-bounds depth 12) tt
 returns : tie.Need-returns
 returns c = let a = c .args in ringm (a .e ∷ a .n ∷ a .u ∷ []) (search code-shapes depth 16) tt
 
-pub squared-spec : {M : Type 1} → statement M
-squared-spec = tie.close (tie.spec mul-result mul-result-2 add-result mul-result-3 add-result-2 returns)
+pub sum-of-squares-spec : {M : Type 1} → statement M
+sum-of-squares-spec = tie.close (tie.spec mul-result mul-result-2 add-result mul-result-3 add-result-2 returns)
