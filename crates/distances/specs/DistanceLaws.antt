@@ -1,7 +1,7 @@
 -- What the tests of a check distance give: the sizes of its values, how large the number of an answer is, and the answer itself. Assumes nothing.
 use Prim.Native.Nat.{ℕ, _≤_}
 use mathlib.Core.Path.{_≡_, refl}
-use mathlib.Core.Bool.{true, false, _&&_}
+use mathlib.Core.Bool.{Bool, true, false, cond, _&&_}
 use mathlib.Core.List.{[], _∷_}
 use native.Mathlib.Omega.{arith}
 use borrow.Author.Tests.{leb-true}
@@ -13,7 +13,9 @@ use Rattle.network.specs.All.{each}
 use Rattle.network.specs.Rules.{endsFit}
 use Rattle.network.specs.declared.Network.{Network}
 use Rattle.acceptance.specs.JudgeLaws.{refusal-least, refusal-most}
-use Rattle.distances.specs.Distances.{heightFits, distanceInRange, unlessRefused, distanceNumber, agreementNumber}
+use Rattle.acceptance.specs.declared.Answer.{Answer}
+use Rattle.acceptance.specs.declared.Answer.the-variants.{Accepted}
+use Rattle.distances.specs.Distances.{heightFits, distanceInRange, onPair, unlessRefused, distanceNumber, agreementNumber}
 use Rattle.distances.specs.declared.CheckDistance.{CheckDistance}
 use Rattle.distances.specs.declared.DistanceRefusal.{DistanceRefusal}
 use Rattle.distances.specs.declared.DistanceRefusal.the-variants.{Ends, Range, Pair}
@@ -66,16 +68,21 @@ agreement-most Disagrees = lit≤ tt
 agreement-most (Refused r) = distance-most r
 
 -- ════ the answer by its tests
-module _ (net : Network) (d : CheckDistance) (next : Agreement) where
-  pub ends-refused : endsFit (net .count) (d .from) (d .to) ≡ false → Refused Ends ≡ unlessRefused net d next
+module _ (net : Network) (d : CheckDistance) where
+  pub ends-refused : (next : Agreement) → endsFit (net .count) (d .from) (d .to) ≡ false → Refused Ends ≡ unlessRefused net d next
   unfolding unlessRefused
-  ends-refused e = rw e
+  ends-refused next e = rw e
 
   module _ (e : endsFit (net .count) (d .from) (d .to) ≡ true) where
-    pub range-refused : distanceInRange d ≡ false → Refused Range ≡ unlessRefused net d next
+    pub range-refused : (next : Agreement) → distanceInRange d ≡ false → Refused Range ≡ unlessRefused net d next
     unfolding unlessRefused
-    range-refused f = rw (e, f)
+    range-refused next f = rw (e, f)
 
-    pub not-refused : distanceInRange d ≡ true → next ≡ unlessRefused net d next
+    pub not-refused : (next : Agreement) → distanceInRange d ≡ true → next ≡ unlessRefused net d next
     unfolding unlessRefused
-    not-refused f = rw (e, f)
+    not-refused next f = rw (e, f)
+
+    -- where the check accepts the pair, it is whether the distance agrees
+    pub pair-answer : (a : Answer) (t : Bool) → a ≡ Accepted → distanceInRange d ≡ true → unlessRefused net d (onPair a t) ≡ cond t Agrees Disagrees
+    unfolding unlessRefused onPair
+    pair-answer a t p f = rw (e, f, p)

@@ -16,7 +16,6 @@ use Rattle.network.specs.declared.Station.{Station}
 use Rattle.network.specs.declared.Place.{Place}
 use Rattle.residuals.specs.Residuals.{adjusted, recordCount}
 use Rattle.acceptance.specs.Exactly.{answer}
-use Rattle.acceptance.specs.declared.Answer.{Answer}
 use Rattle.acceptance.specs.declared.Answer.the-variants.{Accepted}
 use Rattle.book.specs.declared.Book.{Book}
 use Rattle.book.specs.Book.{sound}
@@ -25,8 +24,8 @@ use Rattle.sheet.specs.Lines.{station-lines}
 use Rattle.sheet.specs.SheetLaws.{sheet-length}
 use Rattle.checks.specs.Checks.{checked, hasRoom, sheetAfter}
 use Rattle.checks.specs.CheckLaws.{rules, has-room, checked-is, after-accepted}
-use Rattle.distances.specs.Distances.{distanceInRange, squaredDistance, mark, agrees, agreesAt, onPair, agreement}
-use Rattle.distances.specs.DistanceLaws.{not-refused}
+use Rattle.distances.specs.Distances.{distanceInRange, squaredDistance, mark, agrees, agreesAt, agreement}
+use Rattle.distances.specs.DistanceLaws.{pair-answer}
 use Rattle.distances.specs.declared.Agreement.the-variants.{Agrees, Disagrees}
 use Rattle.distances.specs.declared.CheckDistance.{CheckDistance}
 
@@ -122,10 +121,9 @@ module _ (b : Book) (sure : sound b ≡ true) (x m sheet : List ℤ) (accepted :
 
   pub agreement-sheet : (d : CheckDistance) → endsFit (b .network .count) (d .from) (d .to) ≡ true → distanceInRange d ≡ true
       → agreement b x m d ≡ cond (agrees d (markIn (sheetAfter b x m sheet) (d .from)) (markIn (sheetAfter b x m sheet) (d .to))) Agrees Disagrees
-  unfolding agreement onPair
+  unfolding agreement
   agreement-sheet d e f =
       let t = ends (b .network .count) (d .from) (d .to) few e in
-      sym (not-refused (b .network) d _ e f)
-      ∙ ap (λ (a : Answer). onPair a (agreesAt (b .network .stations) x d)) pair-accepted
+      pair-answer (b .network) d e _ _ pair-accepted f
       ∙ ap (λ (g : Bool). cond g Agrees Disagrees)
       (agrees-sheet (b .network) (b .places) x m few d e ∙ agrees-as d _ _ _ _ (front-mark (d .from) (t .0)) (front-mark (d .to) (t .1 .0)))

@@ -32,8 +32,8 @@ use Rattle.checks.specs.Checks.{checked}
 use Rattle.checks.specs.CheckLaws.{rules, solved, has-room, checked-is}
 use Rattle.distances.specs.declared.CheckDistance.{CheckDistance}
 use Rattle.distances.specs.declared.Agreement.the-variants.{Agrees, Disagrees}
-use Rattle.distances.specs.Distances.{distanceInRange, mark, agrees, agreesAt, onPair}
-use Rattle.distances.specs.DistanceLaws.{not-refused}
+use Rattle.distances.specs.Distances.{distanceInRange, mark, agrees, agreesAt}
+use Rattle.distances.specs.DistanceLaws.{pair-answer}
 use Rattle.distances.specs.Coordinates.{mark-small}
 use Rattle.distances.specs.SheetWords.{coordinateWord, agrees-as, sheet-mark}
 use Rattle.lent_checks.specs.LentChecks.{allWords, isWhole, answerWord, checkedLent, sheetFits}
@@ -106,11 +106,11 @@ module _ (s x m sheet : List ℕ) (fit : bytesFit s ≡ true) (done : sheetCall 
 
   said : (d : CheckDistance) → endsFit (b .network .count) (d .from) (d .to) ≡ true → distanceInRange d ≡ true
       → distanceCall s x m d ≡ cond (agrees d (markAt (sheetCall s x m sheet .sheet) (d .from)) (markAt (sheetCall s x m sheet .sheet) (d .to))) (pos 0) (negsuc 1)
-  unfolding distanceCall agreementLent agreementWord onPair
+  unfolding distanceCall agreementLent agreementWord
   said d e f =
       let t = ends (b .network .count) (d .from) (d .to) few e in
       let is : agreementLent b x m d ≡ cond (agreesAt (b .network .stations) (allWords x) d) Agrees Disagrees =
-      sym (not-refused (b .network) d _ e f) ∙ ap (λ (a : Answer). onPair a (agreesAt (b .network .stations) (allWords x) d)) pair-accepted in
+      pair-answer (b .network) d e _ _ pair-accepted f in
       rw fit (ap agreementWord is ∙ word (agreesAt (b .network .stations) (allWords x) d)
       ∙ ap (λ (g : Bool). cond g (pos 0) (negsuc 1)) (agrees-as d _ _ _ _ (bytes-mark (d .from) (t .0)) (bytes-mark (d .to) (t .1 .0))))
     where

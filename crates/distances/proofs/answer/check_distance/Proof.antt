@@ -43,7 +43,7 @@ returns-2 : tie.Need-returns-2
 unfolding agreement
 returns-2 c =
     let a = c .before .before .before .before .before .before .before .args in
-    range-refused (a .book .network) (a .d) _ (ends-fit (c .before .before)) (sym (c .before .in-range .ensures) ∙ not-true _ (c .if2 .taken))
+    range-refused (a .book .network) (a .d) (ends-fit (c .before .before)) _ (sym (c .before .in-range .ensures) ∙ not-true _ (c .if2 .taken))
 
 check-requires : tie.Need-check-requires
 check-requires c κs = search needs
@@ -68,7 +68,7 @@ unfolding agreement onPair
 returns-3 c =
     let a = c .before .before .before .before .before .before .before .before .before .before .before .before .args in
     sym (ap₂ onPair (pair-accepted (c .before .before)) (sym (c .before .agrees .ensures) ∙ c .if3 .taken))
-    ∙ not-refused (a .book .network) (a .d) _ (ends-fit (c .before .before .before .before .before .before .before)) (in-range (c .before .before .before .before .before))
+    ∙ not-refused (a .book .network) (a .d) (ends-fit (c .before .before .before .before .before .before .before)) _ (in-range (c .before .before .before .before .before))
 
 enum-known-answer : tie.Need-enum-known-answer
 enum-known-answer c = search needs
@@ -78,14 +78,14 @@ unfolding agreement onPair
 returns-4 c =
     let a = c .before .before .before .before .before .before .before .before .before .before .before .before .args in
     sym (ap₂ onPair (pair-accepted (c .before .before)) (sym (c .before .agrees .ensures) ∙ c .if3 .left))
-    ∙ not-refused (a .book .network) (a .d) _ (ends-fit (c .before .before .before .before .before .before .before)) (in-range (c .before .before .before .before .before))
+    ∙ not-refused (a .book .network) (a .d) (ends-fit (c .before .before .before .before .before .before .before)) _ (in-range (c .before .before .before .before .before))
 
 returns-5 : tie.Need-returns-5
 unfolding agreement onPair
 returns-5 c =
     let a = c .before .before .before .before .before .before .before .before .before .before .before .args in
     sym (ap (λ (r : Answer). onPair r (agreesAt (a .book .network .stations) (a .x .now) (a .d))) (sym (c .before .before .before .check .ensures) ∙ c .before .answer .given .1))
-    ∙ not-refused (a .book .network) (a .d) _ (ends-fit (c .before .before .before .before .before .before)) (in-range (c .before .before .before .before))
+    ∙ not-refused (a .book .network) (a .d) (ends-fit (c .before .before .before .before .before .before)) _ (in-range (c .before .before .before .before))
 
 pub check-distance-spec : {M : Type 1} → statement M
 check-distance-spec =

@@ -79,11 +79,11 @@ within-tolerance-requires c κs =
     let r = ranges (c .before .before .before .before .before .before .before .before .before .before .before .before .before .before) in
     (kept (d .distance) (r .distance) tt, kept (d .tolerance) (r .tolerance) tt)
 
-slope-is : (c : tie.After-squared-distance) → stored (c .squared-distance .result)
+squared-is : (c : tie.After-squared-distance) → stored (c .squared-distance .result)
     ≡ squaredDistance (c .before .before .before .before .before .before .before .before .before .before .before .before .args .d)
     (mark (c .before .before .before .before .before .before .before .before .before .before .before .before .args .net .stations) (c .before .before .before .before .before .before .before .before .before .before .before .before .args .x .now) (c .before .before .before .before .before .before .before .before .before .before .before .before .args .d .from))
     (mark (c .before .before .before .before .before .before .before .before .before .before .before .before .args .net .stations) (c .before .before .before .before .before .before .before .before .before .before .before .before .args .x .now) (c .before .before .before .before .before .before .before .before .before .before .before .before .args .d .to))
-slope-is c =
+squared-is c =
     let s = c .before .before .before .before .before .before .before .before .before .before .before .before in
     let d = s .args .d in
     let r = ranges s in
@@ -98,7 +98,7 @@ returns c =
     let d = s .args .d in
     let r = ranges s in
     c .within-tolerance .ensures
-    ∙ (λ i. withinTolerance (back (d .distance) (r .distance) tt i) (back (d .tolerance) (r .tolerance) tt i) (slope-is (c .before .before .before) i))
+    ∙ (λ i. withinTolerance (back (d .distance) (r .distance) tt i) (back (d .tolerance) (r .tolerance) tt i) (squared-is (c .before .before .before) i))
 
 pub agrees-spec : {M : Type 1} → statement M
 agrees-spec =
