@@ -12,7 +12,7 @@ use lib.ListN.{length, getD, List·getD-eq-default}
 use Rattle.integers.specs.Tables.{getD-tabulate, length-tabulate}
 use Rattle.words.specs.Bools.{clash, true-or-false, same-test}
 use Rattle.network.specs.All.{allBelow, all-at, all-by}
-use Rattle.network.specs.Stations.{unknownIn, stationAt, unknown, number}
+use Rattle.network.specs.Stations.{unknown, number}
 use Rattle.network.specs.StationLaws.{bit-cases, number-mono}
 use Rattle.network.specs.Records.{recordAt, acts, fromOf, toOf}
 use Rattle.network.specs.declared.Station.{Station}
@@ -40,12 +40,6 @@ pub record SameSet (net : Network) (places : List Place) (c w : ℕ) : Type 0 wh
 -- component q is held, or its station is in the set found for the component
 unfoldable pub heldOrIn : List Station → List ℕ → ℕ → Bool
 heldOrIn stations found q = cond (eqb (unknown stations q) 0) true (bit (getD found (q % 3) 0) (q / 3))
-
--- component c of station s
-pub unknown-at : (stations : List Station) (s c : ℕ) → c < 3 → unknown stations (s * 3 + c) ≡ unknownIn (stationAt stations s .kind) c
-unfolding unknown
-unknown-at stations s c h =
-    let d : (s * 3 + c) / 3 ≡ s = omega arith in let m : (s * 3 + c) % 3 ≡ c = omega arith in rw (d, m)
 
 -- both ends of every edge are below 32
 pub record Low (e : List ℕ) : Type 0 where

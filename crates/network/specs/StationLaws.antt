@@ -12,7 +12,7 @@ use Rattle.integers.specs.Sums.{sumN}
 use Rattle.network.specs.declared.Kind.{Kind}
 use Rattle.network.specs.declared.Kind.the-variants.{Known, Free, Height}
 use Rattle.network.specs.declared.Station.{Station}
-use Rattle.network.specs.Stations.{unknownIn, unknown, number, place, stationAt}
+use Rattle.network.specs.Stations.{unknownIn, unknown, number, stationAt}
 
 pub bit-in : (k : Kind) (c : ℕ) → unknownIn k c ≤ 1
 unfolding unknownIn
@@ -28,6 +28,11 @@ module _ (st : List Station) where
   pub bit : (q : ℕ) → unknown st q ≤ 1
   unfolding unknown
   bit q = bit-in (stationAt st (q / 3) .kind) (q % 3)
+
+  -- component c of station s
+  pub unknown-at : (s c : ℕ) → c < 3 → unknown st (s * 3 + c) ≡ unknownIn (stationAt st s .kind) c
+  unfolding unknown
+  unknown-at s c h = let d : (s * 3 + c) / 3 ≡ s = omega arith in let m : (s * 3 + c) % 3 ≡ c = omega arith in rw (d, m)
 
   pub number-0 : number st 0 ≡ 0
   unfolding number sumN

@@ -5,7 +5,7 @@ use native.Mathlib.Omega.{arith}
 use borrow.Author.Needs.{needs}
 use Rattle.chains.specs.Bits.{setOf, setOf-step}
 use Rattle.chains.specs.Chains.{isHeld}
-use Rattle.chains.specs.ChainLaws.{unknown-at}
+use Rattle.network.specs.StationLaws.{unknown-at}
 use Rattle.chains.proofs.records.held_in.Statement.{statement}
 use Rattle.chains.proofs.records.held_in.Tie as tie
 
