@@ -29,7 +29,7 @@ use Rattle.book.specs.Calls.{placesOf, first, placeNo, filledNo, emptyNo, undoN
 use Rattle.book.specs.Run.{final, answers}
 use Rattle.book.specs.Rows.{rowNext, rowSays}
 use Rattle.book.specs.Ledger.{standing, accepted}
-use Rattle.residuals.specs.Residuals.{correction, adjusted, covariance, residual, shareT, T, observations, isRecord, recordCount, D, observationVariance, differenceVariance, residualVariance, adjugate}
+use Rattle.residuals.specs.Residuals.{correction, adjusted, covariance, residual, unknownAtEnd, inAdjustment, weightedSquares, shareT, T, observations, shareD, isRecord, recordCount, D, observationVariance, differenceVariance, residualVariance, adjugate}
 use Rattle.residuals.specs.Verdicts.{verdictWord, localVerdict, globalVerdict, chiSquare}
 use Rattle.sheet.specs.Sheet.{stationWords, verdictAt, recordWords, stationLines, recordLines, globalWords, sheetWords, wordsOf, room}
 use Rattle.checks.specs.Checks.{onAcceptance}
@@ -90,5 +90,5 @@ unfolding filled network table final rowNext briefNo first placeNo filledNo empt
 all-places = refl
 
 pub all-worked : map (λ c. workedOn network (filled (c .records)) c) table ≡ map expected table
-unfolding workedOn filled expected network table final answers rowNext rowSays briefNo first placeNo filledNo emptyNo undoNo recordNo recordNoOver endsFit baselineInRange heightInRange minorsPositive adjugateFits matrixFits misclosureFits misclosures misclosureAt fromOf toOf indexIn tabulate coordinate coordinateIn allBelow standing accepted unless isEmpty answer sum sumN entryN shareN entryU shareU A isUnknown unknown unknownIn number joins weights judge judgeNumbers lengthsFit correctionsSmall inverseSmall defectSmall residualSmall refinementSmall allTied isTied tiedSet edge acts firstUntied firstFailing search pass join setOf setBit digit workedOut onAcceptance room wordsOf stationWords verdictAt recordWords stationLines recordLines globalWords sheetWords verdictWord localVerdict globalVerdict chiSquare correction adjusted covariance residual shareT T observations isRecord recordCount D observationVariance differenceVariance residualVariance adjugate
+unfolding workedOn filled expected network table final answers rowNext rowSays briefNo first placeNo filledNo emptyNo undoNo recordNo recordNoOver endsFit baselineInRange heightInRange minorsPositive adjugateFits matrixFits misclosureFits misclosures misclosureAt fromOf toOf indexIn tabulate coordinate coordinateIn allBelow standing accepted unless isEmpty answer sum sumN entryN shareN entryU shareU A isUnknown unknown unknownIn number joins weights judge judgeNumbers lengthsFit correctionsSmall inverseSmall defectSmall residualSmall refinementSmall allTied isTied tiedSet edge acts firstUntied firstFailing search pass join setOf setBit digit workedOut onAcceptance room wordsOf stationWords verdictAt recordWords stationLines recordLines globalWords sheetWords verdictWord localVerdict globalVerdict chiSquare correction adjusted covariance residual unknownAtEnd inAdjustment weightedSquares shareT T observations shareD isRecord recordCount D observationVariance differenceVariance residualVariance adjugate
 all-worked = refl

@@ -1,28 +1,32 @@
--- "Degrees of freedom D = 3 per baseline + 1 per height difference − n" are not negative where test 5 holds: there are at least as many observations as unknowns. Assumes nothing.
+-- "Degrees of freedom D = 3 per baseline + 1 per height difference − n", over the records in the adjustment, are not negative where test 5 holds: they have at least as many observations
+-- as there are unknowns. Assumes nothing.
 -- Were there fewer, some z that is not 0 would have Az = 0, so Nz = AᵀPAz = 0: but test 5 makes N regular.
 use Prim.Native.Nat.{ℕ, zero, suc, _+_, _*_, _/_, _%_, _<_, _≤_}
 use mathlib.Core.Path.{_≡_, refl, sym, ap, ap₂, _∙_, subst}
 use mathlib.Core.Bool.{Bool, true, false, cond}
 use mathlib.Core.List.{List}
+use mathlib.Core.Logic.{_⊎_, inl, inr}
 use native.Mathlib.Decide.{decLt}
 use native.Mathlib.Omega.{arith}
 use lib.IntN.{ℤ, pos, _*ℤ_, *ℤ-zero, *ℤ-comm}
 use lib.Signed.{_≤ℤ_}
 use Rattle.integers.specs.Order.{≤ℤ-sub, pos-mono}
-use Rattle.integers.specs.Sums.{sum, sumN, sum-ext, sum-0, sum-*r, sum-swap, mat-assoc, sumN-ext}
+use Rattle.integers.specs.Sums.{sum, sumN, sum-ext, sum-0, sum-*r, sum-swap, mat-assoc, sumN-ext, sumN-0}
 use Rattle.integers.specs.Dependence.{Dependent, dependent-within}
+use Rattle.words.specs.Bools.{true-or-false}
 use Rattle.network.specs.Stations.{unknownCount}
 use Rattle.network.specs.Records.{acts, recordAt}
 use Rattle.network.specs.declared.Station.{Station}
 use Rattle.network.specs.declared.Place.{Place}
 use Rattle.network.specs.declared.Record.{Record}
 use Rattle.network.specs.declared.Record.the-variants.{Empty, Baseline as baseline, Height as height}
-use Rattle.normals.specs.Formulas.{entryN}
+use Rattle.normals.specs.Formulas.{A, entryN}
 use Rattle.normals.specs.Acting.{A-not-acting}
 use Rattle.normals.specs.WholeMatrices.{rowA, blockP, N-whole}
 use Rattle.acceptance.specs.Tests.{defectSmall}
 use Rattle.acceptance.specs.Kernel.{kernel}
-use Rattle.residuals.specs.Residuals.{observations, D}
+use Rattle.residuals.specs.Residuals.{inAdjustment, observations, shareD, D}
+use Rattle.residuals.specs.CheckOnly.{check-only}
 
 -- ════ a record's observations are the components it acts in
 abbrev observes : Record → ℕ → ℕ
@@ -34,9 +38,27 @@ observed Empty = refl
 observed (baseline b) = refl
 observed (height h) = refl
 
-not-observed : (b : Bool) → _≡_ {A = ℕ} (cond b 1 0) 0 → b ≡ false
-not-observed true e = absurd (omega arith)
-not-observed false e = refl
+module _ (st : List Station) (r : Record) where
+  -- those that count in D
+  abbrev counts : ℕ → ℕ
+  counts a = cond (inAdjustment st r) (observes r a) 0
+
+  share-is : sumN 3 counts ≡ shareD st r
+  unfolding shareD
+  share-is = go (inAdjustment st r)
+    where
+      go : (b : Bool) → sumN 3 (λ a. cond b (observes r a) 0) ≡ cond b (observations r) 0
+      go true = observed r
+      go false = sumN-0 3
+
+  -- the others have a row of A that is 0
+  not-counted : (a i : ℕ) → a < 3 → counts a ≡ 0 → A st r a i ≡ pos 0
+  not-counted a i h e = go (true-or-false (inAdjustment st r)) (true-or-false (acts a r))
+    where
+      go : (inAdjustment st r ≡ true) ⊎ (inAdjustment st r ≡ false) → (acts a r ≡ true) ⊎ (acts a r ≡ false) → A st r a i ≡ pos 0
+      go (inr out) q = check-only st r out .coefficients a h i
+      go (inl p) (inr q) = A-not-acting st r a i q
+      go (inl p) (inl q) = let one : _≡_ {A = ℕ} 1 0 = rw (p, q) at e in absurd (omega arith)
 
 -- a sum over rows, place by place
 sumN-blocks : (n : ℕ) (f : ℕ → ℕ → ℕ) → sumN (n * 3) (λ k. f (k / 3) (k % 3)) ≡ sumN n (λ p. sumN 3 (f p))
@@ -51,12 +73,12 @@ sumN-blocks (suc n) f =
     row a k e h = ap₂ f (omega arith) (omega arith)
 
 module _ (st : List Station) (places : List Place) where
-  -- row k of A is an observation's
+  -- 1 where row k of A is an observation's that counts
   abbrev counted : ℕ → ℕ
-  counted k = observes (recordAt places (k / 3)) (k % 3)
+  counted k = counts st (recordAt places (k / 3)) (k % 3)
 
-  all-counted : sumN 768 counted ≡ sumN 256 (λ p. observations (recordAt places p))
-  all-counted = sumN-blocks 256 (λ p a. observes (recordAt places p) a) ∙ sumN-ext 256 (λ p h. observed (recordAt places p))
+  all-counted : sumN 768 counted ≡ sumN 256 (λ p. shareD st (recordAt places p))
+  all-counted = sumN-blocks 256 (λ p a. counts st (recordAt places p) a) ∙ sumN-ext 256 (λ p h. share-is st (recordAt places p))
 
   -- Nz = AᵀP(Az)
   N-zero : (n : ℕ) (z : ℕ → ℤ) → ((k : ℕ) → k < 768 → sum n (λ j. rowA st places k j *ℤ z j) ≡ pos 0) → (i : ℕ) → sum n (λ j. entryN st places i j *ℤ z j) ≡ pos 0
@@ -77,14 +99,14 @@ module _ (st : List Station) (places : List Place) where
           ∙ sum-ext 768 (λ m q. sum-*r 768 (rowA st places m j) (λ k. rowA st places k i *ℤ blockP places k m))
 
   module _ (M : ℕ → ℕ → ℤ) (five : defectSmall (unknownCount st) (entryN st places) M ≡ true) where
-    pub observations-enough : unknownCount st ≤ sumN 256 (λ p. observations (recordAt places p))
-    observations-enough = go (decLt (sumN 256 (λ p. observations (recordAt places p))) n)
+    pub observations-enough : unknownCount st ≤ sumN 256 (λ p. shareD st (recordAt places p))
+    observations-enough = go (decLt (sumN 256 (λ p. shareD st (recordAt places p))) n)
       where
         n : ℕ
         n = unknownCount st
 
         some : sumN 768 counted < n → Dependent 768 n (λ i k. rowA st places k i)
-        some = dependent-within counted 768 n _ (λ k l e i. A-not-acting st (recordAt places (k / 3)) (k % 3) i (not-observed _ e))
+        some = dependent-within counted 768 n _ (λ k l e i. not-counted st (recordAt places (k / 3)) (k % 3) i (omega arith) e)
 
         never : Dependent 768 n (λ i k. rowA st places k i) → ⊥
         never d =
@@ -94,7 +116,7 @@ module _ (st : List Station) (places : List Place) where
             (d .some .index)
             (d .some .below))
 
-        go : Dec (sumN 256 (λ p. observations (recordAt places p)) < n) → n ≤ sumN 256 (λ p. observations (recordAt places p))
+        go : Dec (sumN 256 (λ p. shareD st (recordAt places p)) < n) → n ≤ sumN 256 (λ p. shareD st (recordAt places p))
         go (yes h) = absurd (never (some (subst (λ (s : ℕ). s < n) (sym all-counted) h)))
         go (no h) = omega arith
 

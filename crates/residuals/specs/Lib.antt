@@ -6,3 +6,4 @@ pub mod Verdicts
 pub mod VerdictLaws
 pub mod Held
 pub mod NotActing
+pub mod CheckOnly

@@ -92,7 +92,7 @@ pub fn write_sheet(net: Network, places: [Place; 256], x: &[i64], m: &[i64], she
     let stations = net.stations;
     let n = network::number_of(stations, 96);
     let t = totals::t_of(net, places, x);
-    let d = totals::freedom_of(counts.observations, n);
+    let d = totals::d_of(net, places);
     let first = count_line(counts.records, n);
     let last = global_line(t, d);
     let at = 2 + 7 * net.count;

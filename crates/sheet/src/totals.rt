@@ -1,24 +1,23 @@
-// What all records add up to: the counts, and T.
+// What all records add up to: the counts, T and D.
 use network::Network;
 use network::Place;
 use network::Record;
-use network::Station;
 ghost use mathlib.Core.Path.{_≡_};
-ghost use Prim.Native.Nat.{ℕ, _+_, _*_, _<_, _≤_};
-ghost use lib.IntN.{pos, natAbs, _*ℤ_};
+ghost use Prim.Native.Nat.{_+_, _*_, _<_, _≤_};
+ghost use lib.IntN.{pos, _*ℤ_};
 ghost use lib.ListN.{getD};
 ghost use Rattle.integers.specs.Sums.{sum};
 ghost use Rattle.integers.specs.Tables.{Within};
-ghost use Rattle.network.specs.Stations.{unknownCount};
+ghost use Rattle.network.specs.Records.{fromOf, toOf};
+ghost use Rattle.normals.specs.Sound.{Sound};
 ghost use Rattle.residuals.specs.Residuals.{isRecord, observations, T, D};
-ghost use Rattle.sheet.specs.Sheet.{wordsOf, room};
-ghost use Rattle.sheet.specs.Totals.{countsOf, freedom};
 ghost use Rattle.residuals.specs.Ranges.{Solved};
+ghost use Rattle.sheet.specs.Sheet.{wordsOf};
+ghost use Rattle.sheet.specs.Totals.{countsOf, freedom, inAdjustmentIn, shareDIn, shareTIn, Weighed};
 
-// Of all places: records, observed components, and words of their lines.
+// Of all places: records, and words of their lines.
 pub struct Counts {
     pub records: usize,
-    pub observations: usize,
     pub words: usize,
 }
 
@@ -28,16 +27,6 @@ fn is_record(r: Record) -> usize
     match r {
         Record::Empty => 0,
         Record::Baseline(_) => 1,
-        Record::Height(_) => 1,
-    }
-}
-
-fn observations_in(r: Record) -> usize
-    ensures { λ n. ⌜ n ≡ observations r ⌝ }
-{
-    match r {
-        Record::Empty => 0,
-        Record::Baseline(_) => 3,
         Record::Height(_) => 1,
     }
 }
@@ -56,32 +45,77 @@ pub fn counts_of(places: [Place; 256]) -> Counts
     ensures { λ r. ⌜ r ≡ countsOf places ⌝ }
 {
     let mut records = 0;
-    let mut observations = 0;
     let mut words = 0;
     let mut p = 0;
     while p < 256 {
         let e = places[p];
         let r = e.entry;
         records = records + is_record(r);
-        observations = observations + observations_in(r);
         words = words + words_in(r);
         p = p + 1;
     }
-    Counts {
-        records,
-        observations,
-        words,
+    Counts { records, words }
+}
+
+// Whether a record is in the adjustment: an end has an unknown in a component in which the record acts. It is enough to look at U, since every record acts in U and every station with
+// an unknown has one there.
+fn in_adjustment(unknown: &[i64; 96], r: Record) -> bool
+    requires { ⌜ (fromOf r < 32) × (toOf r < 32) ⌝ }
+    ensures { λ b. ⌜ b ≡ inAdjustmentIn (now (unknown .entry)) r ⌝ }
+{
+    let from = network::from_of(r) * 3 + 2;
+    let to = network::to_of(r) * 3 + 2;
+    (is_record(r) == 1) & (words::same(unknown[from], 1) | words::same(unknown[to], 1))
+}
+
+fn observations_in(r: Record) -> usize
+    ensures { λ n. ⌜ n ≡ observations r ⌝ }
+{
+    match r {
+        Record::Empty => 0,
+        Record::Baseline(_) => 3,
+        Record::Height(_) => 1,
     }
 }
 
+// What a record adds to D.
+fn share_of_d(unknown: &[i64; 96], r: Record) -> usize
+    requires { ⌜ (fromOf r < 32) × (toOf r < 32) ⌝ }
+    ensures { λ n. ⌜ n ≡ shareDIn (now (unknown .entry)) r ⌝ }
+{
+    if in_adjustment(unknown, r) {
+        return observations_in(r);
+    }
+    0
+}
+
 // The degrees of freedom of so many observed components and n unknowns.
-pub fn freedom_of(observed: usize, n: usize) -> i64
+fn freedom_of(observed: usize, n: usize) -> i64
     requires { ⌜ (observed ≤ 768) × (n ≤ 96) ⌝ }
     ensures { λ r. ⌜ r ≡ freedom observed n ⌝ }
 {
     let o = observed as i64;
     let u = n as i64;
     o - u
+}
+
+// D, the degrees of freedom.
+pub fn d_of(net: Network, places: [Place; 256]) -> i64
+    requires { ⌜ Sound net places ⌝ }
+    ensures { λ r. ⌜ r ≡ D (net .stations) places ⌝ }
+{
+    let stations = net.stations;
+    let n = network::number_of(stations, 96);
+    let unknown = network::unknowns_of(stations);
+    let mut observed = 0;
+    let mut p = 0;
+    while p < 256 {
+        let e = places[p];
+        let r = e.entry;
+        observed = observed + share_of_d(&unknown, r);
+        p = p + 1;
+    }
+    freedom_of(observed, n)
 }
 
 // A residual times the weighted residuals of its row.
@@ -96,7 +130,7 @@ fn weighted_row(v: [i64; 3], w: [i64; 9], a: usize) -> i64
     v[a] * (x + y + z)
 }
 
-// A record's share of T.
+// The weighted squares of a record's residuals.
 fn weighted_squares(v: [i64; 3], w: [i64; 9]) -> i64
     requires { ⌜ Within 3 300000 v × Within 9 10000 w ⌝ }
     ensures { λ r. ⌜ r ≡ sum 3 (λ a. sum 3 (λ b. getD v a (pos 0) *ℤ getD w (a * 3 + b) (pos 0) *ℤ getD v b (pos 0))) ⌝ }
@@ -107,12 +141,26 @@ fn weighted_squares(v: [i64; 3], w: [i64; 9]) -> i64
     x + y + z
 }
 
+// What a record adds to T.
+fn share_of_t(unknown: &[i64; 96], coordinate: &[i64; 96], correction: &[i64; 96], r: Record) -> i64
+    requires { ⌜ Weighed (now coordinate) (now correction) r ⌝ }
+    ensures { λ s. ⌜ s ≡ shareTIn (now (unknown .entry)) (now (coordinate .entry)) (now (correction .entry)) r ⌝ }
+{
+    if in_adjustment(unknown, r) {
+        let v = residuals::residuals_of(coordinate, correction, r);
+        let w = network::weights_of(r);
+        return weighted_squares(v, w);
+    }
+    0
+}
+
 // T, the weighted squares of the residuals.
 pub fn t_of(net: Network, places: [Place; 256], x: &[i64]) -> i64
     requires { ⌜ Solved net places (now x) ⌝ }
     ensures { λ r. ⌜ r ≡ T (net .stations) places (now (x .entry)) ⌝ }
 {
     let stations = net.stations;
+    let unknown = network::unknowns_of(stations);
     let coordinate = network::coordinates_of(stations);
     let correction = residuals::corrections_of(stations, x);
     let mut t: i64 = 0;
@@ -120,9 +168,7 @@ pub fn t_of(net: Network, places: [Place; 256], x: &[i64]) -> i64
     while p < 256 {
         let e = places[p];
         let r = e.entry;
-        let v = residuals::residuals_of(&coordinate, &correction, r);
-        let w = network::weights_of(r);
-        t = t + weighted_squares(v, w);
+        t = t + share_of_t(&unknown, &coordinate, &correction, r);
         p = p + 1;
     }
     t

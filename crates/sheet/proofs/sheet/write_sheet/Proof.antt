@@ -1,23 +1,22 @@
 use borrow.Author.Needs.{needs, sfits-of}
 use native.Mathlib.Omega.{arith}
-use Prim.Native.Nat.{ℕ, _+_, _*_, _≤_}
-use mathlib.Core.Path.{_≡_, refl, sym, ap, ap₂, _∙_}
+use Prim.Native.Nat.{ℕ, _+_, _*_}
+use mathlib.Core.Path.{_≡_, refl, ap, ap₂, _∙_}
 use mathlib.Core.List.{List, [], _∷_}
 use lib.ListN.{length}
-use lib.IntN.{ℤ, pos, _-ℤ_}
+use lib.IntN.{ℤ, pos}
 use mir.Syntax.{w64}
 use mir.ValLaws.{toZ-ofZ}
-use Rattle.network.specs.Stations.{unknownCount}
 use Rattle.network.specs.StationLaws.{number-small}
 use Rattle.network.specs.RuleLaws.{network-few}
-use Rattle.network.specs.Stored.{stored, back}
+use Rattle.network.specs.Stored.{stored}
 use Rattle.network.specs.declared.Station.{Station}
 use Rattle.network.specs.declared.Place.{Place}
 use Rattle.sheet.specs.declared.totals.Counts.{Counts}
 use Rattle.residuals.specs.Residuals.{recordCount, T, D}
 use Rattle.residuals.specs.Verdicts.{verdictWord, globalVerdict}
 use Rattle.sheet.specs.Sheet.{room, globalWords}
-use Rattle.sheet.specs.Totals.{countsOf, FewCounts, counts-few, T-size}
+use Rattle.sheet.specs.Totals.{countsOf, FewCounts, counts-few}
 use Rattle.sheet.specs.Written.{written}
 use Rattle.sheet.specs.SheetLaws.{sheet-written}
 use Rattle.sheet.proofs.sheet.write_sheet.Statement.{statement}
@@ -31,11 +30,6 @@ records c = ap (λ (k : Counts). k .records) (c .counts-of .ensures)
 words : (c : tie.After-counts-of) → c .counts-of .result .words ≡ Rattle.sheet.specs.Totals.wordCount (c .before .args .places)
 unfolding countsOf
 words c = ap (λ (k : Counts). k .words) (c .counts-of .ensures)
-
-freedom : (c : tie.After-counts-of) (n : ℕ) → n ≡ unknownCount (c .before .args .net .stations)
-    → pos (c .counts-of .result .observations) -ℤ pos n ≡ D (c .before .args .net .stations) (c .before .args .places)
-unfolding countsOf D
-freedom c n e = ap₂ (λ (k : Counts) (u : ℕ). pos (k .observations) -ℤ pos u) (c .counts-of .ensures) e
 
 global : (stations : List Station) (places : List Place) (x : List ℤ) (t d : ℤ) → stored t ≡ T stations places x → stored d ≡ D stations places
     → _≡_ {A = List ℤ} (stored t ∷ stored d ∷ verdictWord (globalVerdict (stored t) (stored d)) ∷ []) (globalWords stations places x)
@@ -51,8 +45,8 @@ number-of-requires c κs = search needs
 t-of-requires : tie.Need-t-of-requires
 t-of-requires c κs = search needs
 
-freedom-of-requires : tie.Need-freedom-of-requires
-freedom-of-requires c κs = let s = c .before .before .before .before in let w : FewCounts (c .before .before .before .counts-of .result) = rw (c .before .before .before .counts-of .ensures) (counts-few (s .args .places)) in (w .observed, rw (c .before .number-of .ensures) (number-small (s .args .net .stations) 96))
+d-of-requires : tie.Need-d-of-requires
+d-of-requires c κs = let g = c .before .before .before .before .pre .0 in record { network = g .moved .network; each = g .records }
 
 count-line-requires : tie.Need-count-line-requires
 count-line-requires c κs = let s = c .before .before .before .before .before in let w : FewCounts (c .before .before .before .before .counts-of .result) = rw (c .before .before .before .before .counts-of .ensures) (counts-few (s .args .places)) in (w .records, rw (c .before .before .number-of .ensures) (number-small (s .args .net .stations) 96))
@@ -98,7 +92,7 @@ same-length c = search needs
 
 returns : tie.Need-returns
 returns c =
-    let s = c .before .before .before .before .before .before .before .before .before .before .before .before .before .before .before .before .before .before .before .before .before .before .before in let k = c .before .before .before .before .before .before .before .before .before .before .before .before .before .before .before .before .before .before .before .before .before .before in let n = c .before .before .before .before .before .before .before .before .before .before .before .before .before .before .before .before .before .before .before .before .number-of in let t = c .before .before .before .before .before .before .before .before .before .before .before .before .before .before .before .before .before .before .before .t-of in let d = c .before .before .before .before .before .before .before .before .before .before .before .before .before .before .before .before .before .before .freedom-of in
+    let s = c .before .before .before .before .before .before .before .before .before .before .before .before .before .before .before .before .before .before .before .before .before .before .before in let k = c .before .before .before .before .before .before .before .before .before .before .before .before .before .before .before .before .before .before .before .before .before .before in let n = c .before .before .before .before .before .before .before .before .before .before .before .before .before .before .before .before .before .before .before .before .number-of in let t = c .before .before .before .before .before .before .before .before .before .before .before .before .before .before .before .before .before .before .before .t-of in let d = c .before .before .before .before .before .before .before .before .before .before .before .before .before .before .before .before .before .before .d-of in
     let at = 2 + 7 * s .args .net .count in
     sheet-written (s .args .net) (s .args .places) (s .args .x .now) (s .args .m .now) (s .args .sheet .now) (c .before .before .before .before .before .before .before .before .before .before .before .before .put-words .last .0) (c .before .before .before .before .before .before .before .before .before .put-stations .last .0) (c .before .before .before .before .before .before .put-records .last .0) (c .before .put-words2 .last .0)
     at (at + k .counts-of .result .words)
@@ -106,7 +100,7 @@ returns c =
     (c .before .before .before .before .before .before .before .before .before .put-stations .ensures) refl (c .before .before .before .before .before .before .put-records .ensures) (ap (λ (e : ℕ). at + e) (words k))
     (c .before .put-words2 .ensures ∙ ap (λ (w : List ℤ). written (c .before .before .before .before .before .before .put-records .last .0) (at + k .counts-of .result .words) w)
     (c .before .before .before .before .before .before .before .before .before .before .before .before .before .before .before .before .global-line .ensures ∙ global (s .args .net .stations) (s .args .places) (s .args .x .now) (t .result) (d .result) (toZ-ofZ w64 (t .result) (sfits-of (t .ok)) ∙ t .ensures)
-    (toZ-ofZ w64 (d .result) (sfits-of (d .ok)) ∙ d .ensures ∙ freedom k (n .result) (n .ensures))))
+    (toZ-ofZ w64 (d .result) (sfits-of (d .ok)) ∙ d .ensures)))
     (s .pre .2)
 
 pub write-sheet-spec : {M : Type 1} → statement M
@@ -116,7 +110,7 @@ write-sheet-spec =
     counts-of-requires
     number-of-requires
     t-of-requires
-    freedom-of-requires
+    d-of-requires
     count-line-requires
     global-line-requires
     mul-at

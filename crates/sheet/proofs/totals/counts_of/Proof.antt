@@ -1,19 +1,19 @@
 use borrow.Author.Needs.{needs}
 use native.Mathlib.Omega.{arith}
 use Prim.Native.Nat.{_-_, _≤_}
-use mathlib.Core.Path.{_≡_, subst}
+use mathlib.Core.Path.{_≡_}
 use lib.ListN.{length}
 use Rattle.network.specs.Filling.{length-mapped}
 use Rattle.network.specs.Records.{recordAt}
-use Rattle.sheet.specs.Totals.{record-one, observations-few, words-few, Counted, counted-none, counted-more, counted-few, counted-all}
+use Rattle.sheet.specs.Totals.{record-one, words-few, Counted, counted-none, counted-more, counted-few, counted-all}
 use Rattle.sheet.proofs.totals.counts_of.Statement.{statement}
 use Rattle.sheet.proofs.totals.counts_of.Tie as tie
 
 abbrev Inv-loop : tie.InvT-loop
-Inv-loop places records₀ observations₀ words₀ p₀ records observations words p = (p ≤ 256) × (length places ≡ 256) × Counted places records observations words p
+Inv-loop places records₀ words₀ p₀ records words p = (p ≤ 256) × (length places ≡ 256) × Counted places records words p
 
 abbrev μ-loop : tie.MeasureT-loop
-μ-loop places records₀ observations₀ words₀ p₀ records observations words p = 256 - p
+μ-loop places records₀ words₀ p₀ records words p = 256 - p
 
 loop-holds : tie.Need-loop-holds Inv-loop μ-loop
 loop-holds c = (search needs, search (needs, length-mapped), counted-none (c .args .t1))
@@ -30,17 +30,11 @@ is-record-requires c κs = search needs
 add-records : tie.Need-add-records Inv-loop μ-loop
 add-records c = let t = c .before .before .before in let f = counted-few (t .before .args .t1) (t .loop .inv .2) (t .loop .inv .0) in omega (arith, f, c .is-record .ensures, record-one (recordAt (t .before .args .t1) (t .loop .p)))
 
-observations-in-requires : tie.Need-observations-in-requires Inv-loop μ-loop
-observations-in-requires c κs = search needs
-
-add-observations : tie.Need-add-observations Inv-loop μ-loop
-add-observations c = let t = c .before .before .before .before in let f = counted-few (t .before .args .t1) (t .loop .inv .2) (t .loop .inv .0) in omega (arith, f, c .observations-in .ensures, observations-few (recordAt (t .before .args .t1) (t .loop .p)))
-
 words-in-requires : tie.Need-words-in-requires Inv-loop μ-loop
 words-in-requires c κs = search needs
 
 add-words : tie.Need-add-words Inv-loop μ-loop
-add-words c = let t = c .before .before .before .before .before in let f = counted-few (t .before .args .t1) (t .loop .inv .2) (t .loop .inv .0) in omega (arith, f, c .words-in .ensures, words-few (recordAt (t .before .args .t1) (t .loop .p)))
+add-words c = let t = c .before .before .before .before in let f = counted-few (t .before .args .t1) (t .loop .inv .2) (t .loop .inv .0) in omega (arith, f, c .words-in .ensures, words-few (recordAt (t .before .args .t1) (t .loop .p)))
 
 add-p : tie.Need-add-p Inv-loop μ-loop
 add-p c = search needs
@@ -50,8 +44,8 @@ loop-less c = search needs
 
 loop-again : tie.Need-loop-again Inv-loop μ-loop
 loop-again c =
-    let t = c .before .before .before .before .before in
-    (search needs, t .loop .inv .1, counted-more (t .before .args .t1) (t .loop .inv .2) (c .before .before .is-record .ensures) (c .before .observations-in .ensures) (c .words-in .ensures))
+    let t = c .before .before .before .before in
+    (search needs, t .loop .inv .1, counted-more (t .before .args .t1) (t .loop .inv .2) (c .before .is-record .ensures) (c .words-in .ensures))
 
 returns : tie.Need-returns Inv-loop μ-loop
 returns c =
@@ -69,8 +63,6 @@ counts-of-spec =
     array-copy-out-e
     is-record-requires
     add-records
-    observations-in-requires
-    add-observations
     words-in-requires
     add-words
     add-p

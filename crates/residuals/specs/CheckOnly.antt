@@ -1,0 +1,155 @@
+-- A record that is not in the adjustment is a check only (document 02, request 2): its rows of A are 0, so it adds nothing to N and u, and its residuals are its misclosures at every x.
+-- It is one exactly where its rows of A are 0. Assumes nothing.
+use Prim.Native.Nat.{ℕ, zero, suc, _+_, _*_, _<_}
+use mathlib.Core.Path.{_≡_, refl, sym, ap, ap₂, _∙_}
+use mathlib.Core.Bool.{Bool, true, false, _&&_, _||_}
+use mathlib.Core.List.{List, [], _∷_}
+use mathlib.Core.Logic.{_⊎_, inl, inr}
+use native.Mathlib.Omega.{arith}
+use borrow.Author.Tests.{eqb-false, ne-eqb}
+use lib.Dec.{eqb}
+use lib.ListN.{getD}
+use lib.IntN.{ℤ, pos, natAbs, _-ℤ_, _*ℤ_, *ℤ-zero, zero-*ℤ}
+use Rattle.integers.specs.Solvers.{ring, shapes}
+use Rattle.integers.specs.Sums.{sum, sum-ext, sum-0, δ, δ-same, δ-other}
+use Rattle.words.specs.Bools.{clash, true-or-false, and-no-left, and-no-right}
+use Rattle.network.specs.Stations.{unknown, number, unknownCount}
+use Rattle.network.specs.StationLaws.{bit-cases, number-below, number-apart}
+use Rattle.network.specs.Records.{acts, fromOf, toOf, joins, l}
+use Rattle.network.specs.RuleLaws.{SoundRecord}
+use Rattle.network.specs.declared.Station.{Station}
+use Rattle.network.specs.declared.Record.{Record}
+use Rattle.network.specs.declared.Record.the-variants.{Empty, Baseline as baseline, Height as height}
+use Rattle.normals.specs.Formulas.{A, P, isUnknown, shareN, shareU}
+use Rattle.normals.specs.Acting.{A-acting, A-not-acting}
+use Rattle.residuals.specs.Residuals.{residual, unknownAtEnd, inAdjustment}
+
+pub record CheckOnly (st : List Station) (r : Record) : Type 0 where
+  pub coefficients : (a : ℕ) → a < 3 → (i : ℕ) → A st r a i ≡ pos 0
+  -- its share in N and u
+  pub matrix : (i j : ℕ) → shareN st r i j ≡ pos 0
+  pub right : (i : ℕ) → shareU st r i ≡ pos 0
+  -- no correction changes its residuals
+  pub residuals : (x : List ℤ) (a : ℕ) → a < 3 → residual st x r a ≡ l st r a
+
+one-not-zero : pos 1 ≡ pos 0 → ⊥
+one-not-zero e = let h : _≡_ {A = ℕ} 1 0 = ap natAbs e in omega arith
+
+-- a record that acts has two ends
+joins-acting : (r : Record) (a : ℕ) → acts a r ≡ true → joins r ≡ pos 1
+unfolding acts joins
+joins-acting Empty a e = clash e refl
+joins-acting (baseline b) a e = refl
+joins-acting (height h) a e = refl
+
+neither : (a b : Bool) → a || b ≡ false → (a ≡ false) × (b ≡ false)
+neither true b e = clash refl e
+neither false b e = (refl, e)
+
+none : (a b c : Bool) → a || b || c ≡ false → (a ≡ false) × (b ≡ false) × (c ≡ false)
+none a b c e = let p = neither (a || b) c e in let q = neither a b (p .0) in (q .0, q .1, p .1)
+
+-- a product with 0 in front
+no-product : (w z : ℤ) → pos 0 *ℤ w *ℤ z ≡ pos 0
+no-product w z = ring (w ∷ z ∷ []) (search shapes) tt
+
+no-products : (y w z : ℕ → ℕ → ℤ) → ((a b : ℕ) → a < 3 → y a b ≡ pos 0) → sum 3 (λ a. sum 3 (λ b. y a b *ℤ w a b *ℤ z a b)) ≡ pos 0
+no-products y w z e = sum-ext 3 (λ a h. sum-ext 3 (λ b k. ap (λ (v : ℤ). v *ℤ w a b *ℤ z a b) (e a b h) ∙ no-product (w a b) (z a b)) ∙ sum-0 3) ∙ sum-0 3
+
+module _ (st : List Station) (r : Record) where
+  -- ════ a record that is not in the adjustment
+  not-unknown : (q i : ℕ) → eqb (unknown st q) 1 ≡ false → isUnknown st q i ≡ pos 0
+  unfolding isUnknown
+  not-unknown q i e = go (bit-cases st q)
+    where
+      go : (unknown st q ≡ 0) ⊎ (unknown st q ≡ 1) → pos (unknown st q) *ℤ δ (number st q) i ≡ pos 0
+      go (inl u) = rw u (zero-*ℤ (δ (number st q) i))
+      go (inr u) = absurd (eqb-false (unknown st q) 1 e u)
+
+  ends-held : (a i : ℕ) → acts a r ≡ true → unknownAtEnd st r a ≡ false → A st r a i ≡ pos 0
+  unfolding unknownAtEnd
+  ends-held a i e n =
+      let both = neither _ _ (rw e at n) in
+      A-acting st r a i e
+      ∙ ap₂ (λ (t f : ℤ). t -ℤ joins r *ℤ f) (not-unknown (toOf r * 3 + a) i (both .1)) (not-unknown (fromOf r * 3 + a) i (both .0))
+      ∙ ring (joins r ∷ []) (search shapes) tt
+
+  row-zero : (a i : ℕ) → unknownAtEnd st r a ≡ false → A st r a i ≡ pos 0
+  row-zero a i n = go (true-or-false (acts a r))
+    where
+      go : (acts a r ≡ true) ⊎ (acts a r ≡ false) → A st r a i ≡ pos 0
+      go (inl e) = ends-held a i e n
+      go (inr e) = A-not-acting st r a i e
+
+  nowhere : inAdjustment st r ≡ false → (a : ℕ) → a < 3 → unknownAtEnd st r a ≡ false
+  unfolding inAdjustment
+  nowhere out zero h = none (unknownAtEnd st r 0) (unknownAtEnd st r 1) (unknownAtEnd st r 2) out .0
+  nowhere out (suc zero) h = none (unknownAtEnd st r 0) (unknownAtEnd st r 1) (unknownAtEnd st r 2) out .1
+  nowhere out (suc (suc zero)) h = none (unknownAtEnd st r 0) (unknownAtEnd st r 1) (unknownAtEnd st r 2) out .2
+  nowhere out (suc (suc (suc a))) h = absurd (omega arith)
+
+  pub check-only : inAdjustment st r ≡ false → CheckOnly st r
+  unfolding shareN shareU residual
+  check-only out =
+      record {
+        coefficients = zeros;
+        matrix = λ i j. no-products (λ a b. A st r a i) (P r) (λ a b. A st r b j) (λ a b h. zeros a h i);
+        right = λ i. no-products (λ a b. A st r a i) (P r) (λ a b. l st r b) (λ a b h. zeros a h i);
+        residuals = λ x a h.
+            ap (λ (z : ℤ). l st r a -ℤ z) (sum-ext (unknownCount st) (λ i o. ap (λ (z : ℤ). z *ℤ getD x i (pos 0)) (zeros a h i) ∙ zero-*ℤ (getD x i (pos 0))) ∙ sum-0 (unknownCount st))
+            ∙ ring (l st r a ∷ []) (search shapes) tt;
+      }
+    where
+      zeros : (a : ℕ) → a < 3 → (i : ℕ) → A st r a i ≡ pos 0
+      zeros a h i = row-zero a i (nowhere out a h)
+
+  -- ════ a record by the rules whose rows of A are 0: at an unknown end its row has +1 or −1
+  module _ (g : SoundRecord st r) (zeros : (a : ℕ) → a < 3 → (i : ℕ) → i < unknownCount st → A st r a i ≡ pos 0) where
+    -- 1 at the unknown q, 0 at another component
+    at-self : (q : ℕ) → unknown st q ≡ 1 → isUnknown st q (number st q) ≡ pos 1
+    unfolding isUnknown
+    at-self q u = rw u (ap (λ (z : ℤ). pos 1 *ℤ z) (δ-same (number st q)))
+
+    at-other : (p q : ℕ) → (p ≡ q → ⊥) → unknown st q ≡ 1 → isUnknown st p (number st q) ≡ pos 0
+    unfolding isUnknown
+    at-other p q ne u = go (bit-cases st p)
+      where
+        go : (unknown st p ≡ 0) ⊎ (unknown st p ≡ 1) → pos (unknown st p) *ℤ δ (number st p) (number st q) ≡ pos 0
+        go (inl v) = rw v (zero-*ℤ (δ (number st p) (number st q)))
+        go (inr v) = ap (λ (z : ℤ). pos (unknown st p) *ℤ z) (δ-other (number st p) (number st q) (number-apart st p q ne v u)) ∙ *ℤ-zero (pos (unknown st p))
+
+    module _ (a : ℕ) (h : a < 3) (e : acts a r ≡ true) where
+      apart : fromOf r * 3 + a ≡ toOf r * 3 + a → ⊥
+      apart q = go (g .apart)
+        where
+          go : (joins r ≡ pos 0) ⊎ (fromOf r ≡ toOf r → ⊥) → ⊥
+          go (inl j) = one-not-zero (sym (joins-acting r a e) ∙ j)
+          go (inr ne) = ne (omega arith)
+
+      -- row a of A at the unknown i, from what stands at the two ends
+      row-at : (i : ℕ) (t f : ℤ) → isUnknown st (toOf r * 3 + a) i ≡ t → isUnknown st (fromOf r * 3 + a) i ≡ f → A st r a i ≡ t -ℤ pos 1 *ℤ f
+      row-at i t f p q = A-acting st r a i e ∙ rw (p, q, joins-acting r a e)
+
+      to-held : eqb (unknown st (toOf r * 3 + a)) 1 ≡ false
+      to-held = ne-eqb _ 1 (λ u.
+          one-not-zero
+          (sym (row-at (number st (toOf r * 3 + a)) (pos 1) (pos 0) (at-self _ u) (at-other _ _ apart u))
+          ∙ zeros a h (number st (toOf r * 3 + a)) (let b = g .to in number-below st (toOf r * 3 + a) 96 (omega arith) u)))
+
+      from-held : eqb (unknown st (fromOf r * 3 + a)) 1 ≡ false
+      from-held = ne-eqb _ 1 (λ u.
+          one-not-zero
+          (ap (λ (z : ℤ). pos 0 -ℤ z) (sym (row-at (number st (fromOf r * 3 + a)) (pos 0) (pos 1) (at-other _ _ (λ q. apart (sym q)) u) (at-self _ u))
+          ∙ zeros a h (number st (fromOf r * 3 + a)) (let b = g .from in number-below st (fromOf r * 3 + a) 96 (omega arith) u))))
+
+    no-end : (a : ℕ) → a < 3 → unknownAtEnd st r a ≡ false
+    unfolding unknownAtEnd
+    no-end a h = go (true-or-false (acts a r))
+      where
+        go : (acts a r ≡ true) ⊎ (acts a r ≡ false) → acts a r && (eqb (unknown st (fromOf r * 3 + a)) 1 || eqb (unknown st (toOf r * 3 + a)) 1) ≡ false
+        go (inl e) = and-no-right (acts a r) _ (rw (from-held a h e, to-held a h e) refl)
+        go (inr e) = and-no-left (acts a r) _ e
+
+    pub rows-zero : inAdjustment st r ≡ false
+    unfolding inAdjustment
+    rows-zero = rw (no-end 0 (omega arith), no-end 1 (omega arith), no-end 2 (omega arith)) refl
