@@ -5,3 +5,4 @@ pub mod InverseWeights
 pub mod ExactVariance
 pub mod Demand2
 pub mod Demand2Holds
+pub mod SameSolutions

@@ -1,5 +1,5 @@
--- A record that is not in the adjustment is a check only (document 02, request 2): its rows of A are 0, so it adds nothing to N and u, and its residuals are its misclosures at every x.
--- It is one exactly where its rows of A are 0. Assumes nothing.
+-- A record that is not in the adjustment is a check only (document 02, request 2): "its ends have no unknown in any component it acts on". So its rows of A are 0, its share in N and u is 0,
+-- and its residuals are its misclosures at every x. A record by the rules whose rows of A are 0 is one. Assumes nothing.
 use Prim.Native.Nat.{ℕ, zero, suc, _+_, _*_, _<_}
 use mathlib.Core.Path.{_≡_, refl, sym, ap, ap₂, _∙_}
 use mathlib.Core.Bool.{Bool, true, false, _&&_, _||_}
@@ -25,6 +25,7 @@ use Rattle.normals.specs.Acting.{A-acting, A-not-acting}
 use Rattle.residuals.specs.Residuals.{residual, unknownAtEnd, inAdjustment}
 
 pub record CheckOnly (st : List Station) (r : Record) : Type 0 where
+  pub ends : (a : ℕ) → a < 3 → acts a r ≡ true → (unknown st (fromOf r * 3 + a) ≡ 0) × (unknown st (toOf r * 3 + a) ≡ 0)
   pub coefficients : (a : ℕ) → a < 3 → (i : ℕ) → A st r a i ≡ pos 0
   -- its share in N and u
   pub matrix : (i j : ℕ) → shareN st r i j ≡ pos 0
@@ -58,27 +59,30 @@ no-products y w z e = sum-ext 3 (λ a h. sum-ext 3 (λ b k. ap (λ (v : ℤ). v 
 
 module _ (st : List Station) (r : Record) where
   -- ════ a record that is not in the adjustment
-  not-unknown : (q i : ℕ) → eqb (unknown st q) 1 ≡ false → isUnknown st q i ≡ pos 0
-  unfolding isUnknown
-  not-unknown q i e = go (bit-cases st q)
+  held : (q : ℕ) → eqb (unknown st q) 1 ≡ false → unknown st q ≡ 0
+  held q e = go (bit-cases st q)
     where
-      go : (unknown st q ≡ 0) ⊎ (unknown st q ≡ 1) → pos (unknown st q) *ℤ δ (number st q) i ≡ pos 0
-      go (inl u) = rw u (zero-*ℤ (δ (number st q) i))
+      go : (unknown st q ≡ 0) ⊎ (unknown st q ≡ 1) → unknown st q ≡ 0
+      go (inl u) = u
       go (inr u) = absurd (eqb-false (unknown st q) 1 e u)
 
-  ends-held : (a i : ℕ) → acts a r ≡ true → unknownAtEnd st r a ≡ false → A st r a i ≡ pos 0
+  ends-held : (a : ℕ) → acts a r ≡ true → unknownAtEnd st r a ≡ false → (unknown st (fromOf r * 3 + a) ≡ 0) × (unknown st (toOf r * 3 + a) ≡ 0)
   unfolding unknownAtEnd
-  ends-held a i e n =
-      let both = neither _ _ (rw e at n) in
-      A-acting st r a i e
-      ∙ ap₂ (λ (t f : ℤ). t -ℤ joins r *ℤ f) (not-unknown (toOf r * 3 + a) i (both .1)) (not-unknown (fromOf r * 3 + a) i (both .0))
-      ∙ ring (joins r ∷ []) (search shapes) tt
+  ends-held a e n = let both = neither _ _ (rw e at n) in (held _ (both .0), held _ (both .1))
+
+  no-unknown : (q i : ℕ) → unknown st q ≡ 0 → isUnknown st q i ≡ pos 0
+  unfolding isUnknown
+  no-unknown q i u = rw u (zero-*ℤ (δ (number st q) i))
 
   row-zero : (a i : ℕ) → unknownAtEnd st r a ≡ false → A st r a i ≡ pos 0
   row-zero a i n = go (true-or-false (acts a r))
     where
       go : (acts a r ≡ true) ⊎ (acts a r ≡ false) → A st r a i ≡ pos 0
-      go (inl e) = ends-held a i e n
+      go (inl e) =
+          let u = ends-held a e n in
+          A-acting st r a i e
+          ∙ ap₂ (λ (t f : ℤ). t -ℤ joins r *ℤ f) (no-unknown (toOf r * 3 + a) i (u .1)) (no-unknown (fromOf r * 3 + a) i (u .0))
+          ∙ ring (joins r ∷ []) (search shapes) tt
       go (inr e) = A-not-acting st r a i e
 
   nowhere : inAdjustment st r ≡ false → (a : ℕ) → a < 3 → unknownAtEnd st r a ≡ false
@@ -92,6 +96,7 @@ module _ (st : List Station) (r : Record) where
   unfolding shareN shareU residual
   check-only out =
       record {
+        ends = λ a h e. ends-held a e (nowhere out a h);
         coefficients = zeros;
         matrix = λ i j. no-products (λ a b. A st r a i) (P r) (λ a b. A st r b j) (λ a b h. zeros a h i);
         right = λ i. no-products (λ a b. A st r a i) (P r) (λ a b. l st r b) (λ a b h. zeros a h i);

@@ -1,0 +1,171 @@
+-- A record that is a check only (document 02, request 2) changes no solution: two books over one station list with the same records in the adjustment have the same N and u, the check
+-- answers every pair alike, and the sheet's last line is the same. The rest of a sheet is the count of records, the stations' lines, which read no record, and each record's own line. Assumes nothing.
+use Prim.Native.Nat.{ℕ, _+_, _/_, _%_, _<_, _≤_, _^_}
+use mathlib.Core.Path.{_≡_, refl, sym, ap, ap₂, _∙_, fun-ext, subst}
+use mathlib.Core.Bool.{Bool, true, false, cond, _&&_}
+use mathlib.Core.List.{List, [], _∷_}
+use mathlib.Core.Logic.{_⊎_, inl, inr}
+use native.Mathlib.Omega.{arith}
+use lib.Dec.{eqb, leb}
+use lib.IntN.{ℤ, pos, natAbs, _-ℤ_}
+use Rattle.integers.specs.Sums.{sum, sum-ext, sumN-ext}
+use Rattle.words.specs.Bools.{clash, same-test}
+use Rattle.network.specs.All.{allBelow}
+use Rattle.network.specs.Stations.{unknown, number, unknownCount}
+use Rattle.network.specs.Records.{acts, fromOf, toOf, recordAt}
+use Rattle.network.specs.Rules.{recordFits}
+use Rattle.network.specs.RuleLaws.{network-few, in-list, ends, baseline-fits, height-fits}
+use Rattle.network.specs.declared.Network.{Network}
+use Rattle.network.specs.declared.Place.{Place}
+use Rattle.network.specs.declared.Record.{Record}
+use Rattle.network.specs.declared.Record.the-variants.{Empty, Baseline as baseline, Height as height}
+use Rattle.normals.specs.Formulas.{shareN, shareU, entryN, entryU, entriesFit}
+use Rattle.normals.specs.Sound.{Sound}
+use Rattle.chains.specs.Bits.{bit}
+use Rattle.chains.specs.Scans.{firstFailing}
+use Rattle.chains.specs.Chains.{Tied, held, along, back, tiedSet, isTied, allTied, firstUntied}
+use Rattle.chains.specs.ChainLaws.{tied-sound, tied-whole}
+use Rattle.acceptance.specs.Tests.{lengthsFit}
+use Rattle.acceptance.specs.Judge.{judge, judgeNumbers, unless}
+use Rattle.acceptance.specs.declared.Refusal.the-variants.{Lengths, Untied}
+use Rattle.acceptance.specs.Exactly.{answer, fit-of}
+use Rattle.book.specs.declared.Book.{Book}
+use Rattle.book.specs.Book.{sound}
+use Rattle.residuals.specs.Residuals.{inAdjustment, shareT, T, shareD, D}
+use Rattle.residuals.specs.CheckOnly.{check-only}
+use Rattle.residuals.specs.Verdicts.{verdictWord, globalVerdict}
+use Rattle.sheet.specs.Sheet.{globalWords}
+use Rattle.checks.specs.Checks.{sizesFit, thenNine, checked}
+use Rattle.checks.specs.CheckLaws.{rules}
+
+-- ════ the same records in the adjustment: at each place the same record, or none that is in it
+abbrev SameAt : Network → Record → Record → Type 0
+SameAt net r s = (r ≡ s) ⊎ ((inAdjustment (net .stations) r ≡ false) × (inAdjustment (net .stations) s ≡ false))
+
+abbrev pub SameAdjustment : Network → List Place → List Place → Type 0
+SameAdjustment net places others = (p : ℕ) → p < 256 → SameAt net (recordAt places p) (recordAt others p)
+
+flipped : (net : Network) {r s : Record} → SameAt net r s → SameAt net s r
+flipped net (inl e) = inl (sym e)
+flipped net (inr e) = inr (e .1, e .0)
+
+-- the ends of an acting record are in the list
+ends-listed : (net : Network) (few : net .count ≤ 32) (r : Record) (c : ℕ) → recordFits net r ≡ true → acts c r ≡ true → (fromOf r < net .count) × (toOf r < net .count)
+unfolding acts fromOf toOf
+ends-listed net few Empty c e a = clash a refl
+ends-listed net few (baseline b) c e a =
+    let i = ends (net .count) (b .from) (b .to) few (baseline-fits net b e .ends) in (in-list (net .count) (b .from) few (i .0), in-list (net .count) (b .to) few (i .1 .0))
+ends-listed net few (height h) c e a =
+    let i = ends (net .count) (h .from) (h .to) few (height-fits net h e .ends) in (in-list (net .count) (h .from) few (i .0), in-list (net .count) (h .to) few (i .1 .0))
+
+-- ════ a chain over one list is one over the other: where it goes along a check only, it has met a held station already
+module _ (net : Network) (places others : List Place) (g : Sound net places) (same : SameAdjustment net places others) (c : ℕ) (low : c < 3) where
+  ends-end : (p : ℕ) → p < 256 → acts c (recordAt places p) ≡ true → inAdjustment (net .stations) (recordAt places p) ≡ false
+      → Tied net others c (fromOf (recordAt places p)) × Tied net others c (toOf (recordAt places p))
+  ends-end p h a out =
+      let l = ends-listed net (network-few net (g .network)) (recordAt places p) c (g .each p h) a in
+      let u = check-only (net .stations) (recordAt places p) out .ends c low a in
+      (held (l .0) (u .0), held (l .1) (u .1))
+
+  tied-too : {s : ℕ} → Tied net places c s → Tied net others c s
+  tied-too (held l u) = held l u
+  tied-too (along {s = s} {t = t} {p = p} h a f e j) = go (tied-too j) (same p h)
+    where
+      go : Tied net others c s → SameAt net (recordAt places p) (recordAt others p) → Tied net others c t
+      go i (inl q) = along h (ap (acts c) (sym q) ∙ a) (ap fromOf (sym q) ∙ f) (ap toOf (sym q) ∙ e) i
+      go i (inr o) = rw e at (ends-end p h a (o .0) .1)
+  tied-too (back {s = s} {t = t} {p = p} h a f e j) = go (tied-too j) (same p h)
+    where
+      go : Tied net others c t → SameAt net (recordAt places p) (recordAt others p) → Tied net others c s
+      go i (inl q) = back h (ap (acts c) (sym q) ∙ a) (ap fromOf (sym q) ∙ f) (ap toOf (sym q) ∙ e) i
+      go i (inr o) = rw f at (ends-end p h a (o .0) .0)
+
+module _ (net : Network) (places others : List Place) (g : Sound net places) (k : Sound net others) (same : SameAdjustment net places others) where
+  same-set : (c s : ℕ) → c < 3 → bit (tiedSet net places c) s ≡ bit (tiedSet net others c) s
+  same-set c s h =
+      same-test _ _
+      (λ e. tied-whole net others c (fit-of net others k .ends) s (tied-too net places others g same c h (tied-sound net places c (fit-of net places g .ends) s e)))
+      (λ e. tied-whole net places c (fit-of net places g .ends) s (tied-too net others places k (λ p l. flipped net (same p l)) c h (tied-sound net others c (fit-of net others k .ends) s e)))
+
+  same-tied : isTied net places ≡ isTied net others
+  unfolding isTied
+  same-tied = fun-ext (λ q. ap (cond (eqb (unknown (net .stations) q) 0) true) (same-set (q % 3) (q / 3) (omega arith)))
+
+  -- ════ sums of what a check only adds 0 to
+  same-sum : (f : Record → ℤ) → ((r : Record) → inAdjustment (net .stations) r ≡ false → f r ≡ pos 0) → sum 256 (λ p. f (recordAt places p)) ≡ sum 256 (λ p. f (recordAt others p))
+  same-sum f z = sum-ext 256 (λ p h. go p (same p h))
+    where
+      go : (p : ℕ) → SameAt net (recordAt places p) (recordAt others p) → f (recordAt places p) ≡ f (recordAt others p)
+      go p (inl e) = ap f e
+      go p (inr o) = z _ (o .0) ∙ sym (z _ (o .1))
+
+  pub same-N : (i j : ℕ) → entryN (net .stations) places i j ≡ entryN (net .stations) others i j
+  unfolding entryN
+  same-N i j = same-sum (λ r. shareN (net .stations) r i j) (λ r o. check-only (net .stations) r o .matrix i j)
+
+  pub same-u : (i : ℕ) → entryU (net .stations) places i ≡ entryU (net .stations) others i
+  unfolding entryU
+  same-u i = same-sum (λ r. shareU (net .stations) r i) (λ r o. check-only (net .stations) r o .right i)
+
+  pub same-T : (x : List ℤ) → T (net .stations) places x ≡ T (net .stations) others x
+  unfolding T shareT
+  same-T x = same-sum (shareT (net .stations) x) (λ r o. rw o refl)
+
+  no-share : (r : Record) → inAdjustment (net .stations) r ≡ false → shareD (net .stations) r ≡ 0
+  unfolding shareD
+  no-share r o = rw o refl
+
+  pub same-D : D (net .stations) places ≡ D (net .stations) others
+  unfolding D
+  same-D = ap (λ (k : ℕ). pos k -ℤ pos (unknownCount (net .stations))) (sumN-ext 256 (λ p h. go p (same p h)))
+    where
+      go : (p : ℕ) → SameAt net (recordAt places p) (recordAt others p) → shareD (net .stations) (recordAt places p) ≡ shareD (net .stations) (recordAt others p)
+      go p (inl e) = ap (shareD (net .stations)) e
+      go p (inr o) = no-share _ (o .0) ∙ sym (no-share _ (o .1))
+
+  -- ════ so every test of a check, and the last line of the sheet
+  same-answer : (x m : List ℤ) (room : Bool) → answer net places x m room ≡ answer net others x m room
+  unfolding answer judge allTied firstUntied
+  same-answer x m room =
+      ap₂ (λ (N : ℕ → ℕ → ℤ) (u : ℕ → ℤ). judge net places N u x m room) (fun-ext (λ i. fun-ext (λ j. same-N i j))) (fun-ext same-u)
+      ∙ ap (λ (t : ℕ → Bool). unless (lengthsFit (unknownCount (net .stations)) x m room) Lengths
+      (unless (allBelow 96 t) (Untied (number (net .stations) (firstFailing 96 t) + 1)) (judgeNumbers (unknownCount (net .stations)) (entryN (net .stations) others) (entryU (net .stations) others) x m))) same-tied
+
+  same-sizes : (x : List ℤ) → sizesFit net places x ≡ sizesFit net others x
+  unfolding sizesFit entriesFit
+  same-sizes x =
+      ap₂ (λ (f : (ℕ → ℕ → ℤ) × (ℕ → ℤ)) (t : ℤ). allBelow 48 (λ i. allBelow 48 (λ j. leb (natAbs (f .0 i j)) (2 ^ 62)) && leb (natAbs (f .1 i)) (2 ^ 62)) && leb (natAbs t) (2 ^ 62))
+      (ap₂ (λ (N : ℕ → ℕ → ℤ) (u : ℕ → ℤ). (N, u)) (fun-ext (λ i. fun-ext (λ j. same-N i j))) (fun-ext same-u)) (same-T x)
+
+  same-checked : (x m : List ℤ) (room : Bool) → thenNine (answer net places x m room) (sizesFit net places x) ≡ thenNine (answer net others x m room) (sizesFit net others x)
+  same-checked x m room = ap₂ thenNine (same-answer x m room) (same-sizes x)
+
+  same-global : (x : List ℤ) → globalWords (net .stations) places x ≡ globalWords (net .stations) others x
+  unfolding globalWords
+  same-global x = ap₂ (λ (t d : ℤ). t ∷ d ∷ verdictWord (globalVerdict t d) ∷ []) (same-T x) same-D
+
+-- ════ two books over one station list with the same records in the adjustment
+pub record SameSolutions (b c : Book) : Type 0 where
+  pub matrix : (i j : ℕ) → entryN (b .network .stations) (b .places) i j ≡ entryN (c .network .stations) (c .places) i j
+  pub right : (i : ℕ) → entryU (b .network .stations) (b .places) i ≡ entryU (c .network .stations) (c .places) i
+  pub answers : (x m : List ℤ) (fits : Bool) → checked b x m fits ≡ checked c x m fits
+  pub global : (x : List ℤ) → globalWords (b .network .stations) (b .places) x ≡ globalWords (c .network .stations) (c .places) x
+
+pub same-solutions : (b c : Book) → sound b ≡ true → sound c ≡ true → b .network ≡ c .network → SameAdjustment (b .network) (b .places) (c .places) → SameSolutions b c
+unfolding checked
+same-solutions b c p q e same =
+    record {
+      matrix = λ i j. same-N net (b .places) (c .places) g k same i j ∙ ap (λ (n : Network). entryN (n .stations) (c .places) i j) e;
+      right = λ i. same-u net (b .places) (c .places) g k same i ∙ ap (λ (n : Network). entryU (n .stations) (c .places) i) e;
+      answers = λ x m fits. same-checked net (b .places) (c .places) g k same x m fits ∙ ap (λ (n : Network). thenNine (answer n (c .places) x m fits) (sizesFit n (c .places) x)) e;
+      global = λ x. same-global net (b .places) (c .places) g k same x ∙ ap (λ (n : Network). globalWords (n .stations) (c .places) x) e;
+    }
+  where
+    net : Network
+    net = b .network
+
+    g : Sound net (b .places)
+    g = rules b p
+
+    k : Sound net (c .places)
+    k = subst (λ (n : Network). Sound n (c .places)) (sym e) (rules c q)
