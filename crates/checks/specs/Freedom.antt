@@ -39,11 +39,11 @@ observed (baseline b) = refl
 observed (height h) = refl
 
 module _ (st : List Station) (r : Record) where
-  -- those that count in D
-  abbrev counts : ℕ → ℕ
-  counts a = cond (inAdjustment st r) (observes r a) 0
+  -- 1 where component a adds to D
+  abbrev adds : ℕ → ℕ
+  adds a = cond (inAdjustment st r) (observes r a) 0
 
-  share-is : sumN 3 counts ≡ shareD st r
+  share-is : sumN 3 adds ≡ shareD st r
   unfolding shareD
   share-is = go (inAdjustment st r)
     where
@@ -52,7 +52,7 @@ module _ (st : List Station) (r : Record) where
       go false = sumN-0 3
 
   -- the others have a row of A that is 0
-  not-counted : (a i : ℕ) → a < 3 → counts a ≡ 0 → A st r a i ≡ pos 0
+  not-counted : (a i : ℕ) → a < 3 → adds a ≡ 0 → A st r a i ≡ pos 0
   not-counted a i h e = go (true-or-false (inAdjustment st r)) (true-or-false (acts a r))
     where
       go : (inAdjustment st r ≡ true) ⊎ (inAdjustment st r ≡ false) → (acts a r ≡ true) ⊎ (acts a r ≡ false) → A st r a i ≡ pos 0
@@ -75,10 +75,10 @@ sumN-blocks (suc n) f =
 module _ (st : List Station) (places : List Place) where
   -- 1 where row k of A is an observation's that counts
   abbrev counted : ℕ → ℕ
-  counted k = counts st (recordAt places (k / 3)) (k % 3)
+  counted k = adds st (recordAt places (k / 3)) (k % 3)
 
   all-counted : sumN 768 counted ≡ sumN 256 (λ p. shareD st (recordAt places p))
-  all-counted = sumN-blocks 256 (λ p a. counts st (recordAt places p) a) ∙ sumN-ext 256 (λ p h. share-is st (recordAt places p))
+  all-counted = sumN-blocks 256 (λ p a. adds st (recordAt places p) a) ∙ sumN-ext 256 (λ p h. share-is st (recordAt places p))
 
   -- Nz = AᵀP(Az)
   N-zero : (n : ℕ) (z : ℕ → ℤ) → ((k : ℕ) → k < 768 → sum n (λ j. rowA st places k j *ℤ z j) ≡ pos 0) → (i : ℕ) → sum n (λ j. entryN st places i j *ℤ z j) ≡ pos 0

@@ -59,8 +59,8 @@ no-products y w z e = sum-ext 3 (λ a h. sum-ext 3 (λ b k. ap (λ (v : ℤ). v 
 
 module _ (st : List Station) (r : Record) where
   -- ════ a record that is not in the adjustment
-  held : (q : ℕ) → eqb (unknown st q) 1 ≡ false → unknown st q ≡ 0
-  held q e = go (bit-cases st q)
+  is-held : (q : ℕ) → eqb (unknown st q) 1 ≡ false → unknown st q ≡ 0
+  is-held q e = go (bit-cases st q)
     where
       go : (unknown st q ≡ 0) ⊎ (unknown st q ≡ 1) → unknown st q ≡ 0
       go (inl u) = u
@@ -68,7 +68,7 @@ module _ (st : List Station) (r : Record) where
 
   ends-held : (a : ℕ) → acts a r ≡ true → unknownAtEnd st r a ≡ false → (unknown st (fromOf r * 3 + a) ≡ 0) × (unknown st (toOf r * 3 + a) ≡ 0)
   unfolding unknownAtEnd
-  ends-held a e n = let both = neither _ _ (rw e at n) in (held _ (both .0), held _ (both .1))
+  ends-held a e n = let both = neither _ _ (rw e at n) in (is-held _ (both .0), is-held _ (both .1))
 
   no-unknown : (q i : ℕ) → unknown st q ≡ 0 → isUnknown st q i ≡ pos 0
   unfolding isUnknown
