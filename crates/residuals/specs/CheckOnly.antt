@@ -1,5 +1,5 @@
 -- A record that is not in the adjustment is a check only (document 02, request 2): "its ends have no unknown in any component it acts on". So its rows of A are 0, its share in N and u is 0,
--- and its residuals are its misclosures at every x. A record by the rules whose rows of A are 0 is one. Assumes nothing.
+-- its residuals are its misclosures at every x, and their variances those of the observation. A record by the rules whose rows of A are 0 is one. Assumes nothing.
 use Prim.Native.Nat.{ℕ, zero, suc, _+_, _*_, _<_}
 use mathlib.Core.Path.{_≡_, refl, sym, ap, ap₂, _∙_}
 use mathlib.Core.Bool.{Bool, true, false, _&&_, _||_}
@@ -22,7 +22,7 @@ use Rattle.network.specs.declared.Record.{Record}
 use Rattle.network.specs.declared.Record.the-variants.{Empty, Baseline as baseline, Height as height}
 use Rattle.normals.specs.Formulas.{A, P, isUnknown, shareN, shareU}
 use Rattle.normals.specs.Acting.{A-acting, A-not-acting}
-use Rattle.residuals.specs.Residuals.{residual, unknownAtEnd, inAdjustment}
+use Rattle.residuals.specs.Residuals.{covariance, residual, unknownAtEnd, inAdjustment, observationVariance, differenceVariance, residualVariance}
 
 pub record CheckOnly (st : List Station) (r : Record) : Type 0 where
   pub ends : (a : ℕ) → a < 3 → acts a r ≡ true → (unknown st (fromOf r * 3 + a) ≡ 0) × (unknown st (toOf r * 3 + a) ≡ 0)
@@ -32,6 +32,8 @@ pub record CheckOnly (st : List Station) (r : Record) : Type 0 where
   pub right : (i : ℕ) → shareU st r i ≡ pos 0
   -- no correction changes its residuals
   pub residuals : (x : List ℤ) (a : ℕ) → a < 3 → residual st x r a ≡ l st r a
+  -- no M changes what they are held against
+  pub variances : (m : List ℤ) (a : ℕ) → a < 3 → acts a r ≡ true → residualVariance st m r a ≡ observationVariance r a
 
 one-not-zero : pos 1 ≡ pos 0 → ⊥
 one-not-zero e = let h : _≡_ {A = ℕ} 1 0 = ap natAbs e in omega arith
@@ -85,6 +87,18 @@ module _ (st : List Station) (r : Record) where
           ∙ ring (joins r ∷ []) (search shapes) tt
       go (inr e) = A-not-acting st r a i e
 
+  no-covariance : (m : List ℤ) (q k : ℕ) → unknown st q ≡ 0 → covariance st m q k ≡ pos 0
+  unfolding covariance
+  no-covariance m q k u = rw u (no-product (pos (unknown st k)) (getD m (number st q * unknownCount st + number st k) (pos 0)))
+
+  no-difference : (m : List ℤ) (a : ℕ) → unknown st (fromOf r * 3 + a) ≡ 0 → unknown st (toOf r * 3 + a) ≡ 0 → residualVariance st m r a ≡ observationVariance r a
+  unfolding residualVariance differenceVariance
+  no-difference m a f t =
+      let at = toOf r * 3 + a in
+      let from = fromOf r * 3 + a in
+      rw (no-covariance m at at t, no-covariance m from from f, no-covariance m at from t, no-covariance m from at f)
+      (ring (observationVariance r a ∷ joins r ∷ []) (search shapes) tt)
+
   nowhere : inAdjustment st r ≡ false → (a : ℕ) → a < 3 → unknownAtEnd st r a ≡ false
   unfolding inAdjustment
   nowhere out zero h = none (unknownAtEnd st r 0) (unknownAtEnd st r 1) (unknownAtEnd st r 2) out .0
@@ -103,6 +117,7 @@ module _ (st : List Station) (r : Record) where
         residuals = λ x a h.
             ap (λ (z : ℤ). l st r a -ℤ z) (sum-ext (unknownCount st) (λ i o. ap (λ (z : ℤ). z *ℤ getD x i (pos 0)) (zeros a h i) ∙ zero-*ℤ (getD x i (pos 0))) ∙ sum-0 (unknownCount st))
             ∙ ring (l st r a ∷ []) (search shapes) tt;
+        variances = λ m a h e. let u = ends-held a e (nowhere out a h) in no-difference m a (u .0) (u .1);
       }
     where
       zeros : (a : ℕ) → a < 3 → (i : ℕ) → A st r a i ≡ pos 0

@@ -7,3 +7,4 @@ pub mod VerdictLaws
 pub mod Held
 pub mod NotActing
 pub mod CheckOnly
+pub mod NeverLoose
