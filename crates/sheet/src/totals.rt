@@ -83,10 +83,10 @@ fn share_of_d(unknown: &[i64; 96], r: Record) -> usize
     requires { ⌜ (fromOf r < 32) × (toOf r < 32) ⌝ }
     ensures { λ n. ⌜ n ≡ shareDIn (now (unknown .entry)) r ⌝ }
 {
-    if in_adjustment(unknown, r) {
-        return observations_in(r);
+    if !in_adjustment(unknown, r) {
+        return 0;
     }
-    0
+    observations_in(r)
 }
 
 // The degrees of freedom of so many observed components and n unknowns.
