@@ -92,3 +92,10 @@ pub(crate) fn show(book: Book, x: &[i64], m: &[i64], long: usize) {
         show_on(book, x, m, &mut sheet[0..long]);
     }
 }
+
+// A check of one unknown.
+pub(crate) fn answer(book: Book, x: i64, m: i64, long: usize) {
+    let xs = [x];
+    let ms = [m];
+    show(book, &xs, &ms, long);
+}

@@ -1,7 +1,7 @@
 use mathlib.Core.Path.{sym, _∙_}
 use borrow.Author.Needs.{needs}
-use Rattle.check_cases.proofs.relevel.Statement.{statement}
-use Rattle.check_cases.proofs.relevel.Tie as tie
+use Rattle.check_cases.proofs.books.relevel.Statement.{statement}
+use Rattle.check_cases.proofs.books.relevel.Tie as tie
 
 is-sound-requires : tie.Need-is-sound-requires
 is-sound-requires c κs = search needs

@@ -1,0 +1,101 @@
+// The books of the cases, and their edits. A refused edit prints its number.
+use super::shown::refused;
+use book::Book;
+use network::Baseline;
+use network::Level;
+use network::Record;
+use network::Unit;
+
+// The weight of a baseline between E and N.
+const EN: i64 = 20;
+
+pub(crate) fn opened(list: &[i64]) -> Book {
+    let e = Book::open(list);
+    refused(e.refusal);
+    let b = e.book;
+    b
+}
+
+// The book with a record added.
+fn added(book: Book, place: i64, r: Record) -> Book {
+    if book::is_sound(book) {
+        let e = book.add(place, r);
+        refused(e.refusal);
+        let b = e.book;
+        return b;
+    }
+    book
+}
+
+fn level_of(from: i64, to: i64, up: i64, weight: i64) -> Record {
+    Record::Height(Level {
+        from,
+        to,
+        up,
+        weight,
+    })
+}
+
+// The book with a height difference added.
+pub(crate) fn level(book: Book, place: i64, from: i64, to: i64, up: i64, weight: i64) -> Book {
+    added(book, place, level_of(from, to, up, weight))
+}
+
+// The book with the record at a place replaced by a height difference.
+pub(crate) fn relevel(book: Book, place: i64, from: i64, to: i64, up: i64, weight: i64) -> Book {
+    if book::is_sound(book) {
+        let e = book.replace(place, level_of(from, to, up, weight));
+        refused(e.refusal);
+        let b = e.book;
+        return b;
+    }
+    book
+}
+
+// The book with a baseline added.
+pub(crate) fn baseline(
+    book: Book,
+    place: i64,
+    from: i64,
+    to: i64,
+    east: i64,
+    north: i64,
+    up: i64,
+) -> Book {
+    let weight = Unit::WEIGHT_AT_MILLIMETRE;
+    let b = Baseline {
+        from,
+        to,
+        east,
+        north,
+        up,
+        ee: weight,
+        en: EN,
+        eu: 0,
+        nn: weight,
+        nu: 0,
+        uu: weight,
+    };
+    added(book, place, Record::Baseline(b))
+}
+
+pub(crate) fn undone(book: Book) -> Book {
+    if book::is_sound(book) {
+        let e = book.undo();
+        refused(e.refusal);
+        let b = e.book;
+        return b;
+    }
+    book
+}
+
+// Document 01's two stations: a known one and one of unknown height, 1,000 apart.
+pub(crate) fn two() -> Book {
+    opened(&[1, 0, 0, 100000, 3, 0, 0, 101000])
+}
+
+// Document 01's network on a book of these stations, with the second difference `up`.
+pub(crate) fn printed(book: Book, up: i64) -> Book {
+    let b = level(book, 1, 1, 2, 1000, 100);
+    level(b, 2, 1, 2, up, 100)
+}
