@@ -94,6 +94,11 @@ pub(crate) fn two() -> Book {
     opened(&[1, 0, 0, 100000, 3, 0, 0, 101000])
 }
 
+// The same with a third station, of a kind by its number.
+pub(crate) fn with_third(kind: i64) -> Book {
+    opened(&[1, 0, 0, 100000, 3, 0, 0, 101000, kind, 0, 0, 102000])
+}
+
 // Document 01's network on a book of these stations, with the second difference `up`.
 pub(crate) fn printed(book: Book, up: i64) -> Book {
     let b = level(book, 1, 1, 2, 1000, 100);
