@@ -1,6 +1,7 @@
-"""An independent implementation of document 01 and of check distances (document 02), for the tests: stations, records, the ledger, the check, the sheet. Written from the documents
-alone, in whole numbers, with no thought for speed. Numbers of stations, places and unknowns count from 1 as in the document; lists from 0."""
-from dataclasses import dataclass, field
+"""An independent implementation of document 01, as requests 1 (check distances) and 2 (records that are a check only) of document 02 amend it, for the tests: stations, records, the
+ledger, the check, the sheet. Written from the documents alone, in whole numbers, with no thought for speed. Numbers of stations, places and unknowns count from 1 as in the document;
+lists from 0."""
+from dataclasses import dataclass
 
 KNOWN, FREE, HEIGHT = 1, 2, 3          # kinds of station, as words
 S = 2 ** 30
@@ -253,13 +254,25 @@ def check(net, records, x, m, room=None):
     return (0,)
 
 
-def residual(net, r, x, c):
+def residual(net, r, x, c, d=1):
+    """The residual at the corrections x over d, times d."""
     move = {s: x[net.index[s, c]] if (s, c) in net.index else 0 for s in (r.start, r.end)}
-    return net.misclosure(r, c) - (move[r.end] - move[r.start])
+    return d * net.misclosure(r, c) - (move[r.end] - move[r.start])
 
 
-def weighted_squares(net, records, x):
-    return sum(residual(net, r, x, a) * r.weight(a, b) * residual(net, r, x, b) for r in records.values() for a in r.components for b in r.components)
+def in_adjustment(net, r):
+    """Whether an end has an unknown in a component that the record acts on. Where none has, the record is a check only: it adds nothing to D or T."""
+    return any(net.at(s).unknown(c) for s in (r.start, r.end) for c in r.components)
+
+
+def weighted_squares(net, records, x, d=1):
+    """T at the corrections x over d, times d squared."""
+    total = 0
+    for r in records.values():
+        if in_adjustment(net, r):
+            v = {c: residual(net, r, x, c, d) for c in r.components}
+            total += sum(v[a] * r.weight(a, b) * v[b] for a in r.components for b in r.components)
+    return total
 
 
 def local_verdict(net, r, x, m, c):
@@ -274,7 +287,7 @@ def local_verdict(net, r, x, m, c):
 
 
 def freedom(net, records):
-    return sum(len(r.components) for r in records.values()) - net.n
+    return sum(len(r.components) for r in records.values() if in_adjustment(net, r)) - net.n
 
 
 def global_verdict(t, d):
