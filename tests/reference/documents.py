@@ -11,7 +11,7 @@ from fractions import Fraction
 import solve
 import survey
 
-# Document 002, Table 17.1 without its last baseline: from, to, differences in metres, covariance elements XX XY XZ YY YZ ZZ in square metres. The table gives F to A as
+# Document 002, Table 17.1: from, to, differences in metres, covariance elements XX XY XZ YY YZ ZZ in square metres. The table gives F to A as
 # -4,355.9062 in Z, the listing further down -4355.8962; the printed coordinates, residuals and reference variance follow from the listing, so its figure stands here.
 TABLE_002 = '''
 A C 11644.2232 3601.2165 3399.2550 9.884E-4 -9.580E-6 9.520E-6 9.377E-4 -9.520E-6 9.827E-4
@@ -27,6 +27,7 @@ F D -4600.3787 5291.7785 5414.4311 9.330E-5 -9.900E-7 9.000E-7 9.875E-5 -9.900E-
 F B 6567.2311 5686.2926 6322.3917 6.643E-5 -6.500E-7 6.900E-7 7.465E-5 -6.400E-7 6.048E-5
 B F -6567.2310 -5686.3033 -6322.3807 5.512E-5 -6.300E-7 6.100E-7 7.472E-5 -6.300E-7 6.629E-5
 A F 1116.4577 4596.1553 4355.9141 6.619E-5 -8.000E-7 9.000E-7 8.108E-5 -8.200E-7 9.376E-5
+A B 7683.6883 10282.4550 10678.3008 7.2397E-4 -7.280E-6 7.520E-6 6.762E-4 -7.290E-6 7.310E-4
 '''
 CONTROL_002 = {'A': ('402.35087', '-4652995.30109', '4349760.77753'), 'B': ('8086.03178', '-4642712.84739', '4360439.08326')}
 RESIDUALS_002 = '''
@@ -44,6 +45,7 @@ RESIDUALS_002 = '''
 0.00041 0.00536 -0.01320
 -0.00738 0.00046 -0.00227
 '''
+FIXED_002 = ('7683.6809', '10282.4537', '10678.3058')     # Table 17.2: the fixed differences from A to B; in Z the printed coordinates of A and B give 10,678.30573
 ADJUSTED_002 = {'C': ('12046.58076', '-4649394.08256', '4353160.06335'), 'D': ('-3081.58313', '-4643107.36915', '4359531.12202'),
                 'E': ('-4919.33908', '-4649361.21987', '4352934.45341'), 'F': ('1518.80119', '-4648399.14533', '4354116.68936')}
 
@@ -95,8 +97,9 @@ def rows_of(table):
     return [line.split() for line in table.strip().split('\n')]
 
 
-def baselines_002(factor=1):
-    """Document 002's network in units of 0.1 mm (0.01 mm would put its baselines beyond the limits), coordinates from A. Provisional coordinates are the printed ones to the metre."""
+def baselines_002(factor=1, held='AB'):
+    """Document 002's network in units of 0.1 mm (0.01 mm would put its baselines beyond the limits), coordinates from A. Provisional coordinates of a station that is not a control
+    station are the printed ones to the metre. The document holds both control stations, which makes the last baseline a check only; with one held it is in the adjustment."""
     unit = Fraction(1, 10_000)
     names = 'ABCDEF'
     a = [Fraction(v) for v in CONTROL_002['A']]
@@ -105,18 +108,20 @@ def baselines_002(factor=1):
         if name in CONTROL_002:
             return [whole(Fraction(v) - o, unit) for v, o in zip(CONTROL_002[name], a)]
         return [10_000 * whole(Fraction(v) - o, 1) for v, o in zip(ADJUSTED_002[name], a)]
-    stations = [(survey.KNOWN if name in CONTROL_002 else survey.FREE, *coordinates(name)) for name in names]
+    stations = [(survey.KNOWN if name in held else survey.FREE, *coordinates(name)) for name in names]
     records = [survey.Baseline(names.index(f) + 1, names.index(t) + 1, tuple(whole(v, unit) for v in seen), weight_numbers(covariance, unit, factor))
                for f, t, *rest in rows_of(TABLE_002) for seen, covariance in [(rest[:3], rest[3:])]]
     return stations, dict(enumerate(records, 1))
 
 
 def printed_002():
-    """What document 002 prints, in 0.01 mm, three numbers a row: coordinates of C to F less those of A, then residuals as observed minus adjusted (it has adjusted minus observed)."""
+    """What document 002 prints, in 0.01 mm, three numbers a row: coordinates of C to F less those of A, then residuals as observed minus adjusted (it has adjusted minus observed), and
+    of the last baseline, which is a check only, observed minus fixed (Table 17.2 has the sizes alone)."""
     unit = Fraction(1, 100_000)
     a = [Fraction(v) for v in CONTROL_002['A']]
     rows = [[whole(Fraction(v) - o, unit) for v, o in zip(ADJUSTED_002[name], a)] for name in 'CDEF']
-    return rows + [[-whole(v, unit) for v in row] for row in rows_of(RESIDUALS_002)]
+    observed = rows_of(TABLE_002)[-1][2:5]
+    return rows + [[-whole(v, unit) for v in row] for row in rows_of(RESIDUALS_002)] + [[whole(Fraction(v) - Fraction(f), unit) for v, f in zip(observed, FIXED_002)]]
 
 
 def baselines_003():
@@ -148,25 +153,20 @@ def levels_003():
 def exact_sheet(stations, records):
     """The corrections and the sheet's words of the exact answer: corrections, variances, residuals and T rounded to nearest, verdicts by the rounded pair."""
     net = survey.Network(survey.Station(*row) for row in stations)
-    matrix, right = survey.normals(net, records)
-    d, y, _ = solve.exact(matrix, right)
-    x, m = solve.rounded(matrix, right)
+    d, y, z = solve.exact(*survey.normals(net, records))
+    x, m = solve.round_off(d, y, z)
     words = survey.sheet(net, records, x, m)
     at = 2 + 7 * len(stations)
-    t = 0                                            # times d squared
     for _, r in sorted(records.items()):
-        def moved(s, c):
-            return y[net.index[s, c]] if (s, c) in net.index else 0
-        v = {c: d * net.misclosure(r, c) - moved(r.end, c) + moved(r.start, c) for c in r.components}
         for k, c in enumerate(r.components, 1):
-            words[at + k] = solve.nearest(v[c], d)
-        t += sum(v[a] * r.weight(a, b) * v[b] for a in r.components for b in r.components)
-        at += 1 + 2 * len(v)
-    words[at] = solve.nearest(t, d * d)
+            words[at + k] = solve.nearest(survey.residual(net, r, y, c, d), d)
+        at += 1 + 2 * len(r.components)
+    words[at] = solve.nearest(survey.weighted_squares(net, records, y, d), d * d)
     return x, words
 
 
-SURVEYS = {'baselines_document_002': baselines_002, 'baselines_document_003': baselines_003, 'levelling_document_003': levels_003}
+SURVEYS = {'baselines_document_002': baselines_002, 'baselines_document_002_one_held': lambda: baselines_002(held='A'), 'baselines_document_003': baselines_003,
+           'levelling_document_003': levels_003}
 
 
 def text(stations, records):

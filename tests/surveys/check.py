@@ -11,6 +11,7 @@ sys.path.insert(0, os.path.join(ROOT, 'tests', 'reference'))
 import documents
 
 FACTOR = 50
+SURVEYS = 4         # in the program
 
 
 def expected_rows(stations, records):
@@ -34,6 +35,7 @@ def rows():
     yield from expected_rows(*documents.baselines_002(FACTOR))
     for k, numbers in enumerate(documents.printed_002()):
         yield 'printed', numbers, [5 if k < 4 else 10] * 3
+    yield from expected_rows(*documents.baselines_002(FACTOR, held='A'))
 
 
 def wrong(line, word, numbers, allowed):
@@ -55,8 +57,8 @@ def main():
     lines = [(k, line) for k, line in lines if line.count('|') == 2 and not line.startswith(('accepted', 'printed in'))]
     want = list(rows())
     passed = failed = 0
-    if accepted != 3 or len(lines) != len(want):
-        print('%d surveys accepted, %d lines, not 3 and %d' % (accepted, len(lines), len(want)))
+    if accepted != SURVEYS or len(lines) != len(want):
+        print('%d surveys accepted, %d lines, not %d and %d' % (accepted, len(lines), SURVEYS, len(want)))
         failed = 1
     for (k, line), row in zip(lines, want):
         what = wrong(line, *row)

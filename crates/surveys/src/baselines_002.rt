@@ -1,4 +1,5 @@
-// The network of source document 002 (its Figure 17.1): control stations A and B, others C to F, 13 baselines, 12 unknowns.
+// The network of source document 002 (its Figure 17.1): control stations A and B, others C to F, 14 baselines, 12 unknowns. The last baseline joins the control stations, which are
+// held: it is a check only, so there are 3 · 13 − 12 = 27 degrees of freedom, as the document prints.
 // Unit 0.1 mm, coordinates from A: at 0.01 mm a baseline of 15 km is beyond the limits. All weights are 50 times what the printed covariances give, rounded, so that rounding
 // moves them little; T is then 50 times as large, and the verdicts say nothing. T over 50 · 27 is 0.6129, since B is rounded to the unit; the document prints 0.6135. From F to A its
 // table has -4355.9062 m in Z and its listing -4355.8962: the printed coordinates and residuals follow from the listing's, which stands here.
@@ -9,9 +10,10 @@ use super::records::book_of;
 use super::solving::solve;
 use book::Book;
 
-fn book() -> Book {
+// The book of these stations, with the document's baselines.
+pub(crate) fn book(stations: &[u8]) -> Book {
     book_of(
-        b"stations 1 0 0 0 1 76836809 102824537 106783057 2 116440000 36010000 33990000 2 -34840000 98880000 97700000 2 -53220000 36340000 31740000 2 11160000 45960000 43560000",
+        stations,
         b"B 1 1 3 116442232 36012165 33992550 506 5 -5 533 5 509
 B 2 1 5 -53217164 36340754 31736652 2317 25 -25 2606 27 2494
 B 3 2 3 39605442 -66812467 -72790148 2170 19 -20 1964 19 2221
@@ -25,6 +27,7 @@ B 10 6 4 -46003787 52917785 54144311 5360 53 -40 5064 41 4153
 B 11 6 2 65672311 56862926 63223917 7528 65 -85 6699 70 8269
 B 12 2 6 -65672310 -56863033 -63223807 9073 76 -83 6693 63 7544
 B 13 1 6 11164577 45961553 43559141 7556 74 -72 6168 53 5334
+B 14 1 2 76836883 102824550 106783008 691 7 -7 740 7 684
 ",
     )
 }
@@ -52,13 +55,14 @@ record 10 56 23 -16 1 1 0
 record 11 5 -53 -22 0 1 1
 record 12 -4 -54 132 0 1 1
 record 13 74 -5 23 1 0 0
+record 14 74 13 -49 0 0 0
 global 827409786 27 4
 ",
     );
 }
 
 // What the document prints, in 0.01 mm: coordinates of C, D, E, F less those of A, then the residuals of the baselines, as observed minus adjusted (the document has adjusted minus
-// observed). They are compared with words 17 on of the sheet: three of each row of seven.
+// observed), and for the last, from its Table 17.2, observed minus fixed. They are compared with words 17 on of the sheet: three of each row of seven.
 fn printed_beside(sheet: &[i64]) {
     text(b"printed in document 002 | this program | difference, in 0.01 mm\n");
     tenfold_lines_beside(
@@ -81,6 +85,7 @@ printed 561 232 -156
 printed 51 -534 -220
 printed -41 -536 1320
 printed 738 -46 227
+printed 740 130 -500
 ",
     );
 }
@@ -89,8 +94,15 @@ pub(crate) fn run() {
     text(b"baselines of document 002; unit 0.1 mm, weights times 50\n");
     let mut x = [0i64; 12];
     let mut m = [0i64; 144];
-    let mut sheet = [0i64; 138];
-    solve(book(), &mut x, &mut m, &mut sheet);
+    let mut sheet = [0i64; 145];
+    solve(
+        book(
+            b"stations 1 0 0 0 1 76836809 102824537 106783057 2 116440000 36010000 33990000 2 -34840000 98880000 97700000 2 -53220000 36340000 31740000 2 11160000 45960000 43560000",
+        ),
+        &mut x,
+        &mut m,
+        &mut sheet,
+    );
     lines_beside(
         &x,
         0,

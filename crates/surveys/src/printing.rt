@@ -48,10 +48,10 @@ fn beside(line: &[u8], values: &[i64], others: &[i64]) {
     text(b"\n");
 }
 
-// A line beside as many of the values from `at` on; the place after them.
+// A line, of at most 15 numbers, beside as many of the values from `at` on; the place after them.
 fn line_beside(values: &[i64], at: usize, line: &[u8]) -> usize {
-    let mut others = [0i64; 12];
-    let n = numbers_of(line, 12, &mut others);
+    let mut others = [0i64; 15];
+    let n = numbers_of(line, 15, &mut others);
     if at > values.len() {
         return at;
     }
