@@ -12,6 +12,7 @@ sys.path.insert(0, os.path.join(os.path.dirname(os.path.abspath(__file__)), '..'
 import building
 import documents
 import inputs
+import kinds
 import limits
 import pages
 import program
@@ -20,12 +21,14 @@ import wrapper
 from coverage import Seen
 
 INPUTS = 4000       # random inputs of a run
+NO_FREEDOM = 'D = 0 beside a check only'
 
 # In how many inputs each test must see a kind of input, a message or a verdict: somewhat less often than it does.
-EXAMPLES = {'input': 12, 'SHEET': 8, 'FAIL': 3, 'PASS': 8, 'GLOBAL LOW': 2, 'GLOBAL NONE': 1, 'GLOBAL PASS': 5, 'LINE k UNREADABLE': 1, 'NO PROPOSAL': 1,
+EXAMPLES = {'input': 13, 'SHEET': 9, 'FAIL': 4, 'PASS': 9, 'GLOBAL LOW': 3, 'GLOBAL NONE': 1, 'GLOBAL PASS': 5, 'LINE k UNREADABLE': 1, 'NO PROPOSAL': 1,
             'REFUSED 1': 1, 'REFUSED 11': 1, 'REFUSED 16': 1, **{'LINE k REFUSED %d' % no: 1 for no in range(2, 9)}}
-NAMED = {'input': 46, 'SHEET': 20, 'LOOSE': 7, 'PASS': 13, 'LINE k UNREADABLE': 19, 'LINE k REFUSED 8': 3, 'NO PROPOSAL': 6, 'REFUSED 1': 13, 'REFUSED 10': 6, 'REFUSED 12': 1}
-LIMITS = {'input': 122, 'GLOBAL LOW': 30, 'GLOBAL PASS': 60, 'GLOBAL HIGH': 30, 'GLOBAL NONE': 2}
+NAMED = {'input': 57, 'SHEET': 30, 'LOOSE': 10, 'PASS': 21, 'FAIL': 7, 'GLOBAL NONE': 9, 'LINE k UNREADABLE': 19, 'LINE k REFUSED 8': 3, 'NO PROPOSAL': 6, 'REFUSED 1': 13, 'REFUSED 10': 6,
+         'REFUSED 11': 1, 'REFUSED 12': 1}
+LIMITS = {'input': 369, 'GLOBAL LOW': 90, 'GLOBAL PASS': 180, 'GLOBAL HIGH': 90, 'GLOBAL NONE': 9}
 PIECES = {'input': 100, 'SHEET': 20, 'LINE k UNREADABLE': 40, 'LINE k REFUSED 7': 30, 'NO PROPOSAL': 3, 'REFUSED 1': 15, 'REFUSED 10': 15, 'REFUSED 11': 12, 'REFUSED 14': 8,
           **{kind.__name__: share for kind, share in inputs.KINDS}}
 WHOLE = {'input': 900, 'SHEET': 240, 'NO PROPOSAL': 30, 'REFUSED 1': 180, 'REFUSED 11': 150, 'LINE k UNREADABLE': 400, 'LINE k REFUSED 7': 250}
@@ -34,6 +37,9 @@ RANDOM = {'input': INPUTS, 'SHEET': 1000, 'PASS': 700, 'FAIL': 600, 'LOOSE': 400
           'LINE k UNREADABLE': 1500, 'NO PROPOSAL': 120, 'REFUSED 1': 700, 'REFUSED 10': 500, 'REFUSED 11': 500, 'REFUSED 12': 20, 'REFUSED 13': 15, 'REFUSED 14': 150,
           'REFUSED 15': 6, 'REFUSED 16': 60, 'LINE k REFUSED 2': 120, 'LINE k REFUSED 3': 150, 'LINE k REFUSED 4': 80, 'LINE k REFUSED 5': 500, 'LINE k REFUSED 6': 120,
           'LINE k REFUSED 7': 1000, 'LINE k REFUSED 8': 500, 'full_size': INPUTS // inputs.FULL_EVERY, 'as the reference': 3900,
+          'baseline known-known': 180, 'baseline known-free': 520, 'baseline known-height': 460, 'baseline free-free': 120, 'baseline free-height': 250, 'baseline height-height': 130,
+          'height difference known-known': 180, 'height difference known-free': 280, 'height difference known-height': 460, 'height difference free-free': 65,
+          'height difference free-height': 160, 'height difference height-height': 115, NO_FREEDOM: 25,
           **{kind.__name__: INPUTS // len(inputs.WHEEL) * share - INPUTS // inputs.FULL_EVERY for kind, share in inputs.KINDS}}
 
 
@@ -113,6 +119,15 @@ def whole(tally):
     tally.add('a text that is too long', None if b'longer than' in longer and b'UNREADABLE' not in longer else 'printed %r' % longer[:200])
 
 
+def sheet_kinds(expected):
+    """Of a sheet, the kinds of its records, and whether D is 0 with one among them that is a check only."""
+    if b'\nGLOBAL ' not in expected.text:
+        return set()
+    ledger = expected.run.ledger
+    found = {kinds.of(ledger.net, r) for r in ledger.records().values()}
+    return found | ({NO_FREEDOM} if found & kinds.CHECK_ONLY and expected.text.split(b' ')[-2] == b'0' else set())
+
+
 def differential(tally, count):
     """Random inputs from the seeds 0 .. COUNT - 1: the program against the reference."""
     seen = Seen()
@@ -121,7 +136,7 @@ def differential(tally, count):
         expected = program.Expected(data)
         got = program.output(data)
         tally.add('seed %d (%s)' % (seed, kind), expected.difference(got))
-        seen.add(got, 'input', kind, *(['as the reference'] if got == expected.text else []))
+        seen.add(got, 'input', kind, *(['as the reference'] if got == expected.text else []), *sheet_kinds(expected))
     if count >= INPUTS:
         tally.add('coverage of the random inputs', seen.lacking(RANDOM))
     print('%d random inputs, of them %s' % (count, ', '.join('%d %s' % (number, kind) for kind, number in sorted(seen.counts.items()) if kind != 'input')))

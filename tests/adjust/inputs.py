@@ -379,6 +379,9 @@ def levelling_line(count):
 # Inputs that a random one seldom hits.
 HEAD = b'S 1 K 0 0 100000\nS 2 V 0 0 101000\n'
 PAIR = b'H 1 1 2 1000 100\nH 2 1 2 1100 100\n'
+PAIR_SOLVED = b'X 50\nM 5368709\n'
+SECOND_KNOWN = HEAD + b'S 3 K 700 -400 100300\n'
+SECOND_HEIGHT = HEAD + b'S 3 V 700 -400 100300\n'
 NAMED = {
     'nothing at all': b'',
     'an empty line': b'\n',
@@ -421,6 +424,17 @@ NAMED = {
     'a correction beyond the limit, given': HEAD + b'S 3 V 0 0 102000\nH 1 1 2 101000 1\nH 2 2 3 101000 1\nX 100000 200000\nM 1073741824 1073741824 1073741824 2147483648\n',
     'a variance at the limit': levelling_line(16),
     'a variance beyond the limit': levelling_line(17),
+    'a baseline between known stations': SECOND_KNOWN + PAIR + b'B 3 1 3 710 -380 900 100 20 -30 90 10 80\n' + PAIR_SOLVED,
+    'a height difference between known stations': SECOND_KNOWN + PAIR + b'H 3 3 1 -900 10000\n' + PAIR_SOLVED,
+    'records of both kinds between known stations': SECOND_KNOWN + PAIR + b'B 3 3 1 100 200 -300 1 0 0 1 0 1\nH 256 1 3 300 1\nH 9 3 1 -299 10000\n' + PAIR_SOLVED,
+    'records between known stations struck, undone and replaced': SECOND_KNOWN + PAIR + b'H 3 1 3 900 100\nD 3\nH 4 3 1 -900 100\nU\nH 5 1 3 900 100\nR H 5 3 2 700 100\n',
+    'D is 0 beside a baseline between known stations': SECOND_KNOWN + b'H 1 1 2 1000 100\nB 2 1 3 710 -380 900 100 20 -30 90 10 80\n',
+    'D is 0 beside a height difference between known stations': SECOND_KNOWN + b'H 1 1 2 1000 100\nH 2 1 3 900 10000\n',
+    'no record but between known stations': SECOND_KNOWN + b'B 1 1 3 710 -380 900 100 20 -30 90 10 80\nX 0\nM 0\n',
+    'a baseline from a known station to a height station': HEAD + PAIR + b'B 3 1 2 300 -200 1010 100 20 -30 90 10 80\n',
+    'a baseline from a height station to a known station': HEAD + PAIR + b'B 3 2 1 300 -200 -1010 100 20 -30 90 10 80\n',
+    'a baseline between height stations': SECOND_HEIGHT + PAIR + b'H 3 1 3 310 100\nB 4 2 3 900 -500 -720 100 20 -30 90 10 80\n',
+    'a baseline to a height station alone': HEAD + b'B 1 1 2 300 -200 1010 100 0 0 100 0 100\n',
     'a closed line of 50,000 bytes': HEAD + b'H 1 1 2 ' + b'0' * (LINE - 16) + b'1000 100\nH 2 1 2 1100 100\nX 50\nM 5368709\n',
     'a closed line of 50,001 bytes': HEAD + b'H 1 1 2 ' + b'0' * (LINE - 15) + b'1000 100\nH 2 1 2 1100 100\nX 100\nM 10737418\n',
     'a last line of 50,001 bytes': HEAD + PAIR + b'X ' + b'0' * (LINE - 1),

@@ -1,7 +1,8 @@
-"""Both sides of every limit of the global test: for each D from 1 to 30 a network whose T is just a limit, and one whose T is one less or one more.
+"""Both sides of every limit of the global test: for each D from 1 to 30 a network whose T is just a limit, and one whose T is one less or one more; and D = 0 and D = 31, where there is
+no test. Each also with a record between two known stations beside, as far off as may be: it is a check only, so T, D and the verdict are the same.
 
-All records join a known station to one unknown height, both at 0, and the correction given is 0: a record's difference is its residual. It lies within what the check allows of the
-exact answer as long as the weighted residuals nearly cancel."""
+All other records join a known station to one unknown height, both at 0, and the correction given is 0: a record's difference is its residual. It lies within what the check allows of
+the exact answer as long as the weighted residuals nearly cancel."""
 import inputs
 import solve
 import survey
@@ -32,17 +33,31 @@ def records(d, t):
     return found + [(0, 1)] * (d + 1 - len(found))
 
 
-def network(d, t):
-    held = records(d, t)
-    text = [b'S 1 K 0 0 0', b'S 2 V 0 0 0'] + [inputs.joined(b'H', k, 1, 2, v, w) for k, (v, w) in enumerate(held, 1)]
+BETWEEN_KNOWN = (survey.Level(1, 3, 100_000, 10_000), survey.Baseline(3, 1, (-100_000, 100_000, 100_000), (10_000, 0, 0, 10_000, 0, 10_000)))
+LAST_PLACE = 256
+
+
+def network(held, check_only=None):
+    """The input of these residuals with their weights, and of a record between the known stations."""
+    text = [b'S 1 K 0 0 0', b'S 2 V 0 0 0', b'S 3 K 0 0 0'] + [inputs.joined(b'H', k, 1, 2, v, w) for k, (v, w) in enumerate(held, 1)]
+    if check_only:
+        text.append(inputs.record_line(LAST_PLACE, check_only))
     return b'\n'.join(text + [b'X 0', inputs.joined(b'M', solve.nearest(survey.S, sum(w for _, w in held)))]) + b'\n'
+
+
+def global_lines():
+    """(residuals with their weights, T, D, verdict)"""
+    yield [(0, 1)], 0, 0, b'NONE'
+    for d, limits in enumerate(LIMITS.split(','), 1):
+        lower, upper = (1000 * int(v) for v in limits.split('/'))
+        for t, verdict in ((lower - 1, b'LOW'), (lower, b'PASS'), (upper, b'PASS'), (upper + 1, b'HIGH')):
+            yield records(d, t), t, d, verdict
+    for t in (1_000, 50_000_000):
+        yield records(31, t), t, 31, b'NONE'
 
 
 def cases():
     """(input, its last line)"""
-    for d, limits in enumerate(LIMITS.split(','), 1):
-        lower, upper = (1000 * int(v) for v in limits.split('/'))
-        for t, word in ((lower - 1, 'LOW'), (lower, 'PASS'), (upper, 'PASS'), (upper + 1, 'HIGH')):
-            yield network(d, t), b'GLOBAL %d %d %s' % (t, d, word.encode())
-    for t in (1_000, 50_000_000):
-        yield network(31, t), b'GLOBAL %d 31 NONE' % t
+    for held, t, d, verdict in global_lines():
+        for check_only in (None, *BETWEEN_KNOWN):
+            yield network(held, check_only), b'GLOBAL %d %d %s' % (t, d, verdict)
