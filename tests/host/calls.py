@@ -12,6 +12,7 @@ from coverage import CALLS, SIZES
 from expected import BAD_LENGTHS, EDITS, NO_BOOK, NO_PROPOSAL, ON_BOOKS, edit_given, lengths_fit, opening, outcome, packed, refusal, words_in
 from layout import BYTES, judge
 from library import Buffer, Library
+import kinds
 import survey
 
 BOOKS, EDITS_A_BOOK = 180, 120                                         # random books
@@ -89,6 +90,11 @@ class Calls(Comparison):
     def note_sheet(self, model, words):
         self.coverage.note('accepted sheets by unknowns', next(k for k, (low, high) in SIZES.items() if low <= model.net.n <= high))
         self.coverage.note('accepted sheets by global verdict', VERDICTS[words[-1]])
+        found = {kinds.of(model.net, r) for r in model.records.values()}
+        for kind in found:
+            self.coverage.note('accepted sheets by a record in them', kind)
+        if found & kinds.CHECK_ONLY:
+            self.coverage.note('D of accepted sheets with a check only', '0' if words[-2] == 0 else 'to 30' if words[-2] <= 30 else 'above')
         at = 2 + 7 * len(model.rows)
         for _, r in sorted(model.records.items()):
             k = len(r.components)

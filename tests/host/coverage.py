@@ -54,6 +54,11 @@ CALLS = {
     'the unknown of 11': {'the first': 1000, 'a later one': 480},
     'accepted sheets by unknowns': {'1 to 9': 300, '10 to 24': 75, '25 to 47': 35, '48': 18},
     'accepted sheets by global verdict': {'PASS': 15, 'LOW': 15, 'HIGH': 250, 'NONE': 140},
+    'accepted sheets by a record in them': {
+        'baseline known-known': 200, 'baseline known-free': 290, 'baseline known-height': 320, 'baseline free-free': 160, 'baseline free-height': 220, 'baseline height-height': 180,
+        'height difference known-known': 210, 'height difference known-free': 250, 'height difference known-height': 340, 'height difference free-free': 110,
+        'height difference free-height': 190, 'height difference height-height': 180},
+    'D of accepted sheets with a check only': {'0': 3, 'to 30': 170, 'above': 85},
     'local verdicts of accepted sheets': {'PASS': 20_000, 'FAIL': 15_000, 'LOOSE': 1_000},
 }
 
