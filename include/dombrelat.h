@@ -127,8 +127,9 @@ int64_t dombrelat_check(const uint8_t *book, size_t book_bytes, const uint8_t *x
 
 /* The same, and on acceptance the sheet's words: records, unknowns; for each station its number, E, N, U and three variances (over 2^30, in squares of 10 mm); for each
  * record by rising place a baseline's place, three residuals and three verdicts, or a height difference's place, residual and verdict; then the weighted square sum of
- * the residuals, the degrees of freedom and the global verdict. dombrelat_sheet_bytes says how many bytes that is; bytes beyond stay. The sheet's length is a multiple of 8.
- * Refusals as for checking. */
+ * the residuals, the degrees of freedom and the global verdict. A record between two known stations is a check only: it has its words and is one of the records, but the square
+ * sum and the degrees of freedom, and so the global verdict, leave it out; earlier libraries of this version counted it there. dombrelat_sheet_bytes says how many bytes the
+ * words take; bytes beyond stay. The sheet's length is a multiple of 8. Refusals as for checking. */
 int64_t dombrelat_check_sheet(const uint8_t *book, size_t book_bytes, const uint8_t *x, size_t x_bytes, const uint8_t *m, size_t m_bytes,
                               uint8_t *sheet, size_t sheet_bytes);
 

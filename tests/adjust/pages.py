@@ -7,7 +7,7 @@ from program import first_difference, LIMIT, ROOT
 
 PAGE = os.path.join(ROOT, 'docs', 'SHEET.md')
 DEVIATION = re.compile(r'√\((\d+) / 2\^30\) · 10 mm = (\d+\.\d{3}) mm')
-COMMANDS, DEVIATIONS = 9, 3       # that the page must have at least
+COMMANDS, DEVIATIONS = 11, 3       # that the page must have at least
 
 
 def page():
