@@ -70,9 +70,9 @@ static int64_t entry(const int64_t *m, int n, int a, int b) { return a < 0 || b 
 static int64_t verdict(int64_t v, int64_t q) { return q < 16384 ? 2 : v * v * 16777216 > 60025 * q; }
 
 int64_t twin_check_sheet(const int64_t *book, const int64_t *x, size_t nx, const int64_t *m, size_t nm, int64_t *sheet, size_t room) {
-    int at[96], n = 0, q, p, c, i, j, records = 0, observed = 0, count = (int)book[1];
+    int at[96], n = 0, q, p, c, i, j, records = 0, count = (int)book[1];
     size_t need = 5 + 7 * (size_t)count;
-    int64_t r[48], t = 0, d;
+    int64_t r[48], t = 0, d = 0;
     for (q = 0; q < 96; q++) {
         int64_t kind = book[STATIONS + 4 * (q / 3)];
         at[q] = kind == 2 || (kind == 3 && q % 3 == 2) ? n++ : -1;
@@ -81,7 +81,6 @@ int64_t twin_check_sheet(const int64_t *book, const int64_t *x, size_t nx, const
         int64_t kind = record(book, p)[0];
         need += kind == 1 ? 7 : kind == 2 ? 3 : 0;
         records += kind != 0;
-        observed += kind == 1 ? 3 : kind == 2;
     }
     if (nx != (size_t)n || nm != (size_t)(n * n) || room < need) {
         return 10;
@@ -135,6 +134,7 @@ int64_t twin_check_sheet(const int64_t *book, const int64_t *x, size_t nx, const
         int64_t v[3] = {0, 0, 0}, P[3][3] = {{w[6], w[7], w[8]}, {w[7], w[9], w[10]}, {w[8], w[10], w[11]}}, verdicts[3];
         int64_t det = w[6] * (w[9] * w[11] - w[10] * w[10]) - w[7] * (w[7] * w[11] - w[10] * w[8]) + w[8] * (w[7] * w[10] - w[9] * w[8]);
         int64_t adj[3] = {w[9] * w[11] - w[10] * w[10], w[6] * w[11] - w[8] * w[8], w[6] * w[9] - w[7] * w[7]};
+        int in_adjustment = 0;
         if (!w[0]) {
             continue;
         }
@@ -145,6 +145,7 @@ int64_t twin_check_sheet(const int64_t *book, const int64_t *x, size_t nx, const
             v[c] = l - ((at[e] < 0 ? 0 : x[at[e]]) - (at[f] < 0 ? 0 : x[at[f]]));
             variance -= entry(m, n, at[e], at[e]) + entry(m, n, at[f], at[f]) - entry(m, n, at[e], at[f]) - entry(m, n, at[f], at[e]);
             verdicts[c] = verdict(v[c], variance);
+            in_adjustment |= at[e] >= 0 || at[f] >= 0;
         }
         *sheet++ = p + 1;
         for (c = w[0] == 1 ? 0 : 2; c < 3; c++) {
@@ -153,13 +154,17 @@ int64_t twin_check_sheet(const int64_t *book, const int64_t *x, size_t nx, const
         for (c = w[0] == 1 ? 0 : 2; c < 3; c++) {
             *sheet++ = verdicts[c];
         }
+        if (!in_adjustment) {
+            continue;
+        }
+        d += w[0] == 1 ? 3 : 1;
         for (i = 0; i < 3; i++) {
             for (j = 0; j < 3; j++) {
                 t += v[i] * P[i][j] * v[j];
             }
         }
     }
-    d = observed - n;
+    d -= n;
     *sheet++ = t, *sheet++ = d;
     *sheet = d < 1 || d > 30 ? 5 : t < 1000 * limits[d - 1][0] ? 3 : t > 1000 * limits[d - 1][1] ? 4 : 0;
     return 0;
