@@ -33,8 +33,9 @@
 extern "C" {
 #endif
 
-/* The version of this header and of the library that it belongs to. The bytes of a book have a number of their own, that of their layout: it is 1, the book's first word. */
-#define DOMBRELAT_VERSION 1
+/* The version of this header and of the library that it belongs to. It goes up where a call that was there answers otherwise: in 1, records between two known stations counted in the
+ * square sum and the degrees of freedom of a sheet. The bytes of a book have a number of their own, that of their layout: it is 1, the book's first word. */
+#define DOMBRELAT_VERSION 2
 
 /* The bytes of a book. A longer slice may be lent: bytes beyond stay. The layout is in docs/BOOK.md; a program needs it only to look inside. */
 #define DOMBRELAT_BOOK_BYTES 56224
@@ -128,8 +129,8 @@ int64_t dombrelat_check(const uint8_t *book, size_t book_bytes, const uint8_t *x
 /* The same, and on acceptance the sheet's words: records, unknowns; for each station its number, E, N, U and three variances (over 2^30, in squares of 10 mm); for each
  * record by rising place a baseline's place, three residuals and three verdicts, or a height difference's place, residual and verdict; then the weighted square sum of
  * the residuals, the degrees of freedom and the global verdict. A record between two known stations is a check only: it has its words and is one of the records, but the square
- * sum and the degrees of freedom, and so the global verdict, leave it out; earlier libraries of this version counted it there. dombrelat_sheet_bytes says how many bytes the
- * words take; bytes beyond stay. The sheet's length is a multiple of 8. Refusals as for checking. */
+ * sum and the degrees of freedom, and so the global verdict, leave it out. dombrelat_sheet_bytes says how many bytes the words take; bytes beyond stay. The sheet's length is a
+ * multiple of 8. Refusals as for checking. */
 int64_t dombrelat_check_sheet(const uint8_t *book, size_t book_bytes, const uint8_t *x, size_t x_bytes, const uint8_t *m, size_t m_bytes,
                               uint8_t *sheet, size_t sheet_bytes);
 
