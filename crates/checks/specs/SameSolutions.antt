@@ -1,17 +1,17 @@
 -- A record that is a check only (document 02, request 2) changes no solution: two books over one station list with the same records in the adjustment have the same N and u, the check
--- answers every pair alike, and the sheet's last line is the same. The rest of a sheet is the count of records, the stations' lines, which read no record, and each record's own line. Assumes nothing.
-use Prim.Native.Nat.{ℕ, _+_, _/_, _%_, _<_, _≤_, _^_}
+-- answers every pair alike (where a lent sheet has room in both or in neither), and the sheet's last line is the same. The rest of a sheet is the count of records, the stations' lines,
+-- which read no record, and each record's own line. Assumes nothing.
+use Prim.Native.Nat.{ℕ, _/_, _%_, _<_, _≤_}
 use mathlib.Core.Path.{_≡_, refl, sym, ap, ap₂, _∙_, fun-ext, subst}
-use mathlib.Core.Bool.{Bool, true, false, cond, _&&_}
+use mathlib.Core.Bool.{Bool, true, false, cond}
 use mathlib.Core.List.{List, [], _∷_}
 use mathlib.Core.Logic.{_⊎_, inl, inr}
 use native.Mathlib.Omega.{arith}
-use lib.Dec.{eqb, leb}
-use lib.IntN.{ℤ, pos, natAbs, _-ℤ_}
+use lib.Dec.{eqb}
+use lib.IntN.{ℤ, pos, _-ℤ_}
 use Rattle.integers.specs.Sums.{sum, sum-ext, sumN-ext}
 use Rattle.words.specs.Bools.{clash, same-test}
-use Rattle.network.specs.All.{allBelow}
-use Rattle.network.specs.Stations.{unknown, number, unknownCount}
+use Rattle.network.specs.Stations.{unknown, unknownCount}
 use Rattle.network.specs.Records.{acts, fromOf, toOf, recordAt}
 use Rattle.network.specs.Rules.{recordFits}
 use Rattle.network.specs.RuleLaws.{network-few, in-list, ends, baseline-fits, height-fits}
@@ -22,12 +22,9 @@ use Rattle.network.specs.declared.Record.the-variants.{Empty, Baseline as basel
 use Rattle.normals.specs.Formulas.{shareN, shareU, entryN, entryU, entriesFit}
 use Rattle.normals.specs.Sound.{Sound}
 use Rattle.chains.specs.Bits.{bit}
-use Rattle.chains.specs.Scans.{firstFailing}
 use Rattle.chains.specs.Chains.{Tied, held, along, back, tiedSet, isTied, allTied, firstUntied}
 use Rattle.chains.specs.ChainLaws.{tied-sound, tied-whole}
-use Rattle.acceptance.specs.Tests.{lengthsFit}
-use Rattle.acceptance.specs.Judge.{judge, judgeNumbers, unless}
-use Rattle.acceptance.specs.declared.Refusal.the-variants.{Lengths, Untied}
+use Rattle.acceptance.specs.Judge.{judge}
 use Rattle.acceptance.specs.Exactly.{answer, fit-of}
 use Rattle.book.specs.declared.Book.{Book}
 use Rattle.book.specs.Book.{sound}
@@ -60,9 +57,9 @@ ends-listed net few (height h) c e a =
 
 -- ════ a chain over one list is one over the other: where it goes along a check only, it has met a held station already
 module _ (net : Network) (places others : List Place) (g : Sound net places) (same : SameAdjustment net places others) (c : ℕ) (low : c < 3) where
-  ends-end : (p : ℕ) → p < 256 → acts c (recordAt places p) ≡ true → inAdjustment (net .stations) (recordAt places p) ≡ false
+  ends-tied : (p : ℕ) → p < 256 → acts c (recordAt places p) ≡ true → inAdjustment (net .stations) (recordAt places p) ≡ false
       → Tied net others c (fromOf (recordAt places p)) × Tied net others c (toOf (recordAt places p))
-  ends-end p h a out =
+  ends-tied p h a out =
       let l = ends-listed net (network-few net (g .network)) (recordAt places p) c (g .each p h) a in
       let u = check-only (net .stations) (recordAt places p) out .ends c low a in
       (held (l .0) (u .0), held (l .1) (u .1))
@@ -73,12 +70,12 @@ module _ (net : Network) (places others : List Place) (g : Sound net places) (sa
     where
       go : Tied net others c s → SameAt net (recordAt places p) (recordAt others p) → Tied net others c t
       go i (inl q) = along h (ap (acts c) (sym q) ∙ a) (ap fromOf (sym q) ∙ f) (ap toOf (sym q) ∙ e) i
-      go i (inr o) = rw e at (ends-end p h a (o .0) .1)
+      go i (inr o) = rw e at (ends-tied p h a (o .0) .1)
   tied-too (back {s = s} {t = t} {p = p} h a f e j) = go (tied-too j) (same p h)
     where
       go : Tied net others c t → SameAt net (recordAt places p) (recordAt others p) → Tied net others c s
       go i (inl q) = back h (ap (acts c) (sym q) ∙ a) (ap fromOf (sym q) ∙ f) (ap toOf (sym q) ∙ e) i
-      go i (inr o) = rw f at (ends-end p h a (o .0) .0)
+      go i (inr o) = rw f at (ends-tied p h a (o .0) .0)
 
 module _ (net : Network) (places others : List Place) (g : Sound net places) (k : Sound net others) (same : SameAdjustment net places others) where
   same-set : (c s : ℕ) → c < 3 → bit (tiedSet net places c) s ≡ bit (tiedSet net others c) s
@@ -99,15 +96,15 @@ module _ (net : Network) (places others : List Place) (g : Sound net places) (k 
       go p (inl e) = ap f e
       go p (inr o) = z _ (o .0) ∙ sym (z _ (o .1))
 
-  pub same-N : (i j : ℕ) → entryN (net .stations) places i j ≡ entryN (net .stations) others i j
+  same-N : (i j : ℕ) → entryN (net .stations) places i j ≡ entryN (net .stations) others i j
   unfolding entryN
   same-N i j = same-sum (λ r. shareN (net .stations) r i j) (λ r o. check-only (net .stations) r o .matrix i j)
 
-  pub same-u : (i : ℕ) → entryU (net .stations) places i ≡ entryU (net .stations) others i
+  same-u : (i : ℕ) → entryU (net .stations) places i ≡ entryU (net .stations) others i
   unfolding entryU
   same-u i = same-sum (λ r. shareU (net .stations) r i) (λ r o. check-only (net .stations) r o .right i)
 
-  pub same-T : (x : List ℤ) → T (net .stations) places x ≡ T (net .stations) others x
+  same-T : (x : List ℤ) → T (net .stations) places x ≡ T (net .stations) others x
   unfolding T shareT
   same-T x = same-sum (shareT (net .stations) x) (λ r o. rw o refl)
 
@@ -115,7 +112,7 @@ module _ (net : Network) (places others : List Place) (g : Sound net places) (k 
   unfolding shareD
   no-share r o = rw o refl
 
-  pub same-D : D (net .stations) places ≡ D (net .stations) others
+  same-D : D (net .stations) places ≡ D (net .stations) others
   unfolding D
   same-D = ap (λ (k : ℕ). pos k -ℤ pos (unknownCount (net .stations))) (sumN-ext 256 (λ p h. go p (same p h)))
     where
@@ -124,18 +121,19 @@ module _ (net : Network) (places others : List Place) (g : Sound net places) (k 
       go p (inr o) = no-share _ (o .0) ∙ sym (no-share _ (o .1))
 
   -- ════ so every test of a check, and the last line of the sheet
+  all-N : entryN (net .stations) places ≡ entryN (net .stations) others
+  all-N = fun-ext (λ i. fun-ext (same-N i))
+
+  all-u : entryU (net .stations) places ≡ entryU (net .stations) others
+  all-u = fun-ext same-u
+
   same-answer : (x m : List ℤ) (room : Bool) → answer net places x m room ≡ answer net others x m room
   unfolding answer judge allTied firstUntied
-  same-answer x m room =
-      ap₂ (λ (N : ℕ → ℕ → ℤ) (u : ℕ → ℤ). judge net places N u x m room) (fun-ext (λ i. fun-ext (λ j. same-N i j))) (fun-ext same-u)
-      ∙ ap (λ (t : ℕ → Bool). unless (lengthsFit (unknownCount (net .stations)) x m room) Lengths
-      (unless (allBelow 96 t) (Untied (number (net .stations) (firstFailing 96 t) + 1)) (judgeNumbers (unknownCount (net .stations)) (entryN (net .stations) others) (entryU (net .stations) others) x m))) same-tied
+  same-answer x m room = rw (all-N, all-u, same-tied) refl
 
   same-sizes : (x : List ℤ) → sizesFit net places x ≡ sizesFit net others x
   unfolding sizesFit entriesFit
-  same-sizes x =
-      ap₂ (λ (f : (ℕ → ℕ → ℤ) × (ℕ → ℤ)) (t : ℤ). allBelow 48 (λ i. allBelow 48 (λ j. leb (natAbs (f .0 i j)) (2 ^ 62)) && leb (natAbs (f .1 i)) (2 ^ 62)) && leb (natAbs t) (2 ^ 62))
-      (ap₂ (λ (N : ℕ → ℕ → ℤ) (u : ℕ → ℤ). (N, u)) (fun-ext (λ i. fun-ext (λ j. same-N i j))) (fun-ext same-u)) (same-T x)
+  same-sizes x = rw (all-N, all-u, same-T x) refl
 
   same-checked : (x m : List ℤ) (room : Bool) → thenNine (answer net places x m room) (sizesFit net places x) ≡ thenNine (answer net others x m room) (sizesFit net others x)
   same-checked x m room = ap₂ thenNine (same-answer x m room) (same-sizes x)

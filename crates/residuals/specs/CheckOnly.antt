@@ -9,10 +9,11 @@ use native.Mathlib.Omega.{arith}
 use borrow.Author.Tests.{eqb-false, ne-eqb}
 use lib.Dec.{eqb}
 use lib.ListN.{getD}
-use lib.IntN.{ℤ, pos, natAbs, _-ℤ_, _*ℤ_, *ℤ-zero, zero-*ℤ}
+use lib.IntN.{ℤ, pos, _-ℤ_, _*ℤ_, *ℤ-zero, zero-*ℤ}
 use Rattle.integers.specs.Solvers.{ring, shapes}
 use Rattle.integers.specs.Sums.{sum, sum-ext, sum-0, δ, δ-same, δ-other}
-use Rattle.words.specs.Bools.{clash, true-or-false, and-no-left, and-no-right}
+use Rattle.words.specs.Bools.{clash, true-or-false, and-no-left, and-no-right, neither}
+use Rattle.words.specs.SignedLaws.{eqZ-false}
 use Rattle.network.specs.Stations.{unknown, number, unknownCount}
 use Rattle.network.specs.StationLaws.{bit-cases, number-below, number-apart}
 use Rattle.network.specs.Records.{acts, fromOf, toOf, joins, l}
@@ -35,19 +36,12 @@ pub record CheckOnly (st : List Station) (r : Record) : Type 0 where
   -- no M changes what they are held against
   pub variances : (m : List ℤ) (a : ℕ) → a < 3 → acts a r ≡ true → residualVariance st m r a ≡ observationVariance r a
 
-one-not-zero : pos 1 ≡ pos 0 → ⊥
-one-not-zero e = let h : _≡_ {A = ℕ} 1 0 = ap natAbs e in omega arith
-
 -- a record that acts has two ends
 joins-acting : (r : Record) (a : ℕ) → acts a r ≡ true → joins r ≡ pos 1
 unfolding acts joins
 joins-acting Empty a e = clash e refl
 joins-acting (baseline b) a e = refl
 joins-acting (height h) a e = refl
-
-neither : (a b : Bool) → a || b ≡ false → (a ≡ false) × (b ≡ false)
-neither true b e = clash refl e
-neither false b e = (refl, e)
 
 none : (a b c : Bool) → a || b || c ≡ false → (a ≡ false) × (b ≡ false) × (c ≡ false)
 none a b c e = let p = neither (a || b) c e in let q = neither a b (p .0) in (q .0, q .1, p .1)
@@ -143,7 +137,7 @@ module _ (st : List Station) (r : Record) where
       apart q = go (g .apart)
         where
           go : (joins r ≡ pos 0) ⊎ (fromOf r ≡ toOf r → ⊥) → ⊥
-          go (inl j) = one-not-zero (sym (joins-acting r a e) ∙ j)
+          go (inl j) = eqZ-false (pos 1) (pos 0) refl (sym (joins-acting r a e) ∙ j)
           go (inr ne) = ne (omega arith)
 
       -- row a of A at the unknown i, from what stands at the two ends
@@ -152,13 +146,13 @@ module _ (st : List Station) (r : Record) where
 
       to-held : eqb (unknown st (toOf r * 3 + a)) 1 ≡ false
       to-held = ne-eqb _ 1 (λ u.
-          one-not-zero
+          eqZ-false (pos 1) (pos 0) refl
           (sym (row-at (number st (toOf r * 3 + a)) (pos 1) (pos 0) (at-self _ u) (at-other _ _ apart u))
           ∙ zeros a h (number st (toOf r * 3 + a)) (let b = g .to in number-below st (toOf r * 3 + a) 96 (omega arith) u)))
 
       from-held : eqb (unknown st (fromOf r * 3 + a)) 1 ≡ false
       from-held = ne-eqb _ 1 (λ u.
-          one-not-zero
+          eqZ-false (pos 1) (pos 0) refl
           (ap (λ (z : ℤ). pos 0 -ℤ z) (sym (row-at (number st (fromOf r * 3 + a)) (pos 0) (pos 1) (at-other _ _ (λ q. apart (sym q)) u) (at-self _ u))
           ∙ zeros a h (number st (fromOf r * 3 + a)) (let b = g .from in number-below st (fromOf r * 3 + a) 96 (omega arith) u))))
 

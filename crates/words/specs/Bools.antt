@@ -1,7 +1,7 @@
--- Laws of tests: `&&` taken apart and put together, and a test that cannot be both. Assumes nothing.
+-- Laws of tests: `&&` taken apart and put together, `||` that does not hold, and a test that cannot be both. Assumes nothing.
 use mathlib.Core.Path.{_≡_, refl, sym, subst, _∙_}
 use mathlib.Core.Logic.{_⊎_, inl, inr}
-use mathlib.Core.Bool.{Bool, true, false, _&&_}
+use mathlib.Core.Bool.{Bool, true, false, _&&_, _||_}
 use lib.Dec.{T}
 
 -- no test is both true and false: of e : true ≡ false it is `clash refl e`
@@ -37,3 +37,7 @@ and-no-left false b p = refl
 pub and-no-right : (a b : Bool) → b ≡ false → a && b ≡ false
 and-no-right true b p = p
 and-no-right false b p = refl
+
+pub neither : (a b : Bool) → a || b ≡ false → (a ≡ false) × (b ≡ false)
+neither true b e = clash refl e
+neither false b e = (refl, e)
