@@ -83,10 +83,10 @@ fn share_of_d(unknown: &[i64; 96], r: Record) -> usize
     requires { ⌜ (fromOf r < 32) × (toOf r < 32) ⌝ }
     ensures { λ n. ⌜ n ≡ shareDIn (now (unknown .entry)) r ⌝ }
 {
-    if !in_adjustment(unknown, r) {
-        return 0;
+    if in_adjustment(unknown, r) {
+        return observations_in(r);
     }
-    observations_in(r)
+    0
 }
 
 // The degrees of freedom of so many observed components and n unknowns.
@@ -99,7 +99,7 @@ fn freedom_of(observed: usize, n: usize) -> i64
     o - u
 }
 
-// D, the degrees of freedom.
+// D, the degrees of freedom of the records in the adjustment.
 pub fn d_of(net: Network, places: [Place; 256]) -> i64
     requires { ⌜ Sound net places ⌝ }
     ensures { λ r. ⌜ r ≡ D (net .stations) places ⌝ }
@@ -154,7 +154,7 @@ fn share_of_t(unknown: &[i64; 96], coordinate: &[i64; 96], correction: &[i64; 96
     0
 }
 
-// T, the weighted squares of the residuals.
+// T, the weighted squares of the residuals of the records in the adjustment.
 pub fn t_of(net: Network, places: [Place; 256], x: &[i64]) -> i64
     requires { ⌜ Solved net places (now x) ⌝ }
     ensures { λ r. ⌜ r ≡ T (net .stations) places (now (x .entry)) ⌝ }

@@ -1,5 +1,4 @@
 use borrow.Author.Needs.{needs}
-use borrow.Author.Tests.{not-true, not-false}
 use mathlib.Core.Path.{sym, ap, _∙_}
 use mathlib.Core.Bool.{Bool, cond}
 use Rattle.residuals.specs.Residuals.{observations}
@@ -9,19 +8,19 @@ use Rattle.sheet.proofs.totals.share_of_d.Tie as tie
 in-adjustment-requires : tie.Need-in-adjustment-requires
 in-adjustment-requires c κs = search needs
 
-returns : tie.Need-returns
-returns c =
-    let t = c .before in
-    ap (λ (b : Bool). cond b (observations (t .before .args .r)) 0) (sym (not-true _ (c .if1 .taken)) ∙ t .in-adjustment .ensures)
-
 observations-in-requires : tie.Need-observations-in-requires
 observations-in-requires c κs = search needs
 
+returns : tie.Need-returns
+returns c =
+    let t = c .before .before in
+    c .observations-in .ensures ∙ ap (λ (b : Bool). cond b (observations (t .before .args .r)) 0) (sym (c .before .if1 .taken) ∙ t .in-adjustment .ensures)
+
 returns-2 : tie.Need-returns-2
 returns-2 c =
-    let t = c .before .before in
-    c .observations-in .ensures ∙ ap (λ (b : Bool). cond b (observations (t .before .args .r)) 0) (sym (not-false _ (c .before .if1 .left)) ∙ t .in-adjustment .ensures)
+    let t = c .before in
+    ap (λ (b : Bool). cond b (observations (t .before .args .r)) 0) (sym (c .if1 .left) ∙ t .in-adjustment .ensures)
 
 pub share-of-d-spec : {M : Type 1} → statement M
 share-of-d-spec =
-    tie.close (tie.spec in-adjustment-requires returns observations-in-requires returns-2)
+    tie.close (tie.spec in-adjustment-requires observations-in-requires returns returns-2)
