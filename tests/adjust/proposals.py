@@ -105,7 +105,7 @@ def judge(net, records, text):
         for c, v, word in zip(r.components, residuals, fields[1 + count:]):
             if word not in verdicts(*local_range(net, exact, diagonal, r, c), v):
                 return 'wrong verdict at place %d' % place
-    t, d = survey.weighted_squares(net, records, x), survey.freedom(net, records)
+    t, d = survey.square_sum(net, records, x), survey.freedom(net, records)
     if rows[-1] != ['GLOBAL', str(t), str(d), lines.WORDS[survey.global_verdict(t, d)]]:
         return 'wrong last line'
     return None

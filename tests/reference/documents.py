@@ -161,7 +161,7 @@ def exact_sheet(stations, records):
         for k, c in enumerate(r.components, 1):
             words[at + k] = solve.nearest(survey.residual(net, r, y, c, d), d)
         at += 1 + 2 * len(r.components)
-    words[at] = solve.nearest(survey.weighted_squares(net, records, y, d), d * d)
+    words[at] = solve.nearest(survey.square_sum(net, records, y, d), d * d)
     return x, words
 
 

@@ -249,7 +249,7 @@ def check(net, records, x, m, room=None):
         return (15,)
     if any(abs(sum(m[i * n + k] * r[k] for k in range(n))) > 15 * 2 ** 26 for i in range(n)):
         return (16,)
-    if abs(weighted_squares(net, records, x)) > LIMIT:
+    if abs(square_sum(net, records, x)) > LIMIT:
         return (9,)
     return (0,)
 
@@ -265,7 +265,7 @@ def in_adjustment(net, r):
     return any(net.at(s).unknown(c) for s in (r.start, r.end) for c in r.components)
 
 
-def weighted_squares(net, records, x, d=1):
+def square_sum(net, records, x, d=1):
     """T at the corrections x over d, times d squared."""
     total = 0
     for r in records.values():
@@ -318,7 +318,7 @@ def sheet(net, records, x, m):
         words.append(place)
         words += [residual(net, r, x, c) for c in r.components]
         words += [local_verdict(net, r, x, m, c) for c in r.components]
-    t, d = weighted_squares(net, records, x), freedom(net, records)
+    t, d = square_sum(net, records, x), freedom(net, records)
     return words + [t, d, global_verdict(t, d)]
 
 
