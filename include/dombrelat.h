@@ -33,8 +33,9 @@
 extern "C" {
 #endif
 
-/* The version of this header and of the library that it belongs to. It goes up where a call that was there answers otherwise: in 1, records between two known stations counted in the
- * square sum and the degrees of freedom of a sheet. The bytes of a book have a number of their own, that of their layout: it is 1, the book's first word. */
+/* The version of this header and of the library that it belongs to. It goes up where an existing call gives another answer. 2: dombrelat_check_sheet leaves records between two known
+ * stations out of the square sum, the degrees of freedom and so the global verdict; in 1 they counted. The bytes of a book have a number of their own, that of their layout: it is 1,
+ * the book's first word. */
 #define DOMBRELAT_VERSION 2
 
 /* The bytes of a book. A longer slice may be lent: bytes beyond stay. The layout is in docs/BOOK.md; a program needs it only to look inside. */
