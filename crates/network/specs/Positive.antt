@@ -34,7 +34,7 @@ product-positive a b p q =
     let k : b ≤ℤ (a *ℤ b) = subst (λ (z : ℤ). z ≤ℤ (a *ℤ b)) (*ℤ-idl b) h in
     omega (zarith, k, q)
 
-factor-positive : (a b : ℤ) → pos 0 <ℤ a → pos 0 <ℤ (a *ℤ b) → pos 0 <ℤ b
+pub factor-positive : (a b : ℤ) → pos 0 <ℤ a → pos 0 <ℤ (a *ℤ b) → pos 0 <ℤ b
 factor-positive a b p q = ⊎-elim (λ h. clashℤ q (low h)) (λ h. h) (≤ℤ-or b (pos 0))
   where
     low : b ≤ℤ pos 0 → (a *ℤ b) ≤ℤ pos 0

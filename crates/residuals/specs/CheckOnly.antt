@@ -8,7 +8,6 @@ use mathlib.Core.Logic.{_⊎_, inl, inr}
 use native.Mathlib.Omega.{arith}
 use borrow.Author.Tests.{eqb-false, ne-eqb}
 use lib.Dec.{eqb}
-use lib.ListN.{getD}
 use lib.IntN.{ℤ, pos, _-ℤ_, _*ℤ_, *ℤ-zero, zero-*ℤ}
 use Rattle.integers.specs.Solvers.{ring, shapes}
 use Rattle.integers.specs.Sums.{sum, sum-ext, sum-0, δ, δ-same, δ-other}
@@ -23,7 +22,9 @@ use Rattle.network.specs.declared.Record.{Record}
 use Rattle.network.specs.declared.Record.the-variants.{Empty, Baseline as baseline, Height as height}
 use Rattle.normals.specs.Formulas.{A, P, isUnknown, shareN, shareU}
 use Rattle.normals.specs.Acting.{A-acting, A-not-acting}
-use Rattle.residuals.specs.Residuals.{covariance, residual, unknownAtEnd, inAdjustment, observationVariance, differenceVariance, residualVariance}
+use Rattle.residuals.specs.Residuals.{residual, unknownAtEnd, inAdjustment, observationVariance, differenceVariance, residualVariance}
+use Rattle.residuals.specs.Held.{held-covariance}
+use Rattle.residuals.specs.NotActing.{row-zero-residual}
 
 pub record CheckOnly (st : List Station) (r : Record) : Type 0 where
   pub ends : (a : ℕ) → a < 3 → acts a r ≡ true → (unknown st (fromOf r * 3 + a) ≡ 0) × (unknown st (toOf r * 3 + a) ≡ 0)
@@ -81,16 +82,12 @@ module _ (st : List Station) (r : Record) where
           ∙ ring (joins r ∷ []) (search shapes) tt
       go (inr e) = A-not-acting st r a i e
 
-  no-covariance : (m : List ℤ) (q k : ℕ) → unknown st q ≡ 0 → covariance st m q k ≡ pos 0
-  unfolding covariance
-  no-covariance m q k u = rw u (no-product (pos (unknown st k)) (getD m (number st q * unknownCount st + number st k) (pos 0)))
-
   no-difference : (m : List ℤ) (a : ℕ) → unknown st (fromOf r * 3 + a) ≡ 0 → unknown st (toOf r * 3 + a) ≡ 0 → residualVariance st m r a ≡ observationVariance r a
   unfolding residualVariance differenceVariance
   no-difference m a f t =
       let at = toOf r * 3 + a in
       let from = fromOf r * 3 + a in
-      rw (no-covariance m at at t, no-covariance m from from f, no-covariance m at from t, no-covariance m from at f)
+      rw (held-covariance st at t m at, held-covariance st from f m from, held-covariance st at t m from, held-covariance st from f m at)
       (ring (observationVariance r a ∷ joins r ∷ []) (search shapes) tt)
 
   nowhere : inAdjustment st r ≡ false → (a : ℕ) → a < 3 → unknownAtEnd st r a ≡ false
@@ -101,16 +98,14 @@ module _ (st : List Station) (r : Record) where
   nowhere out (suc (suc (suc a))) h = absurd (omega arith)
 
   pub check-only : inAdjustment st r ≡ false → CheckOnly st r
-  unfolding shareN shareU residual
+  unfolding shareN shareU
   check-only out =
       record {
         ends = λ a h e. ends-held a e (nowhere out a h);
         coefficients = zeros;
         matrix = λ i j. no-products (λ a b. A st r a i) (P r) (λ a b. A st r b j) (λ a b h. zeros a h i);
         right = λ i. no-products (λ a b. A st r a i) (P r) (λ a b. l st r b) (λ a b h. zeros a h i);
-        residuals = λ x a h.
-            ap (λ (z : ℤ). l st r a -ℤ z) (sum-ext (unknownCount st) (λ i o. ap (λ (z : ℤ). z *ℤ getD x i (pos 0)) (zeros a h i) ∙ zero-*ℤ (getD x i (pos 0))) ∙ sum-0 (unknownCount st))
-            ∙ ring (l st r a ∷ []) (search shapes) tt;
+        residuals = λ x a h. row-zero-residual st r a (zeros a h) x;
         variances = λ m a h e. let u = ends-held a e (nowhere out a h) in no-difference m a (u .0) (u .1);
       }
     where

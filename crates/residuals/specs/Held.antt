@@ -17,9 +17,12 @@ module _ (stations : List Station) (q : ℕ) (held : unknown stations q ≡ 0) w
       nothing-added : (c z : ℤ) → c +ℤ pos 0 *ℤ z ≡ c
       nothing-added c z = ring (c ∷ z ∷ []) (search shapes depth 12) tt
 
-  pub held-exact : (m : List ℤ) → variance stations m q ≡ pos 0
+  pub held-covariance : (m : List ℤ) (k : ℕ) → covariance stations m q k ≡ pos 0
   unfolding covariance
-  held-exact m = rw held (nothing-times (getD m (number stations q * unknownCount stations + number stations q) (pos 0)))
+  held-covariance m k = rw held (nothing-times (pos (unknown stations k)) (getD m (number stations q * unknownCount stations + number stations k) (pos 0)))
     where
-      nothing-times : (z : ℤ) → pos 0 *ℤ pos 0 *ℤ z ≡ pos 0
-      nothing-times z = ring (z ∷ []) (search shapes depth 12) tt
+      nothing-times : (y z : ℤ) → pos 0 *ℤ y *ℤ z ≡ pos 0
+      nothing-times y z = ring (y ∷ z ∷ []) (search shapes depth 12) tt
+
+  pub held-exact : (m : List ℤ) → variance stations m q ≡ pos 0
+  held-exact m = held-covariance m q

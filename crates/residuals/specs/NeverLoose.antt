@@ -4,12 +4,12 @@ use Prim.Native.Nat.{ℕ, zero, suc, _<_, _^_}
 use mathlib.Core.Path.{_≡_, refl, sym, ap, subst}
 use mathlib.Core.Bool.{true, false}
 use mathlib.Core.List.{List, [], _∷_}
-use mathlib.Core.Logic.{_⊎_, inl, inr, ⊎-elim}
+use mathlib.Core.Logic.{_⊎_, inl, inr}
 use native.Mathlib.Omega.{arith}
 use lib.IntN.{ℤ, pos, natAbs, _+ℤ_, _-ℤ_, _*ℤ_}
 use lib.Signed.{ltZ, _≤ℤ_, _<ℤ_, clashℤ}
 use Rattle.integers.specs.Solvers.{ring, shapes, zle, lez, zlt, ltz}
-use Rattle.integers.specs.Order.{zarith, pos-abs, <ℤ→≤ℤ, ≤ℤ-or, +ℤ-mono, *ℤ-mono, *ℤ-nonneg, sq-nonneg, pos-mono}
+use Rattle.integers.specs.Order.{zarith, pos-abs, <ℤ→≤ℤ, +ℤ-mono, *ℤ-mono, *ℤ-nonneg, sq-nonneg, pos-mono}
 use Rattle.integers.specs.Division.{floorDiv, ≤-floorDiv}
 use Rattle.words.specs.Bools.{clash, true-or-false}
 use Rattle.words.specs.SignedLaws.{eqZ-false}
@@ -17,7 +17,7 @@ use Rattle.network.specs.All.{passed}
 use Rattle.network.specs.Records.{acts}
 use Rattle.network.specs.Rules.{adjugateE, adjugateN, adjugateU, determinant, recordFits}
 use Rattle.network.specs.Ranges.{Weight, BaselineRange}
-use Rattle.network.specs.Positive.{PositiveMatrix}
+use Rattle.network.specs.Positive.{PositiveMatrix, factor-positive}
 use Rattle.network.specs.RuleLaws.{baseline-weights, height-weight}
 use Rattle.network.specs.declared.Network.{Network}
 use Rattle.network.specs.declared.Baseline.{Baseline}
@@ -30,14 +30,10 @@ use Rattle.residuals.specs.declared.Verdict.the-variants.{Loose}
 
 -- ════ the determinant is at most a weight of the diagonal times its entry of the adjugate
 factor-nonneg : (m x : ℤ) → pos 0 <ℤ m → pos 0 ≤ℤ (m *ℤ x) → pos 0 ≤ℤ x
-factor-nonneg m x p h = ⊎-elim (λ k. k) (λ k. clashℤ (low k) h) (≤ℤ-or (pos 0) x)
-  where
-    low : x <ℤ pos 0 → (m *ℤ x) <ℤ pos 0
-    low k =
-        let one : (x +ℤ pos 1) ≤ℤ pos 0 = zle (x ∷ []) (search shapes) (omega (zarith, ltz (x ∷ []) (search shapes) k)) in
-        let all : ((x +ℤ pos 1) *ℤ m) ≤ℤ (pos 0 *ℤ m) = *ℤ-mono (<ℤ→≤ℤ p) one in
-        let ρ = m ∷ x ∷ [] in
-        zlt ρ (search shapes) (omega (zarith, ltz ρ (search shapes) p, lez ρ (search shapes) all))
+factor-nonneg m x p h =
+    let ρ = m ∷ x ∷ [] in
+    let k = factor-positive m (x +ℤ pos 1) p (zlt ρ (search shapes) (omega (zarith, ltz ρ (search shapes) p, lez ρ (search shapes) h))) in
+    zle (x ∷ []) (search shapes) (omega (zarith, ltz (x ∷ []) (search shapes) k))
 
 -- a weight is from 1 to 10,000
 weight-some : {w : ℤ} → Weight w → pos 0 <ℤ w

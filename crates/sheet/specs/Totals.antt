@@ -265,7 +265,7 @@ pub weights-within : {coordinate corrections : List ℤ} {r : Record} → Weighe
 weights-within {r} g = record { long = weights-length r; bound = g .weight }
 
 -- "9 | … check | … T, beyond ±2^62": it never comes
-pub T-size : {net : Network} {places : List Place} {x : List ℤ} → Solved net places x → natAbs (T (net .stations) places x) ≤ 2073600000000000000
+T-size : {net : Network} {places : List Place} {x : List ℤ} → Solved net places x → natAbs (T (net .stations) places x) ≤ 2073600000000000000
 T-size {places} g = rw (sym (T-in g)) (shares-size _ places (weighed-at g) 256 (lit≤ tt))
 
 pub T-fits : {net : Network} {places : List Place} {x : List ℤ} → Solved net places x → natAbs (T (net .stations) places x) ≤ 2 ^ 62
