@@ -7,7 +7,7 @@ use lib.IntN.{ℤ, pos, natAbs, _-ℤ_, _*ℤ_}
 use lib.Signed.{_≤ℤ_, _<ℤ_}
 use Rattle.integers.specs.Sums.{sum, sumN, sumN-swap, δ}
 use Rattle.integers.specs.Inverses.{largest as largestOf, ≤-largest, approx, approx-column, rounded-passes-5, rounded-passes-6, rounded-passes-7}
-use Rattle.network.specs.All.{all-at, all-by}
+use Rattle.lists.specs.All.{all-at, all-by}
 use Rattle.acceptance.specs.Tests.{S, defect, refinement, defectSmall, residualSmall, refinementSmall}
 use Rattle.acceptance.specs.LeftInverse.{left-inverse}
 

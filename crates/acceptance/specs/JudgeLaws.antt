@@ -11,7 +11,7 @@ use lib.IntN.{ℤ, natAbs, _*ℤ_}
 use Rattle.integers.specs.Sums.{sum, sum-ext}
 use Rattle.integers.specs.Tables.{Within, within-inside}
 use Rattle.words.specs.Bools.{same-test, and-left, and-right}
-use Rattle.network.specs.All.{allBelow, all-at, all-by}
+use Rattle.lists.specs.All.{allBelow, all-at, all-by}
 use Rattle.network.specs.Stations.{unknownCount}
 use Rattle.network.specs.declared.Network.{Network}
 use Rattle.network.specs.declared.Place.{Place}

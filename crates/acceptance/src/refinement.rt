@@ -7,7 +7,7 @@ ghost use Prim.Native.Nat.{_*_, _^_};
 ghost use lib.Dec.{leb};
 ghost use lib.IntN.{natAbs, _*ℤ_};
 ghost use Rattle.integers.specs.Sums.{sum};
-ghost use Rattle.network.specs.All.{allBelow};
+ghost use Rattle.lists.specs.All.{allBelow};
 ghost use Rattle.acceptance.specs.Tests.{at, byRows, normalResidual};
 ghost use Rattle.acceptance.specs.Loops.{Normal, Residuals, Small};
 

@@ -4,7 +4,7 @@ ghost use Prim.Native.Nat.{_≤_};
 ghost use lib.Dec.{leb};
 ghost use lib.IntN.{natAbs};
 ghost use lib.ListN.{length};
-ghost use Rattle.network.specs.All.{allBelow};
+ghost use Rattle.lists.specs.All.{allBelow};
 ghost use Rattle.acceptance.specs.Tests.{at};
 
 // Whether the first n numbers are at most `limit` in size.

@@ -12,7 +12,7 @@ use normals::Normals;
 ghost use mathlib.Core.Path.{_≡_};
 ghost use mathlib.Core.Bool.{true};
 ghost use Prim.Native.Nat.{_≤_};
-ghost use Rattle.network.specs.All.{allBelow};
+ghost use Rattle.lists.specs.All.{allBelow};
 ghost use Rattle.network.specs.Stations.{coordinatesFit};
 ghost use Rattle.network.specs.Records.{recordAt};
 ghost use Rattle.network.specs.Rules.{recordFits};

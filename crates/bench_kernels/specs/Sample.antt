@@ -11,7 +11,7 @@ use borrow.Author.Tests.{lt-ltb, le-ltb, le-leb, leb-true}
 use Rattle.integers.specs.Bounds.{bounds, absle}
 use Rattle.integers.specs.Tables.{tabulate, getD-tabulate, Within, within-tabulate}
 use Rattle.words.specs.Bools.{and-left, and-right, and-both}
-use Rattle.network.specs.All.{allBelow, all-at}
+use Rattle.lists.specs.All.{allBelow, all-at}
 use Rattle.network.specs.Stations.{networkFits, blankBeyond, coordinatesFit, unknownsFit, isBlank, isKnown, coordinate, coordinateIn, coordinates, unknown, unknownIn, number}
 use Rattle.network.specs.Records.{vacant, fromOf, toOf, misclosures, misclosureAt}
 use Rattle.network.specs.Rules.{recordFits, recordNo, recordNoOver, endsFit, baselineInRange, matrixFits, minorsPositive, adjugateFits, misclosureFits}

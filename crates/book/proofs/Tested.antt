@@ -1,7 +1,7 @@
 -- A book's value tested part by part, in the order of `sound`. Assumes nothing.
 use mathlib.Core.Path.{_≡_, ap, _∙_}
 use mathlib.Core.Bool.{Bool, true, false, _&&_}
-use Rattle.network.specs.All.{allBelow, all-at}
+use Rattle.lists.specs.All.{allBelow, all-at}
 use Rattle.network.specs.Stations.{networkFits}
 use Rattle.network.specs.Records.{recordAt}
 use Rattle.network.specs.Rules.{recordFits}

@@ -5,7 +5,7 @@ use mathlib.Core.List.{List, [], _∷_}
 use lib.Dec.{ltb}
 use lib.ListN.{set, replicate}
 use lib.IntN.{ℤ, pos}
-use Rattle.network.specs.All.{allBelow}
+use Rattle.lists.specs.All.{allBelow}
 use Rattle.network.specs.Stations.{networkOf, networkFits, opens}
 use Rattle.network.specs.Records.{vacant, recordAt}
 use Rattle.network.specs.Rules.{isEmpty, recordFits}

@@ -4,7 +4,7 @@ use mathlib.Core.Bool.{Bool, _&&_, _||_}
 use mathlib.Core.List.{List, [], _∷_}
 use lib.Dec.{eqb, leb, ltb}
 use lib.ListN.{getD, set, replicate}
-use Rattle.network.specs.All.{allBelow}
+use Rattle.lists.specs.All.{allBelow}
 use Rattle.network.specs.Rules.{isEmpty}
 use Rattle.network.specs.declared.Record.the-variants.{Empty}
 use Rattle.book.specs.declared.Reversal.{Reversal}

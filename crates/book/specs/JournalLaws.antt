@@ -10,7 +10,7 @@ use lib.Dec.{leb, ltb}
 use lib.ListN.{take, length, set, getD}
 use lib.Seq.{getD-set-same, getD-set-other}
 use Rattle.words.specs.Bools.{clash, and-left, and-right, and-both}
-use Rattle.network.specs.All.{all-at, all-by}
+use Rattle.lists.specs.All.{all-at, all-by}
 use Rattle.network.specs.Rules.{isEmpty}
 use Rattle.book.specs.declared.Reversal.{Reversal}
 use Rattle.book.specs.declared.Journal.{Journal}

@@ -8,7 +8,7 @@ use lib.IntN.{ℤ, pos}
 use lib.ListN.{length, take, drop, getD, length-take, length-drop}
 use lib.Seq.{ext-getD, getD-take, getD-drop, take-all}
 use Rattle.integers.specs.Tables.{length-tabulate, getD-tabulate}
-use Rattle.network.specs.Filling.{Mapped}
+use Rattle.lists.specs.Filling.{Mapped}
 use Rattle.book.specs.Run.{final, answers, final-suc, answer-at}
 use Rattle.book.specs.Rows.{Row, nameless, rowIn, rowsIn}
 

@@ -10,7 +10,7 @@ use lib.Dec.{ltb}
 use lib.ListN.{length}
 use Rattle.integers.specs.Tables.{length-tabulate}
 use Rattle.words.specs.Bools.{clash, and-left, and-right, and-both}
-use Rattle.network.specs.All.{allBelow, all-at, all-by}
+use Rattle.lists.specs.All.{allBelow, all-at, all-by}
 use Rattle.network.specs.Stations.{networkFits}
 use Rattle.network.specs.Records.{recordAt}
 use Rattle.network.specs.Rules.{isEmpty, recordFits}

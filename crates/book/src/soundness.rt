@@ -12,7 +12,7 @@ ghost use mathlib.Core.Bool.{true, not, _&&_, _||_};
 ghost use Prim.Native.Nat.{_+_, _-_, _%_, _<_};
 ghost use lib.Dec.{ltb};
 ghost use lib.ListN.{getD};
-ghost use Rattle.network.specs.All.{allBelow};
+ghost use Rattle.lists.specs.All.{allBelow};
 ghost use Rattle.network.specs.Stations.{coordinates, networkFits};
 ghost use Rattle.network.specs.Records.{recordAt};
 ghost use Rattle.network.specs.Rules.{isEmpty, recordFits};

@@ -8,7 +8,7 @@ use lib.Dec.{leb}
 use lib.ListN.{length, getD, List·getD-map}
 use lib.IntN.{ℤ, pos}
 use Rattle.words.specs.Bools.{and-left, and-right}
-use Rattle.network.specs.All.{allBelow, all-at}
+use Rattle.lists.specs.All.{allBelow, all-at}
 use Rattle.integers.specs.Tables.{tabulate, getD-tabulate}
 use Rattle.book.specs.Rows.{Row, names}
 use Rattle.book.specs.Calls.{Call, add, replace, undo}

@@ -9,7 +9,7 @@ use lib.IntN.{ℤ, pos}
 use Rattle.integers.specs.Tables.{tabulate}
 use Rattle.integers.specs.Sums.{sum, sumN}
 use Rattle.words.specs.Signed.{indexIn}
-use Rattle.network.specs.All.{allBelow}
+use Rattle.lists.specs.All.{allBelow}
 use Rattle.network.specs.Stations.{blank, networkOf, stationIn, kindAt, opens, wholeStations, kindsFit, coordinatesFit, unknownsFit, unknown, unknownIn, number, coordinate, coordinateIn}
 use Rattle.network.specs.Records.{acts, fromOf, toOf, joins, weights, misclosures, misclosureAt}
 use Rattle.network.specs.Rules.{endsFit, baselineInRange, heightInRange, minorsPositive, adjugateFits, matrixFits, misclosureFits, recordNoOver, recordNo, isEmpty}

@@ -11,7 +11,7 @@ use lib.Dec.{eqb}
 use lib.ListN.{length, getD, List·getD-eq-default}
 use Rattle.integers.specs.Tables.{getD-tabulate, length-tabulate}
 use Rattle.words.specs.Bools.{clash, true-or-false, same-test}
-use Rattle.network.specs.All.{allBelow, all-at, all-by}
+use Rattle.lists.specs.All.{allBelow, all-at, all-by}
 use Rattle.network.specs.Stations.{unknown, number}
 use Rattle.network.specs.StationLaws.{bit-cases, number-mono}
 use Rattle.network.specs.Records.{recordAt, acts, fromOf, toOf}

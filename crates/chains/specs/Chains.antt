@@ -8,7 +8,7 @@ use mathlib.Core.List.{List}
 use lib.Dec.{eqb}
 use lib.ListN.{getD}
 use Rattle.integers.specs.Tables.{tabulate}
-use Rattle.network.specs.All.{allBelow}
+use Rattle.lists.specs.All.{allBelow}
 use Rattle.network.specs.Stations.{unknown, number}
 use Rattle.network.specs.Records.{recordAt, acts, fromOf, toOf}
 use Rattle.network.specs.declared.Station.{Station}

@@ -7,7 +7,7 @@ use native.Mathlib.Omega.{arith}
 use native.Mathlib.Decide.{decLt}
 use native.Mathlib.Numerals.{add-one}
 use Rattle.words.specs.Bools.{clash, true-or-false, and-left, and-right, and-both}
-use Rattle.network.specs.All.{allBelow, all-suc, all-at}
+use Rattle.lists.specs.All.{allBelow, all-suc, all-at}
 
 -- the least number below n that fails, n where none does
 unfoldable pub firstFailing : ℕ → (ℕ → Bool) → ℕ

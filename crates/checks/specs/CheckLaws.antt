@@ -9,7 +9,7 @@ use lib.Dec.{eqb}
 use lib.ListN.{length, drop}
 use lib.IntN.{ℤ}
 use Rattle.words.specs.Bools.{and-both, and-right}
-use Rattle.network.specs.All.{all-at}
+use Rattle.lists.specs.All.{all-at}
 use Rattle.network.specs.Records.{recordAt}
 use Rattle.network.specs.Rules.{recordFits}
 use Rattle.normals.specs.Sound.{Sound}

@@ -9,7 +9,7 @@ use lib.Dec.{lit≤}
 use lib.IntN.{ℤ, pos, negsuc, natAbs}
 use lib.Signed.{leZ, ltZ}
 use Rattle.words.specs.Bools.{clash, and-left, and-right}
-use Rattle.network.specs.All.{each}
+use Rattle.lists.specs.All.{each}
 use Rattle.network.specs.Rules.{endsFit}
 use Rattle.network.specs.declared.Network.{Network}
 use Rattle.acceptance.specs.JudgeLaws.{refusal-least, refusal-most}

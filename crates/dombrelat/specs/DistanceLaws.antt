@@ -19,7 +19,7 @@ use Rattle.words.specs.Runs.{putWords}
 use Rattle.words.specs.RunLaws.{run-at}
 use Rattle.network.specs.Rules.{inList, endsFit}
 use Rattle.network.specs.RuleLaws.{network-few, in-list, ends}
-use Rattle.network.specs.Stored.{fits-by}
+use Rattle.lists.specs.Stored.{fits-by}
 use Rattle.acceptance.specs.Exactly.{answer}
 use Rattle.acceptance.specs.JudgeLaws.{refusal-least}
 use Rattle.acceptance.specs.declared.Answer.{Answer}

@@ -19,7 +19,7 @@ use Rattle.words.specs.Signed.{indexIn}
 use Rattle.words.specs.SignedLaws.{index-test, index-number}
 use Rattle.words.specs.Runs.{wordsAt, putWords}
 use Rattle.words.specs.RunLaws.{length-words, length-run, run-back}
-use Rattle.network.specs.All.{Each, each, each-by, all-at, all-by}
+use Rattle.lists.specs.All.{Each, each, each-by, all-at, all-by}
 use Rattle.network.specs.Stations.{blank, stationAt, kindAt, kindOf, isKind, stationIn, networkOf, countFits, coordinatesFit, unknownsFit, kindsFit, wholeStations, blankBeyond, networkFits}
 use Rattle.network.specs.Stations as stations
 use Rattle.network.specs.StationWords.{kindWord, stationWords}

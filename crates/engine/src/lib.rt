@@ -3,7 +3,6 @@
 // `candidate` works a pair out from N and u: the inverse (`inverse`), rounded to whole numbers (`rounding`), and the corrections (`solution`).
 // `offer` has the check judge it, and writes only an accepted pair.
 mod candidate;
-mod copying;
 mod inverse;
 mod offer;
 mod rounding;

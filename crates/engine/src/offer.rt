@@ -1,6 +1,5 @@
 // A candidate passed through the check: only an accepted one is written to the lent slices.
 use super::Proposal;
-use super::copying::copy;
 use acceptance::Answer;
 use book::Book;
 ghost use mathlib.Core.Path.{_≡_};
@@ -23,8 +22,8 @@ pub(crate) fn offer(
 {
     let answer = checks::check(book, corrections, inverse);
     if let Answer::Accepted = answer {
-        copy(corrections, x);
-        copy(inverse, m);
+        lists::copy(corrections, x);
+        lists::copy(inverse, m);
         return Proposal::Made;
     }
     Proposal::Nothing

@@ -14,13 +14,13 @@ use Rattle.words.specs.Signed.{indexIn, eqZ}
 use Rattle.words.specs.Words.{wordAt}
 use Rattle.words.specs.Runs.{wordsAt, putWords}
 use Rattle.words.specs.RunLaws.{length-words, words-at}
-use Rattle.network.specs.All.{allBelow}
+use Rattle.lists.specs.All.{allBelow}
 use Rattle.network.specs.Stations.{stationAt}
 use Rattle.network.specs.declared.Network.{Network}
 use Rattle.network.specs.RecordWords.{recordOf, recordIn}
 use Rattle.network.specs.declared.Record.{Record}
 use Rattle.network.specs.declared.Record.the-variants.{Baseline as baseline, Height as height}
-use Rattle.normals.specs.Same.{sameEntries}
+use Rattle.lists.specs.Same.{sameEntries}
 use Rattle.words.specs.Concat.{concatBelow, concatBelow-more, length-concatBelow}
 use Rattle.network.specs.StationWords.{stationWords}
 use Rattle.layout.specs.Layout.{stationPart, recordWords, networkIn, bookIn}

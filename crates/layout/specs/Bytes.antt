@@ -6,7 +6,7 @@ use lib.Dec.{leb}
 use lib.ListN.{length}
 use lib.IntN.{ℤ}
 use Rattle.words.specs.Runs.{wordsAt, putWords}
-use Rattle.normals.specs.Same.{sameEntries}
+use Rattle.lists.specs.Same.{sameEntries}
 use Rattle.book.specs.declared.Book.{Book}
 use Rattle.book.specs.Book.{sound}
 use Rattle.layout.specs.Layout.{bookWords, bookIn}

@@ -16,7 +16,7 @@ use Rattle.words.specs.Words.{Bytes}
 use Rattle.words.specs.SignedLaws.{eqZ-true, eq-eqZ}
 use Rattle.words.specs.Runs.{wordsAt, putWords}
 use Rattle.words.specs.RunLaws.{length-words, length-run, run-out, run-back, run-kept}
-use Rattle.network.specs.All.{all-at, all-by}
+use Rattle.lists.specs.All.{all-at, all-by}
 use Rattle.book.specs.declared.Book.{Book}
 use Rattle.book.specs.Book.{sound}
 use Rattle.book.specs.Sound.{Sound, Sized, sound-parts, parts-sound}

@@ -15,12 +15,12 @@ use Rattle.integers.specs.Tables.{length-tabulate, getD-tabulate}
 use Rattle.words.specs.Bools.{same-test, and-left, and-right, and-both}
 use Rattle.words.specs.Signed.{signed, unsigned, eqZ}
 use Rattle.words.specs.SignedLaws.{eqZ-true, eq-eqZ, signed-unsigned}
-use Rattle.network.specs.All.{allBelow, all-at, all-by}
+use Rattle.lists.specs.All.{allBelow, all-at, all-by}
 use Rattle.network.specs.Records.{vacant, recordAt}
 use Rattle.network.specs.RecordWords.{recordIn}
 use Rattle.network.specs.declared.Place.{Place}
 use Rattle.network.specs.declared.Record.{Record}
-use Rattle.normals.specs.Same.{sameEntries}
+use Rattle.lists.specs.Same.{sameEntries}
 use Rattle.book.specs.declared.Reversal.{Reversal}
 use Rattle.book.specs.Journal.{free}
 use Rattle.book.specs.Sound.{Sized}

@@ -15,7 +15,7 @@ use Rattle.integers.specs.Tables.{tabulate, is-tabulate, length-tabulate}
 use Rattle.words.specs.Bools.{and-left, and-right}
 use Rattle.words.specs.Signed.{indexIn, signed, unsigned, eqZ}
 use Rattle.words.specs.SignedLaws.{eqZ-true, unsigned-signed}
-use Rattle.network.specs.All.{all-at}
+use Rattle.lists.specs.All.{all-at}
 use Rattle.network.specs.Stations.{blank, stationAt, kindAt, kindOf, stationIn, countFits, coordinatesFit, unknownsFit, isKnown, isBlank, blankBeyond, networkFits}
 use Rattle.network.specs.Records.{vacant, recordAt}
 use Rattle.network.specs.RecordWords.{recordOf, recordIn}

@@ -13,9 +13,9 @@ use mir.Val.{SFits}
 use Rattle.integers.specs.Tables.{within-tabulate}
 use Rattle.words.specs.Signed.{indexIn, signed}
 use Rattle.words.specs.SignedLaws.{index-number}
-use Rattle.network.specs.All.{all-at}
-use Rattle.network.specs.Sizes.{Small, small-at}
-use Rattle.network.specs.Stored.{fits-by}
+use Rattle.lists.specs.All.{all-at}
+use Rattle.lists.specs.Sizes.{Small, small-at}
+use Rattle.lists.specs.Stored.{fits-by}
 use Rattle.network.specs.Stations.{stationAt, coordinateIn, coordinate, coordinatesFit, networkFits}
 use Rattle.network.specs.Records.{recordAt}
 use Rattle.network.specs.Rules.{endsFit, recordFits}

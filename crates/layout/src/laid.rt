@@ -6,7 +6,7 @@ use normals::Normals;
 ghost use mathlib.Core.Path.{_≡_};
 ghost use Prim.Native.Nat.{ℕ, _+_, _*_, _≤_, _<_};
 ghost use lib.ListN.{length};
-ghost use Rattle.network.specs.All.{allBelow};
+ghost use Rattle.lists.specs.All.{allBelow};
 ghost use Rattle.layout.specs.Laid.{recordLaid, stationLaid};
 ghost use Rattle.layout.specs.Bytes.{wordsOf, laidOut, bytesFit};
 
@@ -17,7 +17,7 @@ fn record_laid(s: &[u8], k: usize) -> bool
     let w = reading::record_at(s, k);
     let r = network::record_in(&w, 0);
     let v = record_words(r);
-    normals::same_entries(&w, &v)
+    lists::same_entries(&w, &v)
 }
 
 // n records, `step` words from one to the next.
@@ -49,7 +49,7 @@ fn stations_laid(s: &[u8]) -> bool
         let v = station_part(count, k, x);
         let a = k * 4;
         let e = a + 4;
-        if !normals::same_entries(&list[a..e], &v) {
+        if !lists::same_entries(&list[a..e], &v) {
             return false;
         }
         k += 1;

@@ -22,7 +22,7 @@ use Rattle.book.specs.declared.Book.{Book}
 use Rattle.book.specs.Sound.{Sound, parts-sound}
 use Rattle.checks.specs.Checks.{checked}
 use Rattle.checks.specs.CheckLaws.{checked-is, solved, inverse}
-use Rattle.network.specs.Stored.{fits-by}
+use Rattle.lists.specs.Stored.{fits-by}
 use Rattle.lent_checks.specs.LentChecks.{allWords, isWhole, checkedLent}
 use Rattle.lent_checks.specs.Offers.{Offers, OffersLent, lentLengths}
 

@@ -6,7 +6,7 @@ use lib.IntN.{ℤ, natAbs, _-ℤ_}
 use Rattle.integers.specs.Code.{ringm, code-shapes}
 use Rattle.integers.specs.Tables.{Within}
 use Rattle.words.specs.Signed.{indexIn}
-use Rattle.network.specs.Stored.{stored, back}
+use Rattle.lists.specs.Stored.{stored, back}
 use Rattle.network.specs.Records.{misclosureAt}
 use Rattle.network.specs.RecordLaws.{misclosure-size}
 

@@ -6,7 +6,7 @@ use lib.Dec.{lit≤}
 use lib.IntN.{ℤ, pos, natAbs, _+ℤ_, _-ℤ_, _*ℤ_}
 use Rattle.integers.specs.Bounds.{bounds, absle}
 use Rattle.integers.specs.Code.{ringm, code-shapes}
-use Rattle.network.specs.Stored.{stored, back}
+use Rattle.lists.specs.Stored.{stored, back}
 
 -- the minor r that a call gave of entries in range
 module _ (a b c d r : ℤ) (e : r ≡ stored a *ℤ stored b -ℤ stored c *ℤ stored d)

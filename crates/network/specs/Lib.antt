@@ -1,7 +1,3 @@
-pub mod All
-pub mod Filling
-pub mod Stored
-pub mod Sizes
 pub mod Units
 pub mod Stations
 pub mod StationLaws

@@ -11,7 +11,7 @@ use lib.ListN.{length, getD, List·getD-eq-default}
 use lib.IntN.{ℤ, pos}
 use Rattle.integers.specs.Tables.{tabulate, getD-tabulate}
 use Rattle.words.specs.Signed.{indexIn}
-use Rattle.network.specs.All.{Each, each, each-by, all-by}
+use Rattle.lists.specs.All.{Each, each, each-by, all-by}
 use Rattle.network.specs.Stations.{stationAt, blank, kindAt, stationIn, networkOf, countFits, coordinatesFit, unknownsFit, kindsFit, wholeStations, opens, isKnown, isBlank, blankBeyond, networkFits}
 
 module _ (list : List ℤ) (e : opens list ≡ true) where

@@ -8,7 +8,7 @@ use lib.Signed.{leZ, ltZ, _≤ℤ_, _<ℤ_, clashℤ}
 use Rattle.integers.specs.Laws.{*ℤ-idl}
 use Rattle.integers.specs.Solvers.{ring, shapes, zlt, ltz, lez}
 use Rattle.integers.specs.Order.{zarith, ≤ℤ-or, <ℤ→≤ℤ, *ℤ-mono, sq-nonneg}
-use Rattle.network.specs.All.{each, passed}
+use Rattle.lists.specs.All.{each, passed}
 use Rattle.network.specs.Rules.{adjugateE, adjugateN, adjugateU, determinant, minorsPositive, adjugateFits, matrixFits}
 use Rattle.network.specs.declared.Baseline.{Baseline}
 use Rattle.words.specs.Bools.{and-left, and-right}

@@ -9,7 +9,7 @@ use lib.IntN.{ℤ, pos, negsuc, natAbs}
 use lib.Signed.{leZ, _≤ℤ_}
 use Rattle.integers.specs.Bounds.{bounds, absle}
 use Rattle.words.specs.Bools.{clash, and-left, and-right}
-use Rattle.network.specs.All.{each, passed}
+use Rattle.lists.specs.All.{each, passed}
 use Rattle.network.specs.Rules.{observedFits, weightFits, offDiagonalFits, baselineInRange, heightInRange, adjugateE, adjugateN, adjugateU, determinant}
 use Rattle.network.specs.declared.Baseline.{Baseline}
 use Rattle.network.specs.declared.Level.{Level}

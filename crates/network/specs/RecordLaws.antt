@@ -8,7 +8,7 @@ use Rattle.integers.specs.Bounds.{bounds, absle}
 use Rattle.integers.specs.Tables.{Within}
 use Rattle.network.specs.declared.Record.{Record}
 use Rattle.network.specs.declared.Record.the-variants.{Empty, Baseline as baseline, Height as height}
-use Rattle.network.specs.Sizes.{small-at}
+use Rattle.lists.specs.Sizes.{small-at}
 use Rattle.network.specs.Records.{fromOf, toOf, observed, misclosureAt, misclosures}
 
 -- a record whose ends are stations and whose observed values are in range, over provisional coordinates in range

@@ -15,10 +15,10 @@ use Rattle.words.specs.Bools.{clash, and-left, and-right}
 use Rattle.words.specs.Signed.{indexIn, eqZ}
 use Rattle.words.specs.SignedLaws.{index-suc, index-number, eqZ-false}
 use Rattle.integers.specs.Order.{zarith}
-use Rattle.network.specs.Sizes.{small-at}
+use Rattle.lists.specs.Sizes.{small-at}
 use Rattle.network.specs.Ranges.{Weight, BaselineRange, baseline-range, height-range}
 use Rattle.network.specs.Positive.{PositiveMatrix, positive-matrix}
-use Rattle.network.specs.All.{all-at, Each, each}
+use Rattle.lists.specs.All.{all-at, Each, each}
 use Rattle.network.specs.Stations.{coordinates, coordinate, unknownCount, countFits, coordinatesFit, unknownsFit, blankBeyond, networkFits}
 use Rattle.network.specs.Records.{fromOf, toOf, joins, weights, observed, misclosures, l}
 use Rattle.network.specs.RecordLaws.{Observed}

@@ -10,7 +10,7 @@ use lib.Signed.{leZ}
 use Rattle.integers.specs.Sums.{sumN}
 use Rattle.integers.specs.Tables.{tabulate}
 use Rattle.words.specs.Signed.{indexIn, eqZ}
-use Rattle.network.specs.All.{allBelow}
+use Rattle.lists.specs.All.{allBelow}
 use Rattle.network.specs.declared.Kind.{Kind}
 use Rattle.network.specs.declared.Kind.the-variants.{Known, Free, Height}
 use Rattle.network.specs.declared.Station.{Station}

@@ -9,7 +9,7 @@ use mir.Val.{SFits}
 use Rattle.integers.specs.Code.{ringm, code-shapes, fit, code-bounds}
 use Rattle.integers.specs.Solvers.{ring, shapes}
 use Rattle.integers.specs.Sums.{sum-ext, sum-0, δ}
-use Rattle.network.specs.Stored.{stored}
+use Rattle.lists.specs.Stored.{stored}
 use Rattle.normals.specs.declared.Equation.{Equation}
 use Rattle.normals.specs.Equations.{Fit, endsOf, atOf, coefOf, weightOf, pairN, rowN}
 

@@ -8,7 +8,7 @@ use lib.ListN.{getD}
 use lib.IntN.{ℤ, pos, natAbs, _-ℤ_, _*ℤ_}
 use Rattle.integers.specs.Sums.{sum, δ}
 use Rattle.integers.specs.Tables.{tabulate}
-use Rattle.network.specs.All.{allBelow}
+use Rattle.lists.specs.All.{allBelow}
 use Rattle.network.specs.Stations.{unknown, number}
 use Rattle.network.specs.Records.{acts, fromOf, toOf, joins, weights, l, recordAt}
 use Rattle.network.specs.declared.Station.{Station}

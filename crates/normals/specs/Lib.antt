@@ -18,4 +18,3 @@ pub mod Equations
 pub mod EquationSizes
 pub mod Shares
 pub mod FirstPlaces
-pub mod Copied

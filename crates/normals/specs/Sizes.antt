@@ -9,7 +9,7 @@ use lib.Dec.{lit≤}
 use lib.IntN.{natAbs}
 use Rattle.integers.specs.Sums.{sum, sumN, abs-sum, abs-sum-const, sumN-mono, sumN-const, sumN-swap}
 use Rattle.words.specs.Bools.{and-both}
-use Rattle.network.specs.All.{all-by}
+use Rattle.lists.specs.All.{all-by}
 use Rattle.network.specs.Records.{recordAt}
 use Rattle.network.specs.declared.Network.{Network}
 use Rattle.network.specs.declared.Place.{Place}

@@ -11,11 +11,8 @@ ghost use Rattle.normals.specs.Blank.{blankNormals};
 ghost use Rattle.normals.specs.Exchange.{Exchangeable, exchangedN, exchangedU};
 ghost use Rattle.normals.specs.Same.{sameNormals};
 
-mod compare;
 mod equations;
 mod records;
-
-pub use compare::same_entries;
 
 // The observation equations of one record, which know no station. Its six ends are E, N, U at from, then E, N, U at to: end e has the
 // unknown at[e] with the coefficient coef[e], which is 0 where the component is held. Weights by rows.
@@ -77,8 +74,8 @@ impl Normals {
     pub fn same(self, other: Normals) -> bool
         ensures { λ r. ⌜ r ≡ sameNormals self other ⌝ }
     {
-        compare::same_entries(&self.matrix, &other.matrix)
-            & compare::same_entries(&self.right, &other.right)
+        lists::same_entries(&self.matrix, &other.matrix)
+            & lists::same_entries(&self.right, &other.right)
     }
 }
 

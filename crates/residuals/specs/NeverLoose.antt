@@ -13,7 +13,7 @@ use Rattle.integers.specs.Order.{zarith, pos-abs, <ℤ→≤ℤ, +ℤ-mono, *�
 use Rattle.integers.specs.Division.{floorDiv, ≤-floorDiv}
 use Rattle.words.specs.Bools.{clash, true-or-false}
 use Rattle.words.specs.SignedLaws.{eqZ-false}
-use Rattle.network.specs.All.{passed}
+use Rattle.lists.specs.All.{passed}
 use Rattle.network.specs.Records.{acts}
 use Rattle.network.specs.Rules.{adjugateE, adjugateN, adjugateU, determinant, recordFits}
 use Rattle.network.specs.Ranges.{Weight, BaselineRange}

@@ -14,7 +14,7 @@ use Rattle.integers.specs.Order.{zarith, between-abs, <ℤ→≤ℤ, ≤ℤ-tra
 use Rattle.words.specs.Signed.{indexIn}
 use Rattle.words.specs.SignedLaws.{index-test, index-number}
 use Rattle.words.specs.Bools.{and-left, and-right}
-use Rattle.network.specs.All.{allBelow, all-at}
+use Rattle.lists.specs.All.{allBelow, all-at}
 use Rattle.residuals.specs.Verdicts.{chiSquare, limits, localVerdict, globalVerdict}
 use Rattle.residuals.specs.declared.Verdict.{Verdict}
 use Rattle.residuals.specs.declared.Verdict.the-variants.{Pass, Fail, Loose, Low, High, NoVerdict}

@@ -8,7 +8,7 @@ use mir.Val.{SFits}
 use mir.ValLaws.{toZ-ofZ}
 use Rattle.integers.specs.Division.{floorDiv}
 use Rattle.network.specs.Records.{joins}
-use Rattle.network.specs.Stored.{stored, back}
+use Rattle.lists.specs.Stored.{stored, back}
 use Rattle.network.specs.declared.Record.{Record}
 use Rattle.residuals.specs.Residuals.{S, observationVariance}
 use Rattle.residuals.specs.Verdicts.{verdictWord, localVerdict}

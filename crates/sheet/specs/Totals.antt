@@ -17,7 +17,7 @@ use Rattle.words.specs.Signed.{eqZ}
 use Rattle.network.specs.Stations.{unknownIn, unknown, unknownCount, stationAt, coordinates}
 use Rattle.network.specs.StationLaws.{unknown-at}
 use Rattle.network.specs.Records.{recordAt, acts, fromOf, toOf, weights}
-use Rattle.network.specs.Stored.{stored, back, fits-by}
+use Rattle.lists.specs.Stored.{stored, back, fits-by}
 use Rattle.network.specs.declared.Kind.{Kind}
 use Rattle.network.specs.declared.Kind.the-variants.{Known, Free, Height}
 use Rattle.network.specs.declared.Station.{Station}

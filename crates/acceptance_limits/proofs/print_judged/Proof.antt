@@ -3,7 +3,7 @@ use mathlib.Core.Path.{_≡_, sym, _∙_}
 use mathlib.Core.Bool.{true}
 use borrow.Author.Needs.{needs}
 use borrow.Author.Tests.{not-false}
-use Rattle.network.specs.All.{all-at}
+use Rattle.lists.specs.All.{all-at}
 use Rattle.network.specs.Stations.{networkFits}
 use Rattle.network.specs.RuleLaws.{network-few, network-coordinates}
 use Rattle.normals.specs.Sound.{Sound}

@@ -4,7 +4,7 @@ use Prim.Native.Nat.{_-_, _≤_}
 use native.Mathlib.Omega.{arith}
 use Rattle.network.specs.Records.{vacant}
 use Rattle.network.specs.declared.Record.the-variants.{Baseline as baseline}
-use Rattle.network.specs.Filling.{Mapped, starts, goes-on, finish, length-mapped}
+use Rattle.lists.specs.Filling.{Mapped, starts, goes-on, finish, length-mapped}
 use Rattle.bench_kernels.specs.Sample.{samplePlace}
 use Rattle.bench_kernels.proofs.sample_places.Statement.{statement}
 use Rattle.bench_kernels.proofs.sample_places.Tie as tie

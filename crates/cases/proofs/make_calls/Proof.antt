@@ -12,7 +12,7 @@ use lib.IntN.{pos}
 use lib.ListN.{length, take, drop, getD, take-append-drop}
 use lib.Seq.{take-all}
 use Rattle.integers.specs.Tables.{length-tabulate, getD-tabulate}
-use Rattle.network.specs.Filling.{Mapped, starts, goes-on}
+use Rattle.lists.specs.Filling.{Mapped, starts, goes-on}
 use Rattle.book.specs.Run.{final-zero, answers, length-answers}
 use Rattle.book.specs.Book.{bookNext, bookSays, sound}
 use Rattle.book.specs.Rows.{nameless, names, rowNext, rowSays}

@@ -1,7 +1,7 @@
 use borrow.Author.Needs.{needs}
 use mathlib.Core.Path.{sym, _∙_}
 use mathlib.Core.Bool.{true}
-use Rattle.network.specs.Filling.{length-mapped}
+use Rattle.lists.specs.Filling.{length-mapped}
 use Rattle.book.specs.Sound.{Sound, sound-parts}
 use Rattle.checks.specs.CheckLaws.{fit, judge-is, checked-is}
 use Rattle.checks.proofs.check.Statement.{statement}

@@ -1,7 +1,7 @@
 use borrow.Author.Needs.{needs}
 use mathlib.Core.Path.{_≡_, sym, ap, _∙_}
 use mathlib.Core.Bool.{Bool}
-use Rattle.network.specs.Filling.{length-mapped}
+use Rattle.lists.specs.Filling.{length-mapped}
 use Rattle.acceptance.specs.Judge.{judge}
 use Rattle.acceptance.specs.Tests.{at, byRows}
 use Rattle.acceptance.specs.Exactly.{answer}

@@ -8,7 +8,7 @@ use lib.IntN.{pos}
 use mir.Syntax.{w64}
 use mir.Val.{toZ, ofZ}
 use mir.Facts.{toZ-ofZ}
-use Rattle.normals.specs.Copied.{copied-more, copied-all}
+use Rattle.lists.specs.Copied.{copied-more, copied-all}
 use Rattle.normals.proofs.set_right.Statement.{statement}
 use Rattle.normals.proofs.set_right.Tie as tie
 

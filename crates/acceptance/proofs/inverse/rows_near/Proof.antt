@@ -9,7 +9,7 @@ use borrow.Author.Tests.{not-true, not-false}
 use lib.Dec.{leb}
 use lib.IntN.{natAbs}
 use Rattle.integers.specs.Sums.{sumN}
-use Rattle.network.specs.All.{allBelow}
+use Rattle.lists.specs.All.{allBelow}
 use Rattle.chains.specs.Scans.{all-none, all-more, all-fails, all-ended}
 use Rattle.acceptance.specs.Tests.{byRows, defect, defectSmall}
 use Rattle.acceptance.specs.Loops.{row-next, row-end}

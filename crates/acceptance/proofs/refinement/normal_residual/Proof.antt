@@ -4,7 +4,7 @@ use mathlib.Core.Path.{refl, ap, _∙_}
 use native.Mathlib.Omega.{arith}
 use borrow.Author.Needs.{needs}
 use lib.IntN.{ℤ, pos, natAbs, _-ℤ_}
-use Rattle.network.specs.Filling.{Mapped, starts, goes-on}
+use Rattle.lists.specs.Filling.{Mapped, starts, goes-on}
 use Rattle.acceptance.specs.Tests.{at, byRows, normalResidual}
 use Rattle.acceptance.specs.Loops.{normal-factors, vector-dot, dot-small, Difference, difference}
 use Rattle.acceptance.proofs.refinement.normal_residual.Statement.{statement}

@@ -11,7 +11,7 @@ use lib.IntN.{ℤ, natAbs, _*ℤ_}
 use mir.Syntax.{w64}
 use mir.Val.{toZ, ofZ}
 use Rattle.integers.specs.Sums.{sum}
-use Rattle.network.specs.All.{allBelow}
+use Rattle.lists.specs.All.{allBelow}
 use Rattle.chains.specs.Scans.{all-none, all-more, all-fails, all-ended}
 use Rattle.acceptance.specs.Tests.{at, byRows}
 use Rattle.acceptance.specs.Loops.{small-factors, vector-dot, dot-small, back, row-next, row-end}

@@ -9,7 +9,7 @@ use lib.Dec.{leb}
 use lib.IntN.{ℤ, natAbs}
 use mir.Syntax.{w64}
 use mir.ValLaws.{toZ-ofZ}
-use Rattle.network.specs.All.{allBelow}
+use Rattle.lists.specs.All.{allBelow}
 use Rattle.chains.specs.Scans.{all-none, all-more, all-fails, all-ended}
 use Rattle.acceptance.specs.Tests.{at}
 use Rattle.acceptance.proofs.sizes.first_within.Statement.{statement}

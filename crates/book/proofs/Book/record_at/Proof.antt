@@ -1,7 +1,7 @@
 -- `Book::record_at` meets its contract. Assumes nothing.
 use mathlib.Core.Path.{sym}
 use borrow.Author.Needs.{needs}
-use Rattle.network.specs.Filling.{length-mapped}
+use Rattle.lists.specs.Filling.{length-mapped}
 use Rattle.book.specs.PlaceLaws.{record-beyond}
 use Rattle.book.proofs.Book.record_at.Statement.{statement}
 use Rattle.book.proofs.Book.record_at.Tie as tie

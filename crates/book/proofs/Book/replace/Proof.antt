@@ -6,7 +6,7 @@ use mir.Syntax.{w64}
 use mir.Facts.{toZ-ofZ}
 use lib.IntN.{ℤ}
 use Rattle.words.specs.Signed.{indexIn}
-use Rattle.network.specs.Filling.{length-mapped}
+use Rattle.lists.specs.Filling.{length-mapped}
 use Rattle.network.specs.RuleLaws.{network-few, network-coordinates}
 use Rattle.book.specs.Book.{bookAccepts, bookSays}
 use Rattle.book.specs.Calls.{replace, placeOf}

@@ -2,7 +2,7 @@
 use mathlib.Core.Path.{ap, _∙_}
 use borrow.Author.Needs.{needs}
 use Prim.Native.Nat.{_<_}
-use Rattle.network.specs.Filling.{length-mapped}
+use Rattle.lists.specs.Filling.{length-mapped}
 use Rattle.book.specs.declared.Book.{Book}
 use Rattle.book.specs.Calls.{undo, callNo}
 use Rattle.book.specs.Book.{bookAccepts}

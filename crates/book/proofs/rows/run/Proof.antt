@@ -10,7 +10,7 @@ use mir.Facts.{toZ-ofZ}
 use denote.Ref.{now}
 use lib.IntN.{ℤ, pos}
 use lib.ListN.{length, take, getD}
-use Rattle.network.specs.Filling.{Mapped, starts, goes-on}
+use Rattle.lists.specs.Filling.{Mapped, starts, goes-on}
 use Rattle.book.specs.declared.Book.{Book}
 use Rattle.book.specs.Run.{final, answers, final-zero, length-answers}
 use Rattle.book.specs.Book.{bookSays, bookNext, sound}

@@ -5,7 +5,7 @@ use native.Mathlib.Omega.{arith}
 use borrow.Author.Needs.{needs}
 use borrow.Author.Tests.{not-true, not-false}
 use lib.ListN.{length, length-set}
-use Rattle.network.specs.Filling.{length-mapped}
+use Rattle.lists.specs.Filling.{length-mapped}
 use Rattle.network.specs.Records.{recordAt}
 use Rattle.book.specs.Journal.{entriesBefore}
 use Rattle.book.specs.Book.{undoable}

@@ -5,7 +5,7 @@ use mathlib.Core.Bool.{true}
 use native.Mathlib.Omega.{arith}
 use borrow.Author.Needs.{needs}
 use borrow.Author.Tests.{not-true, not-false}
-use Rattle.network.specs.All.{allBelow, all-none, all-more, all-done, all-fails}
+use Rattle.lists.specs.All.{allBelow, all-none, all-more, all-done, all-fails}
 use Rattle.network.specs.Records.{recordAt}
 use Rattle.network.specs.Rules.{recordFits}
 use Rattle.book.proofs.soundness.records_fit.Statement.{statement}

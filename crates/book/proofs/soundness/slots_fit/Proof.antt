@@ -8,7 +8,7 @@ use borrow.Author.Needs.{needs}
 use borrow.Author.Tests.{not-true, not-false}
 use lib.Dec.{ltb}
 use lib.ListN.{getD}
-use Rattle.network.specs.All.{allBelow, all-none, all-more, all-done, all-fails}
+use Rattle.lists.specs.All.{allBelow, all-none, all-more, all-done, all-fails}
 use Rattle.book.specs.declared.Reversal.{Reversal}
 use Rattle.book.specs.Journal.{free, isFree}
 use Rattle.book.proofs.soundness.slots_fit.Statement.{statement}

@@ -2,7 +2,7 @@
 use Prim.Native.Nat.{_≤_, _-_}
 use native.Mathlib.Omega.{arith}
 use borrow.Author.Needs.{needs}
-use Rattle.network.specs.Filling.{Mapped, starts, goes-on, finish}
+use Rattle.lists.specs.Filling.{Mapped, starts, goes-on, finish}
 use Rattle.network.specs.Records.{recordAt}
 use Rattle.chains.specs.Chains.{edge}
 use Rattle.chains.proofs.records.edges_in.Statement.{statement}

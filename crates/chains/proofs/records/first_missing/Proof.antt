@@ -5,7 +5,7 @@ use mathlib.Core.Bool.{true}
 use native.Mathlib.Omega.{arith}
 use borrow.Author.Needs.{needs}
 use borrow.Author.Tests.{not-true, not-false}
-use Rattle.network.specs.All.{allBelow}
+use Rattle.lists.specs.All.{allBelow}
 use Rattle.network.specs.Stations.{unknown}
 use Rattle.chains.specs.Scans.{all-none, all-more, first-is, first-none}
 use Rattle.chains.specs.ChainLaws.{heldOrIn}

@@ -11,7 +11,7 @@ use Rattle.integers.specs.Tables.{Within}
 use Rattle.integers.specs.Code.{fit, code-bounds, ringm, code-shapes}
 use Rattle.words.specs.Signed.{indexIn}
 use Rattle.network.specs.RuleLaws.{sound-stations, network-few, from-in-list, to-in-list}
-use Rattle.network.specs.Stored.{stored, back, kept}
+use Rattle.lists.specs.Stored.{stored, back, kept}
 use Rattle.residuals.specs.Ranges.{some-unknowns, corrections-within}
 use Rattle.distances.specs.Distances.{squaredDistance, withinTolerance, mark}
 use Rattle.distances.specs.DistanceLaws.{InRange, in-range}

@@ -5,7 +5,7 @@ use mathlib.Core.List.{[], _∷_}
 use native.Mathlib.Omega.{arith}
 use lib.ListN.{getD}
 use lib.IntN.{ℤ, pos, natAbs, _+ℤ_, _-ℤ_}
-use Rattle.network.specs.Stored.{stored}
+use Rattle.lists.specs.Stored.{stored}
 use Rattle.integers.specs.Bounds.{bounds, absle}
 use Rattle.integers.specs.Code.{fit, code-bounds, ringm, code-shapes}
 use Rattle.distances.specs.Coordinates.{separationIn}

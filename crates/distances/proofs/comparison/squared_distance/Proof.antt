@@ -8,7 +8,7 @@ use mir.Syntax.{w64}
 use mir.ValLaws.{toZ-ofZ}
 use Rattle.integers.specs.Bounds.{bounds, absle}
 use Rattle.integers.specs.Code.{fit, code-bounds, ringm, code-shapes}
-use Rattle.network.specs.Stored.{stored, back, kept}
+use Rattle.lists.specs.Stored.{stored, back, kept}
 use Rattle.distances.specs.Distances.{square}
 use Rattle.distances.specs.Coordinates.{squaredDistanceIn}
 use Rattle.distances.proofs.comparison.squared_distance.Statement.{statement}

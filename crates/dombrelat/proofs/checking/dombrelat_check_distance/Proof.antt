@@ -3,7 +3,7 @@ use mir.Facts.{toZ-ofZ}
 use mathlib.Core.Path.{_≡_, sym, ap, _∙_}
 use borrow.Author.Tests.{not-true, not-false}
 use denote.Ref.{now}
-use Rattle.network.specs.Stored.{stored}
+use Rattle.lists.specs.Stored.{stored}
 use Rattle.book.specs.Book.{sound}
 use Rattle.distances.specs.declared.CheckDistance.{CheckDistance}
 use Rattle.layout.specs.CodecLaws.{fits-tested}

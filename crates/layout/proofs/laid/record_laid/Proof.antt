@@ -1,6 +1,6 @@
 -- `record_laid` tests the words of a record. Assumes nothing.
 use mathlib.Core.Path.{_∙_}
-use Rattle.normals.specs.Same.{same-long}
+use Rattle.lists.specs.Same.{same-long}
 use Rattle.layout.proofs.Parts.{laid-is}
 use borrow.Author.Needs.{needs}
 use Rattle.layout.proofs.laid.record_laid.Statement.{statement}

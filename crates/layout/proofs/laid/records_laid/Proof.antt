@@ -4,7 +4,7 @@ use mathlib.Core.Path.{_≡_, sym, _∙_}
 use mathlib.Core.Bool.{Bool, true}
 use native.Mathlib.Omega.{arith}
 use borrow.Author.Tests.{not-true, not-false}
-use Rattle.network.specs.All.{allBelow, all-none, all-more, all-done, all-fails}
+use Rattle.lists.specs.All.{allBelow, all-none, all-more, all-done, all-fails}
 use Rattle.layout.specs.Laid.{recordLaid}
 use Rattle.layout.specs.Bytes.{wordsOf}
 use borrow.Author.Needs.{needs}

@@ -4,8 +4,8 @@ use mathlib.Core.Path.{_≡_, refl, sym, _∙_}
 use mathlib.Core.Bool.{true}
 use native.Mathlib.Omega.{arith}
 use borrow.Author.Tests.{not-true, not-false}
-use Rattle.network.specs.All.{allBelow, all-none, all-more, all-done, all-fails}
-use Rattle.normals.specs.Same.{same-long}
+use Rattle.lists.specs.All.{allBelow, all-none, all-more, all-done, all-fails}
+use Rattle.lists.specs.Same.{same-long}
 use Rattle.layout.specs.Laid.{stationLaid}
 use Rattle.layout.specs.Bytes.{wordsOf}
 use Rattle.layout.proofs.Parts.{station-is}

@@ -3,7 +3,7 @@ use Prim.Native.Nat.{_+_, _*_, _-_, _≤_}
 use mathlib.Core.Path.{_∙_}
 use native.Mathlib.Omega.{arith}
 use Rattle.words.specs.RunLaws.{length-words}
-use Rattle.network.specs.Filling.{Mapped, starts, goes-on, finish}
+use Rattle.lists.specs.Filling.{Mapped, starts, goes-on, finish}
 use Rattle.book.specs.Journal.{free}
 use Rattle.layout.specs.Layout.{reversalIn}
 use Rattle.layout.specs.Laid.{reversal-in}

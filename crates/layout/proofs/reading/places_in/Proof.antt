@@ -2,7 +2,7 @@
 use Prim.Native.Nat.{_-_, _≤_}
 use mathlib.Core.Path.{ap}
 use native.Mathlib.Omega.{arith}
-use Rattle.network.specs.Filling.{Mapped, starts, goes-on, finish}
+use Rattle.lists.specs.Filling.{Mapped, starts, goes-on, finish}
 use Rattle.network.specs.Records.{vacant}
 use Rattle.network.specs.declared.Record.{Record}
 use Rattle.layout.specs.Layout.{placeIn}

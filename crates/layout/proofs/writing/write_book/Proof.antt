@@ -6,7 +6,7 @@ use lib.IntN.{pos}
 use mir.Syntax.{w64}
 use mir.Facts.{toZ-ofZ}
 use Rattle.words.specs.Runs.{putWords}
-use Rattle.network.specs.Filling.{length-mapped}
+use Rattle.lists.specs.Filling.{length-mapped}
 use Rattle.book.specs.Sound.{Sized}
 use Rattle.layout.proofs.Whole.{joined}
 use borrow.Author.Needs.{needs, sfits-of}

@@ -13,7 +13,7 @@ use Rattle.lent_checks.specs.LentChecks.{isWhole}
 use native.Mathlib.Omega.{arith}
 use borrow.Author.Tests.{not-true, not-false}
 use denote.Ref.{now}
-use Rattle.network.specs.Filling.{length-mapped}
+use Rattle.lists.specs.Filling.{length-mapped}
 use Rattle.book.specs.Sound.{Sound, sound-parts}
 use Rattle.lent_checks.specs.CheckLaws.{lent-fit, lent-unfit, lent-small}
 use Rattle.lent_checks.proofs.Answers.{lengths-fit}

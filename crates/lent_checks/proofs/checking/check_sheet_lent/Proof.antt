@@ -7,7 +7,7 @@ use Rattle.checks.specs.Checks.{checked}
 use native.Mathlib.Omega.{arith}
 use borrow.Author.Tests.{not-true, not-false}
 use denote.Ref.{now}
-use Rattle.network.specs.Filling.{length-mapped}
+use Rattle.lists.specs.Filling.{length-mapped}
 use Rattle.network.specs.RuleLaws.{network-few}
 use Rattle.book.specs.Sound.{Sound, sound-parts}
 use Rattle.lent_checks.specs.LentChecks.{allWords, sheetFits, onAccepted}

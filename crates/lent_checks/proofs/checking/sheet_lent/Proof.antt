@@ -9,7 +9,7 @@ use Rattle.checks.specs.Checks.{checked, hasRoom, sheetAfter}
 use Rattle.lent_checks.specs.LentChecks.{allWords, onAccepted}
 use native.Mathlib.Omega.{arith}
 use denote.Ref.{now}
-use Rattle.network.specs.Filling.{length-mapped}
+use Rattle.lists.specs.Filling.{length-mapped}
 use Rattle.network.specs.RuleLaws.{network-few}
 use Rattle.book.specs.Sound.{Sound, sound-parts}
 use Rattle.lent_checks.specs.CheckLaws.{room-small, sheet-done}

@@ -5,7 +5,7 @@ use mathlib.Core.List.{[], _∷_}
 use native.Mathlib.Omega.{arith}
 use lib.IntN.{ℤ, pos, natAbs, _+ℤ_}
 use Rattle.integers.specs.Code.{fit, code-bounds, ringm, code-shapes}
-use Rattle.network.specs.Stored.{stored}
+use Rattle.lists.specs.Stored.{stored}
 use Rattle.distances.specs.DistanceLaws.{agreement-most}
 use Rattle.lent_checks.specs.LentDistances.{agreementWord}
 use Rattle.lent_checks.proofs.distance.agreement_word.Statement.{statement}

@@ -7,7 +7,7 @@ use denote.Ref.{now}
 use lib.ListN.{length, take}
 use lib.Seq.{length-take-le}
 use Rattle.words.specs.Runs.{wordsAt}
-use Rattle.network.specs.Filling.{length-mapped}
+use Rattle.lists.specs.Filling.{length-mapped}
 use Rattle.book.specs.Sound.{Sound, sound-parts}
 use Rattle.distances.specs.declared.Agreement.{Agreement}
 use Rattle.distances.specs.Distances.{agreement, agreementUnknown}

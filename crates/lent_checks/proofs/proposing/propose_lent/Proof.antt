@@ -8,7 +8,7 @@ use mir.Syntax.{w64}
 use mir.Facts.{toZ-ofZ}
 use lib.ListN.{length}
 use lib.Seq.{length-take-le}
-use Rattle.network.specs.Filling.{length-mapped}
+use Rattle.lists.specs.Filling.{length-mapped}
 use Rattle.network.specs.RuleLaws.{sound-stations}
 use Rattle.book.specs.Sound.{Sound, sound-parts}
 use Rattle.lent_checks.specs.Offers.{lentLengths}

@@ -8,7 +8,7 @@ use mathlib.Core.Bool.{Bool, true, _||_}
 use mathlib.Core.List.{List}
 use lib.Dec.{ltb}
 use Rattle.network.specs.declared.Station.{Station}
-use Rattle.network.specs.All.{allBelow, all-none, all-more, all-done, all-fails}
+use Rattle.lists.specs.All.{allBelow, all-none, all-more, all-done, all-fails}
 use Rattle.network.specs.Stations.{stationAt, isBlank, blankBeyond}
 use Rattle.network.proofs.opening.blank_beyond.Statement.{statement}
 use Rattle.network.proofs.opening.blank_beyond.Tie as tie

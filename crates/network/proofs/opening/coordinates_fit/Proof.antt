@@ -11,7 +11,7 @@ use lib.IntN.{ℤ, natAbs}
 use mir.Syntax.{w64}
 use mir.ValLaws.{toZ-ofZ}
 use Rattle.network.specs.declared.Station.{Station}
-use Rattle.network.specs.All.{allBelow, all-none, all-more, all-done, all-fails}
+use Rattle.lists.specs.All.{allBelow, all-none, all-more, all-done, all-fails}
 use Rattle.network.specs.Stations.{coordinate, coordinatesFit}
 use Rattle.network.proofs.opening.coordinates_fit.Statement.{statement}
 use Rattle.network.proofs.opening.coordinates_fit.Tie as tie

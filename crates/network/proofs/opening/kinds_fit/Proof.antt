@@ -10,7 +10,7 @@ use lib.ListN.{length, getD}
 use lib.IntN.{ℤ, pos}
 use mir.Syntax.{w64}
 use mir.ValLaws.{toZ-ofZ}
-use Rattle.network.specs.All.{allBelow, all-none, all-more, all-done, all-fails}
+use Rattle.lists.specs.All.{allBelow, all-none, all-more, all-done, all-fails}
 use Rattle.network.specs.Stations.{isKind, kindsFit}
 use Rattle.network.proofs.opening.kinds_fit.Statement.{statement}
 use Rattle.network.proofs.opening.kinds_fit.Tie as tie

@@ -7,7 +7,7 @@ use mathlib.Core.List.{List}
 use lib.ListN.{length}
 use Rattle.network.specs.declared.Station.{Station}
 use Rattle.network.specs.Stations.{blank, stationIn, networkOf}
-use Rattle.network.specs.Filling.{Mapped, starts, goes-on, finish}
+use Rattle.lists.specs.Filling.{Mapped, starts, goes-on, finish}
 use Rattle.network.proofs.opening.network_of.Statement.{statement}
 use Rattle.network.proofs.opening.network_of.Tie as tie
 

@@ -9,7 +9,7 @@ use mir.Syntax.{w64}
 use mir.ValLaws.{toZ-ofZ}
 use Rattle.words.specs.Signed.{indexIn}
 use Rattle.network.specs.Records.{fromOf, toOf, observed, misclosures}
-use Rattle.network.specs.Stored.{kept}
+use Rattle.lists.specs.Stored.{kept}
 use Rattle.network.proofs.Differences.{told}
 use Rattle.network.proofs.records.height_misclosures.Statement.{statement}
 use Rattle.network.proofs.records.height_misclosures.Tie as tie

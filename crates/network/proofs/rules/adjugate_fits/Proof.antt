@@ -11,7 +11,7 @@ use mir.ValLaws.{toZ-ofZ}
 use Rattle.integers.specs.Code.{fit, code-bounds}
 use Rattle.network.specs.Rules.{adjugateE, adjugateN, adjugateU, determinant, adjugateFits}
 use Rattle.network.specs.Ranges.{determinant-small}
-use Rattle.network.specs.Stored.{stored, kept}
+use Rattle.lists.specs.Stored.{stored, kept}
 use Rattle.network.proofs.Minors.{minor-is, most-is}
 use Rattle.network.proofs.rules.adjugate_fits.Statement.{statement}
 use Rattle.network.proofs.rules.adjugate_fits.Tie as tie

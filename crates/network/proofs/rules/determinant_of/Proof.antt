@@ -3,7 +3,7 @@ use Prim.Native.Nat.{_≤_}
 use mathlib.Core.Path.{_≡_}
 use lib.IntN.{natAbs, _-ℤ_, _*ℤ_}
 use Rattle.integers.specs.Code.{fit, code-bounds}
-use Rattle.network.specs.Stored.{kept}
+use Rattle.lists.specs.Stored.{kept}
 use Rattle.network.proofs.Minors.{minor-is, minor-size, determinant-is}
 use Rattle.network.proofs.rules.determinant_of.Statement.{statement}
 use Rattle.network.proofs.rules.determinant_of.Tie as tie

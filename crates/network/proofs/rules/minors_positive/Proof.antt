@@ -7,7 +7,7 @@ use lib.Signed.{ltZ}
 use mir.Syntax.{w64}
 use mir.ValLaws.{toZ-ofZ}
 use Rattle.network.specs.Rules.{minorsPositive}
-use Rattle.network.specs.Stored.{back}
+use Rattle.lists.specs.Stored.{back}
 use Rattle.network.proofs.Minors.{minor-is}
 use Rattle.network.proofs.rules.minors_positive.Statement.{statement}
 use Rattle.network.proofs.rules.minors_positive.Tie as tie

@@ -8,8 +8,8 @@ use lib.Dec.{leb}
 use lib.ListN.{getD}
 use lib.IntN.{ℤ, pos, natAbs}
 use Rattle.network.specs.declared.Record.{Record}
-use Rattle.network.specs.All.{allBelow}
-use Rattle.network.specs.Stored.{stored, back}
+use Rattle.lists.specs.All.{allBelow}
+use Rattle.lists.specs.Stored.{stored, back}
 use Rattle.network.specs.Records.{misclosures}
 use Rattle.network.specs.RecordLaws.{Observed, misclosures-small}
 use Rattle.network.specs.Rules.{misclosureFits}

@@ -7,7 +7,7 @@ use lib.IntN.{pos}
 use mir.ValLaws.{toZ-ofZ}
 use mir.Syntax.{w64}
 use Rattle.network.specs.Stations.{coordinate}
-use Rattle.network.specs.Filling.{Mapped, starts, goes-on, finish}
+use Rattle.lists.specs.Filling.{Mapped, starts, goes-on, finish}
 use Rattle.network.proofs.stations.coordinates_of.Statement.{statement}
 use Rattle.network.proofs.stations.coordinates_of.Tie as tie
 

@@ -6,7 +6,7 @@ use Prim.Native.Nat.{_+_, _-_, _*_, _≤_}
 use mathlib.Core.Path.{_≡_, sym, ap₂, _∙_}
 use Rattle.network.specs.Stations.{unknown, number, place}
 use Rattle.network.specs.StationLaws.{bit-in, number-0, number-+1, number-small}
-use Rattle.network.specs.Filling.{Mapped, starts, goes-on, finish}
+use Rattle.lists.specs.Filling.{Mapped, starts, goes-on, finish}
 use Rattle.network.proofs.stations.numbers_of.Statement.{statement}
 use Rattle.network.proofs.stations.numbers_of.Tie as tie
 

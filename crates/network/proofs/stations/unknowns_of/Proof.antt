@@ -8,8 +8,8 @@ use mir.Syntax.{w64}
 use mir.Val.{toZ}
 use Rattle.network.specs.Stations.{unknown}
 use Rattle.network.specs.StationLaws.{bit, bit-in}
-use Rattle.network.specs.Stored.{bit-cast, fits-by}
-use Rattle.network.specs.Filling.{Mapped, starts, goes-on, finish}
+use Rattle.lists.specs.Stored.{bit-cast, fits-by}
+use Rattle.lists.specs.Filling.{Mapped, starts, goes-on, finish}
 use Rattle.network.proofs.stations.unknowns_of.Statement.{statement}
 use Rattle.network.proofs.stations.unknowns_of.Tie as tie
 

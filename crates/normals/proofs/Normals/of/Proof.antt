@@ -10,7 +10,7 @@ use lib.IntN.{ℤ, pos}
 use Rattle.integers.specs.Tables.{plus}
 use Rattle.network.specs.Stations.{coordinates}
 use Rattle.network.specs.Records.{recordAt}
-use Rattle.network.specs.Filling.{length-mapped}
+use Rattle.lists.specs.Filling.{length-mapped}
 use Rattle.network.specs.RuleLaws.{sound-stations}
 use Rattle.network.specs.declared.Network.{Network}
 use Rattle.network.specs.declared.Place.{Place}

@@ -4,7 +4,8 @@ use mathlib.Core.Path.{ap, ap₂, _∙_}
 use mathlib.Core.Bool.{_&&_}
 use Prim.Native.Nat.{ℕ}
 use Rattle.normals.specs.Entries.{Sized}
-use Rattle.normals.specs.Same.{sameEntries, sameNormals, same-long}
+use Rattle.lists.specs.Same.{sameEntries, same-long}
+use Rattle.normals.specs.Same.{sameNormals}
 use Rattle.normals.proofs.Normals.same.Statement.{statement}
 use Rattle.normals.proofs.Normals.same.Tie as tie
 

@@ -4,7 +4,7 @@ use mathlib.Core.Path.{ap, _∙_}
 use lib.IntN.{ℤ}
 use Rattle.integers.specs.Tables.{plus}
 use Rattle.normals.specs.Equations.{blockN, blockU}
-use Rattle.network.specs.Stored.{back}
+use Rattle.lists.specs.Stored.{back}
 use Rattle.normals.proofs.equations.add_equation.Statement.{statement}
 use Rattle.normals.proofs.equations.add_equation.Tie as tie
 

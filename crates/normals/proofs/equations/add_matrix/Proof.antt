@@ -11,7 +11,7 @@ use lib.Dec.{lit≤}
 use Rattle.integers.specs.Sums.{sum, sum-+1, sum-zero}
 use Rattle.normals.specs.declared.Equation.{Equation}
 use Rattle.integers.specs.Tables.{plus, plus-none, plus-plus, Within, within-plus, within-more}
-use Rattle.network.specs.Stored.{back, kept}
+use Rattle.lists.specs.Stored.{back, kept}
 use Rattle.normals.specs.Equations.{endsOf, rowN, blockN}
 use Rattle.normals.specs.EquationSizes.{rows-size}
 use Rattle.normals.proofs.Steps.{fit-ends}

@@ -11,7 +11,7 @@ use Rattle.integers.specs.Sums.{sum, sum-+1, sum-zero, δ}
 use Rattle.normals.specs.declared.Equation.{Equation}
 use Rattle.integers.specs.Tables.{plus, plus-none, plus-step, Within, within-plus}
 use Rattle.words.specs.SignedLaws.{eqZ-true}
-use Rattle.network.specs.Stored.{back, kept}
+use Rattle.lists.specs.Stored.{back, kept}
 use Rattle.normals.specs.Equations.{atOf, coefOf, endsOf, pairN, rowN}
 use Rattle.normals.specs.EquationSizes.{row-size}
 use Rattle.normals.proofs.Steps.{Turn, entry-step, entry-fits, row-held}

@@ -7,7 +7,7 @@ use lib.ListN.{getD}
 use lib.IntN.{pos}
 use Rattle.integers.specs.Code.{fit, code-bounds}
 use Rattle.network.specs.Stations.{unknown}
-use Rattle.network.specs.Stored.{back}
+use Rattle.lists.specs.Stored.{back}
 use Rattle.normals.proofs.Steps.{from-coef}
 use Rattle.normals.proofs.records.coefs_of.Statement.{statement}
 use Rattle.normals.proofs.records.coefs_of.Tie as tie

@@ -7,7 +7,7 @@ use lib.IntN.{natAbs}
 use Rattle.network.specs.Stations.{unknown}
 use Rattle.network.specs.Records.{fromOf, toOf, joins, joins-one}
 use Rattle.normals.specs.Equations.{ends, coefs}
-use Rattle.network.specs.Stored.{back, kept}
+use Rattle.lists.specs.Stored.{back, kept}
 use Rattle.normals.proofs.records.equation_of.Statement.{statement}
 use Rattle.normals.proofs.records.equation_of.Tie as tie
 

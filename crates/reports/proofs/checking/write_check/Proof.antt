@@ -1,6 +1,6 @@
 -- `checking::write_check` meets its contract. Assumes nothing.
 use native.Mathlib.Omega.{arith}
-use Rattle.network.specs.Filling.{length-mapped}
+use Rattle.lists.specs.Filling.{length-mapped}
 use Rattle.network.specs.RuleLaws.{network-few}
 use Rattle.book.specs.Sound.{Sound, sound-parts}
 use Rattle.reports.specs.ReportLaws.{room-small}

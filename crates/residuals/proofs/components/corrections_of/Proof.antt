@@ -7,7 +7,7 @@ use lib.ListN.{length, getD}
 use lib.IntN.{ℤ, pos, natAbs, _*ℤ_}
 use Rattle.integers.specs.Code.{fit, code-bounds, ringm, code-shapes}
 use Rattle.integers.specs.Tables.{tabulate, getD-tabulate, tabulate-ext}
-use Rattle.network.specs.Filling.{Mapped, starts, goes-on, finish}
+use Rattle.lists.specs.Filling.{Mapped, starts, goes-on, finish}
 use Rattle.network.specs.Stations.{unknownCount, unknown, place}
 use Rattle.network.specs.StationLaws.{bit}
 use Rattle.residuals.specs.Residuals.{correction}

@@ -6,7 +6,7 @@ use mathlib.Core.List.{List, [], _∷_}
 use lib.ListN.{getD}
 use lib.IntN.{ℤ, pos, natAbs, _-ℤ_, _*ℤ_}
 use Rattle.network.specs.Records.{fromOf, toOf, joins, joins-one, misclosures}
-use Rattle.network.specs.Stored.{stored, back, kept}
+use Rattle.lists.specs.Stored.{stored, back, kept}
 use Rattle.network.specs.declared.Record.{Record}
 use Rattle.residuals.specs.Components.{residualIn, residual-size, Closes}
 use Rattle.residuals.proofs.components.residuals_of.Statement.{statement}

@@ -2,7 +2,7 @@ use borrow.Author.Needs.{needs, sfits-of}
 use mathlib.Core.Path.{_∙_}
 use mir.Syntax.{w64}
 use mir.ValLaws.{toZ-ofZ}
-use Rattle.network.specs.Stored.{kept}
+use Rattle.lists.specs.Stored.{kept}
 use Rattle.residuals.proofs.Products.{product}
 use Rattle.residuals.proofs.variances.adjugate_of.Statement.{statement}
 use Rattle.residuals.proofs.variances.adjugate_of.Tie as tie

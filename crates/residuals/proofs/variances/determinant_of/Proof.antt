@@ -6,7 +6,7 @@ use mathlib.Core.List.{[], _∷_}
 use lib.IntN.{ℤ, natAbs, _+ℤ_, _-ℤ_, _*ℤ_}
 use Rattle.integers.specs.Bounds.{bounds, absle}
 use Rattle.integers.specs.Code.{fit, code-bounds, ringm, code-shapes}
-use Rattle.network.specs.Stored.{stored, back, kept}
+use Rattle.lists.specs.Stored.{stored, back, kept}
 use Rattle.residuals.proofs.variances.determinant_of.Statement.{statement}
 use Rattle.residuals.proofs.variances.determinant_of.Tie as tie
 

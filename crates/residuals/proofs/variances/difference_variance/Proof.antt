@@ -4,7 +4,7 @@ use mathlib.Core.Path.{_≡_, _∙_}
 use mathlib.Core.List.{List, [], _∷_}
 use lib.IntN.{ℤ, natAbs, _+ℤ_, _-ℤ_, _*ℤ_}
 use Rattle.integers.specs.Code.{fit, code-bounds, ringm, code-shapes}
-use Rattle.network.specs.Stored.{stored}
+use Rattle.lists.specs.Stored.{stored}
 use Rattle.residuals.specs.Components.{covarianceIn, differenceIn, Lookup, covariance-size}
 use Rattle.residuals.proofs.variances.difference_variance.Statement.{statement}
 use Rattle.residuals.proofs.variances.difference_variance.Tie as tie

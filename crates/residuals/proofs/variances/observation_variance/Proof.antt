@@ -8,7 +8,7 @@ use mir.Syntax.{w64}
 use mir.Val.{SFits}
 use Rattle.integers.specs.Code.{fit, code-bounds, ringm, code-shapes}
 use Rattle.integers.specs.Division.{floorDiv}
-use Rattle.network.specs.Stored.{stored, back, fits-by}
+use Rattle.lists.specs.Stored.{stored, back, fits-by}
 use Rattle.residuals.specs.Residuals.{S}
 use Rattle.residuals.specs.Weights.{Quotient, divisor-bits, observation-size, quotient}
 use Rattle.residuals.proofs.variances.observation_variance.Statement.{statement}

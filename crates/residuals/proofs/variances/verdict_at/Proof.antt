@@ -9,7 +9,7 @@ use mir.ValLaws.{toZ-ofZ}
 use Rattle.integers.specs.Bounds.{bounds, absle}
 use Rattle.integers.specs.Code.{fit, code-bounds, ringm, code-shapes}
 use Rattle.integers.specs.Division.{floorDiv}
-use Rattle.network.specs.Stored.{stored, back, kept}
+use Rattle.lists.specs.Stored.{stored, back, kept}
 use Rattle.residuals.specs.Residuals.{S}
 use Rattle.residuals.specs.Verdicts.{verdictWord, localVerdict}
 use Rattle.residuals.specs.Components.{differenceIn, difference-size}

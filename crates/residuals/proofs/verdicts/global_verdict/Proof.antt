@@ -12,7 +12,7 @@ use mir.Val.{SFits}
 use mir.ValLaws.{toZ-ofZ}
 use Rattle.integers.specs.Code.{fit, code-bounds, ringm, code-shapes}
 use Rattle.words.specs.Signed.{indexIn}
-use Rattle.network.specs.Stored.{stored, fits-by}
+use Rattle.lists.specs.Stored.{stored, fits-by}
 use Rattle.residuals.specs.declared.Limits.{Limits}
 use Rattle.residuals.specs.declared.Verdict.the-variants.{Pass, Low, High}
 use Rattle.residuals.specs.Verdicts.{chiSquare, limits, globalVerdict}

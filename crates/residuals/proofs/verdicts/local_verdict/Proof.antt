@@ -5,7 +5,7 @@ use Prim.Native.Nat.{_≤_, _^_}
 use lib.IntN.{ℤ, pos, natAbs, _*ℤ_}
 use lib.Signed.{ltZ}
 use Rattle.integers.specs.Code.{fit, code-bounds, ringm, code-shapes}
-use Rattle.network.specs.Stored.{stored, back}
+use Rattle.lists.specs.Stored.{stored, back}
 use Rattle.residuals.specs.VerdictLaws.{local-loose, local-fail, local-pass}
 use Rattle.residuals.proofs.verdicts.local_verdict.Statement.{statement}
 use Rattle.residuals.proofs.verdicts.local_verdict.Tie as tie

@@ -7,7 +7,7 @@ use lib.IntN.{pos}
 use mir.Syntax.{w64}
 use mir.ValLaws.{toZ-ofZ}
 use Rattle.network.specs.Records.{joins}
-use Rattle.network.specs.Stored.{back, kept}
+use Rattle.lists.specs.Stored.{back, kept}
 use Rattle.network.specs.declared.Record.the-variants.{Height as height}
 use Rattle.residuals.specs.Residuals.{observationVariance}
 use Rattle.sheet.specs.Lines.{recordWordsIn}

@@ -2,7 +2,7 @@ use borrow.Author.Needs.{needs}
 use native.Mathlib.Omega.{arith}
 use Prim.Native.Nat.{_+_, _≤_}
 use lib.IntN.{pos, natAbs}
-use Rattle.network.specs.Stored.{back}
+use Rattle.lists.specs.Stored.{back}
 use Rattle.sheet.proofs.lines.numbered.Statement.{statement}
 use Rattle.sheet.proofs.lines.numbered.Tie as tie
 

@@ -2,7 +2,7 @@ use borrow.Author.Needs.{needs}
 use mathlib.Core.Path.{refl, ap₂}
 use mathlib.Core.List.{_∷_}
 use lib.IntN.{pos}
-use Rattle.network.specs.Stored.{back}
+use Rattle.lists.specs.Stored.{back}
 use Rattle.sheet.proofs.sheet.count_line.Statement.{statement}
 use Rattle.sheet.proofs.sheet.count_line.Tie as tie
 

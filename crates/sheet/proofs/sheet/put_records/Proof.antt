@@ -8,7 +8,7 @@ use lib.IntN.{ℤ}
 use Rattle.integers.specs.Tables.{Within}
 use Rattle.network.specs.Stations.{unknownCount}
 use Rattle.network.specs.Records.{recordAt}
-use Rattle.network.specs.Filling.{length-mapped}
+use Rattle.lists.specs.Filling.{length-mapped}
 use Rattle.residuals.specs.Components.{Lookup, Closes, residualsIn}
 use Rattle.residuals.specs.Ranges.{some-unknowns, lookup, sound-at, closes-at}
 use Rattle.residuals.specs.Weights.{weights-by-rules}

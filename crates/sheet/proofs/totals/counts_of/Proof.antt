@@ -3,7 +3,7 @@ use native.Mathlib.Omega.{arith}
 use Prim.Native.Nat.{_-_, _≤_}
 use mathlib.Core.Path.{_≡_}
 use lib.ListN.{length}
-use Rattle.network.specs.Filling.{length-mapped}
+use Rattle.lists.specs.Filling.{length-mapped}
 use Rattle.network.specs.Records.{recordAt}
 use Rattle.sheet.specs.Totals.{record-one, words-few, Counted, counted-none, counted-more, counted-few, counted-all}
 use Rattle.sheet.proofs.totals.counts_of.Statement.{statement}

@@ -10,7 +10,7 @@ use mir.ValLaws.{toZ-ofZ}
 use Rattle.integers.specs.Sums.{sumN, sumN-zero, sumN-+1, sumN-const}
 use Rattle.network.specs.StationLaws.{number-small}
 use Rattle.network.specs.Records.{recordAt}
-use Rattle.network.specs.Filling.{length-mapped}
+use Rattle.lists.specs.Filling.{length-mapped}
 use Rattle.network.specs.declared.Place.{Place}
 use Rattle.normals.specs.Sound.{record-sound}
 use Rattle.sheet.specs.Totals.{shareDIn, shareD-few, freedom, D-in}

@@ -4,7 +4,7 @@ use Prim.Native.Nat.{ℕ, _-_, _≤_, _<_}
 use mathlib.Core.Path.{_≡_, _∙_}
 use lib.ListN.{length}
 use Rattle.network.specs.Records.{recordAt}
-use Rattle.network.specs.Filling.{length-mapped}
+use Rattle.lists.specs.Filling.{length-mapped}
 use Rattle.residuals.specs.Ranges.{some-unknowns}
 use Rattle.sheet.specs.Totals.{Weighed, weighed-at, Summed, summed-none, summed, summed-fits, summed-more, T-in}
 use Rattle.sheet.proofs.totals.t_of.Statement.{statement}

@@ -7,7 +7,7 @@ use lib.ListN.{getD}
 use lib.IntN.{ℤ, pos, natAbs, _+ℤ_, _*ℤ_}
 use Rattle.integers.specs.Code.{fit, code-bounds, ringm, code-shapes}
 use Rattle.integers.specs.Sums.{sum}
-use Rattle.network.specs.Stored.{stored}
+use Rattle.lists.specs.Stored.{stored}
 use Rattle.sheet.proofs.totals.weighted_row.Statement.{statement}
 use Rattle.sheet.proofs.totals.weighted_row.Tie as tie
 

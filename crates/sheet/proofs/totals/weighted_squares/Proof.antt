@@ -9,7 +9,7 @@ use Rattle.integers.specs.Bounds.{bounds, absle}
 use Rattle.integers.specs.Code.{fit, code-bounds, ringm, code-shapes}
 use Rattle.integers.specs.Sums.{sum, abs-sum-const}
 use Rattle.integers.specs.Tables.{Within}
-use Rattle.network.specs.Stored.{stored}
+use Rattle.lists.specs.Stored.{stored}
 use Rattle.sheet.proofs.totals.weighted_squares.Statement.{statement}
 use Rattle.sheet.proofs.totals.weighted_squares.Tie as tie
 

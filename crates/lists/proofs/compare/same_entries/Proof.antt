@@ -10,9 +10,9 @@ use lib.IntN.{pos}
 use mir.Syntax.{w64}
 use mir.ValLaws.{toZ-ofZ}
 use Rattle.words.specs.Signed.{eqZ}
-use Rattle.normals.specs.Same.{sameEntries, same-long, not-long, same-none, same-more, same-not}
-use Rattle.normals.proofs.compare.same_entries.Statement.{statement}
-use Rattle.normals.proofs.compare.same_entries.Tie as tie
+use Rattle.lists.specs.Same.{sameEntries, same-long, not-long, same-none, same-more, same-not}
+use Rattle.lists.proofs.compare.same_entries.Statement.{statement}
+use Rattle.lists.proofs.compare.same_entries.Tie as tie
 
 abbrev Inv-loop : tie.InvT-loop
 Inv-loop a b i₀ i = (i ≤ length a) × (sameEntries i a b ≡ true)

@@ -1,3 +1,4 @@
+-- `copy`: the loop's invariant is that the numbers passed are those of `from`. Assumes nothing.
 use native.Mathlib.Omega.{arith}
 use mathlib.Core.Path.{_≡_, refl}
 use Prim.Native.Nat.{_-_, _≤_}
@@ -7,9 +8,9 @@ use mir.Syntax.{w64}
 use mir.Val.{toZ, ofZ}
 use mir.Facts.{toZ-ofZ}
 use borrow.Author.Needs.{needs, sfits-of}
-use Rattle.normals.specs.Copied.{copied-more, copied-all}
-use Rattle.engine.proofs.copying.copy.Statement.{statement}
-use Rattle.engine.proofs.copying.copy.Tie as tie
+use Rattle.lists.specs.Copied.{copied-more, copied-all}
+use Rattle.lists.proofs.copying.copy.Statement.{statement}
+use Rattle.lists.proofs.copying.copy.Tie as tie
 
 abbrev Inv-loop : tie.InvT-loop
 Inv-loop from to₀ i₀ to i = (i ≤ length from) × ((length to ≡ length to₀) × (take i to ≡ take i from))

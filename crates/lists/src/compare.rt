@@ -1,6 +1,6 @@
-// Two lists of entries compared.
+// Two lists of numbers compared.
 ghost use mathlib.Core.Path.{_≡_};
-ghost use Rattle.normals.specs.Same.{sameList};
+ghost use Rattle.lists.specs.Same.{sameList};
 
 // Whether the lists are equal.
 pub fn same_entries(a: &[i64], b: &[i64]) -> bool

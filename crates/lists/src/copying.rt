@@ -3,7 +3,7 @@ ghost use mathlib.Core.Path.{_≡_};
 ghost use lib.ListN.{length};
 
 // Makes `to` the list that `from` is.
-pub(crate) fn copy(from: &[i64], to: &mut [i64])
+pub fn copy(from: &[i64], to: &mut [i64])
     requires { ⌜ length (now from) ≡ length (now to) ⌝ }
     ensures { λ _. ⌜ now (to .exit) ≡ now (from .entry) ⌝ }
 {
