@@ -1,14 +1,13 @@
 -- What the tests of a check distance give: the sizes of its values, how large the number of an answer is, and the answer itself. Assumes nothing.
-use Prim.Native.Nat.{ℕ, _≤_}
-use mathlib.Core.Path.{_≡_, refl}
+use Prim.Native.Nat.{_≤_}
+use mathlib.Core.Path.{_≡_}
 use mathlib.Core.Bool.{Bool, true, false, cond, _&&_}
 use mathlib.Core.List.{[], _∷_}
 use native.Mathlib.Omega.{arith}
-use borrow.Author.Tests.{leb-true}
 use lib.Dec.{lit≤}
-use lib.IntN.{ℤ, pos, negsuc, natAbs}
+use lib.IntN.{pos, natAbs}
 use lib.Signed.{leZ, ltZ}
-use Rattle.words.specs.Bools.{clash, and-left, and-right}
+use Rattle.words.specs.SignedLaws.{between-size}
 use Rattle.lists.specs.All.{each}
 use Rattle.network.specs.Rules.{endsFit}
 use Rattle.network.specs.declared.Network.{Network}
@@ -29,14 +28,6 @@ pub record InRange (d : CheckDistance) : Type 0 where
   pub distance : natAbs (d .distance) ≤ 1800000000
   pub tolerance : natAbs (d .tolerance) ≤ 100000
 
--- a number from k to most
-size : (k most : ℕ) (v : ℤ) → leZ (pos k) v && leZ v (pos most) ≡ true → natAbs v ≤ most
-size k most v e = go v (and-left (leZ (pos k) v) (leZ v (pos most)) e) (and-right (leZ (pos k) v) (leZ v (pos most)) e)
-  where
-    go : (v : ℤ) → leZ (pos k) v ≡ true → leZ v (pos most) ≡ true → natAbs v ≤ most
-    go (pos n) p q = leb-true n most q
-    go (negsuc n) p q = clash p refl
-
 pub in-range : (d : CheckDistance) → distanceInRange d ≡ true → InRange d
 unfolding distanceInRange
 in-range d e =
@@ -45,10 +36,10 @@ in-range d e =
     ∷ (leZ (pos 1) (d .distance) && leZ (d .distance) (pos 1800000000))
     ∷ (leZ (pos 0) (d .tolerance) && leZ (d .tolerance) (pos 100000)) ∷ ltZ (d .tolerance) (d .distance) ∷ []) e in
     record {
-      instrument = size 0 300000 (d .instrument) (t .0);
-      target = size 0 300000 (d .target) (t .1 .0);
-      distance = size 1 1800000000 (d .distance) (t .1 .1 .0);
-      tolerance = size 0 100000 (d .tolerance) (t .1 .1 .1 .0);
+      instrument = between-size 0 300000 (d .instrument) (t .0);
+      target = between-size 0 300000 (d .target) (t .1 .0);
+      distance = between-size 1 1800000000 (d .distance) (t .1 .1 .0);
+      tolerance = between-size 0 100000 (d .tolerance) (t .1 .1 .1 .0);
     }
 
 -- ════ numbers: that of a refusal is 3 to 17

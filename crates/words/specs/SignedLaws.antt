@@ -1,19 +1,18 @@
--- Laws of the signed helpers: `eqZ` is equality, `indexIn` is an index exactly of 1 to n, and
+-- Laws of the signed helpers: `eqZ` is equality, the size of a number between limits, `indexIn` is an index exactly of 1 to n, and
 -- `signed` and `unsigned` undo each other. Assumes nothing.
 use mathlib.Core.Path.{_≡_, refl, ap}
-use mathlib.Core.Logic.{⊎-elim}
 use mathlib.Core.Bool.{true, false, cond, _&&_}
 use Prim.Native.Nat.{ℕ, zero, suc, _-_, _<_, _≤_, _^_}
 use native.Mathlib.Omega.{arith}
 use native.Mathlib.Decide.{decLt}
 use native.Mathlib.Nat.{lt-irrefl}
-use lib.Dec.{ltb, leb}
+use lib.Dec.{ltb}
 use lib.IntN.{ℤ, pos, negsuc, natAbs}
-use lib.Signed.{leZ, natAbs-le}
-use borrow.Author.Tests.{eqb-true, eq-eqb, lt-ltb, le-ltb, ltb-true, leb-true, le-leb, lt-leb}
+use lib.Signed.{leZ}
+use borrow.Author.Tests.{eqb-true, eq-eqb, lt-ltb, le-ltb, leb-true, le-leb, lt-leb}
 use mir.Syntax.{w64}
 use mir.Val.{SFits}
-use Rattle.words.specs.Bools.{clash, true-or-false, and-left, and-right}
+use Rattle.words.specs.Bools.{clash, and-right}
 use Rattle.words.specs.Signed.{eqZ, indexIn, signed, unsigned}
 
 -- ---- equality
@@ -34,6 +33,11 @@ pub eqZ-false : (a b : ℤ) → eqZ a b ≡ false → a ≡ b → ⊥
 eqZ-false a b e p = clash (eq-eqZ a b p) e
 
 -- ---- sizes
+-- of a number from k to most
+pub between-size : (k most : ℕ) (v : ℤ) → leZ (pos k) v && leZ v (pos most) ≡ true → natAbs v ≤ most
+between-size k most (pos n) e = leb-true n most (and-right (leZ (pos k) (pos n)) (leZ (pos n) (pos most)) e)
+between-size k most (negsuc n) e = clash e refl
+
 -- ---- a number in a list
 pub index-suc : (k n : ℕ) → k < n → indexIn (pos (suc k)) n ≡ k
 unfolding indexIn
