@@ -14,7 +14,8 @@ use Rattle.words.specs.Bools.{and-left, and-right, and-both}
 use Rattle.lists.specs.All.{allBelow, all-at}
 use Rattle.network.specs.Stations.{networkFits, blankBeyond, coordinatesFit, unknownsFit, isBlank, isKnown, coordinate, coordinateIn, coordinates, unknown, unknownIn, number}
 use Rattle.network.specs.Records.{vacant, fromOf, toOf, misclosures, misclosureAt}
-use Rattle.network.specs.Rules.{recordFits, recordNo, recordNoOver, endsFit, baselineInRange, matrixFits, minorsPositive, adjugateFits, misclosureFits}
+use Rattle.weights.specs.Rules.{weightsInRange, matrixFits, minorsPositive, adjugateFits}
+use Rattle.network.specs.Rules.{recordFits, recordNo, recordNoOver, endsFit, matrixOf, baselineInRange, misclosureFits}
 use Rattle.network.specs.RuleLaws.{accepted-fits}
 use Rattle.network.specs.declared.Kind.{Kind}
 use Rattle.network.specs.declared.Kind.the-variants.{Known, Free}
@@ -71,10 +72,10 @@ unfolding networkFits blankBeyond coordinatesFit unknownsFit allBelow isBlank is
 network-fits = refl
 
 abbrev tests : ℕ → Bool
-tests p = endsFit 17 (sampleBaseline p .from) (sampleBaseline p .to) && (baselineInRange (sampleBaseline p) && matrixFits (sampleBaseline p))
+tests p = endsFit 17 (sampleBaseline p .from) (sampleBaseline p .to) && (baselineInRange (sampleBaseline p) && matrixFits (matrixOf (sampleBaseline p)))
 
 tests-pass : allBelow 256 tests ≡ true
-unfolding allBelow endsFit baselineInRange matrixFits minorsPositive adjugateFits sampleBaseline
+unfolding allBelow endsFit baselineInRange weightsInRange matrixFits minorsPositive adjugateFits sampleBaseline
 tests-pass = refl
 
 at-origin : allBelow 96 (λ q. leb (natAbs (coordinate (sampleNetwork .stations) q)) 0) ≡ true
@@ -109,9 +110,9 @@ module _ (p : ℕ) (h : p < 256) where
       let b = sampleBaseline p in
       let e = endsFit 17 (b .from) (b .to) in
       let t = all-at 256 tests p tests-pass h in
-      let u = and-right e (baselineInRange b && matrixFits b) t in
-      passes e (baselineInRange b) (matrixFits b) _
-      (and-left e (baselineInRange b && matrixFits b) t) (and-left (baselineInRange b) (matrixFits b) u) (and-right (baselineInRange b) (matrixFits b) u) closes
+      let u = and-right e (baselineInRange b && matrixFits (matrixOf b)) t in
+      passes e (baselineInRange b) (matrixFits (matrixOf b)) _
+      (and-left e (baselineInRange b && matrixFits (matrixOf b)) t) (and-left (baselineInRange b) (matrixFits (matrixOf b)) u) (and-right (baselineInRange b) (matrixFits (matrixOf b)) u) closes
 
 pub sample-sound : Sound sampleNetwork samplePlaces
 sample-sound =

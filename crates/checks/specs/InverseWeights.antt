@@ -1,30 +1,31 @@
 -- The exact inverse P⁻¹ of a record's weights, on the components in which it acts: whole numbers Q over p. Every record by the rules has one. Assumes nothing.
-use Prim.Native.Nat.{ℕ, zero, suc, _+_, _*_, _<_}
+use Prim.Native.Nat.{ℕ, zero, suc, _<_}
 use mathlib.Core.Path.{_≡_, refl, sym, ap, _∙_}
 use mathlib.Core.Bool.{true, false}
 use mathlib.Core.Logic.{_⊎_, inl, inr}
-use mathlib.Core.List.{List, [], _∷_}
+use mathlib.Core.List.{[], _∷_}
 use native.Mathlib.Omega.{arith}
 use borrow.Author.Tests.{eqb-true}
 use lib.Dec.{lit<}
-use lib.ListN.{getD}
-use lib.IntN.{ℤ, pos, natAbs, _-ℤ_, _*ℤ_, zero-*ℤ, *ℤ-zero, *ℤ-comm}
+use lib.IntN.{ℤ, pos, natAbs, _*ℤ_, zero-*ℤ, *ℤ-zero, *ℤ-comm}
 use Rattle.integers.specs.Solvers.{ring, shapes}
 use Rattle.integers.specs.Sums.{sum, sum-ext, sum-0, δ, δ-other, δ-sym, sum-δ, mat-assoc}
 use Rattle.integers.specs.Division.{floorDiv}
 use Rattle.words.specs.Bools.{clash, true-or-false}
+use Rattle.weights.specs.Rules.{adjugate, determinant}
+use Rattle.weights.specs.Quotients.{divisor, divisor-some}
+use Rattle.weights.specs.Inverse.{adjugateAt, adjugate-inverse}
 use Rattle.network.specs.Records.{acts, weights}
-use Rattle.network.specs.Rules.{adjugateE, adjugateN, adjugateU, determinant, recordFits}
+use Rattle.network.specs.Rules.{matrixOf, recordFits}
 use Rattle.network.specs.declared.Network.{Network}
-use Rattle.network.specs.declared.Baseline.{Baseline}
 use Rattle.network.specs.declared.Level.{Level}
 use Rattle.network.specs.declared.Record.{Record}
 use Rattle.network.specs.declared.Record.the-variants.{Empty, Baseline as baseline, Height as height}
 use Rattle.normals.specs.Formulas.{P}
 use Rattle.normals.specs.Symmetry.{P-sym}
 use Rattle.normals.specs.Acting.{P-not-acting}
-use Rattle.residuals.specs.Residuals.{S, adjugate, observationVariance}
-use Rattle.residuals.specs.Weights.{divisor, divisor-some, weights-by-rules}
+use Rattle.residuals.specs.Residuals.{S, observationVariance}
+use Rattle.residuals.specs.Weights.{weights-by-rules}
 
 -- PQ = p·I where the record acts: of a baseline the whole of it, of a height difference weight·Q_UU = p
 pub record InverseWeights (r : Record) (Q : ℕ → ℕ → ℤ) (p : ℕ) : Type 0 where
@@ -34,55 +35,24 @@ pub record InverseWeights (r : Record) (Q : ℕ → ℕ → ℤ) (p : ℕ) : Typ
 -- ════ every record by the rules has one: a baseline the adjugate over the determinant, a height difference 1 over its weight
 unfoldable pub weightAdjugate : Record → ℕ → ℕ → ℤ
 weightAdjugate Empty a c = pos 0
-weightAdjugate (baseline b) a c =
-    getD (adjugateE b ∷ en ∷ eu ∷ en ∷ adjugateN b ∷ nu ∷ eu ∷ nu ∷ adjugateU b ∷ []) (a * 3 + c) (pos 0)
-  where
-    en : ℤ
-    en = b .nu *ℤ b .eu -ℤ b .en *ℤ b .uu
-
-    eu : ℤ
-    eu = b .en *ℤ b .nu -ℤ b .nn *ℤ b .eu
-
-    nu : ℤ
-    nu = b .en *ℤ b .eu -ℤ b .ee *ℤ b .nu
+weightAdjugate (baseline b) a c = adjugateAt (matrixOf b) a c
 weightAdjugate (height h) a c = pos 1
 
 unfoldable pub weightDeterminant : Record → ℕ
 weightDeterminant Empty = 1
-weightDeterminant (baseline b) = natAbs (determinant b)
+weightDeterminant (baseline b) = natAbs (determinant (matrixOf b))
 weightDeterminant (height h) = natAbs (h .weight)
-
--- the six weights of a baseline, as the unknowns of identities
-abbrev six : Baseline → List ℤ
-six x = x .ee ∷ x .en ∷ x .eu ∷ x .nn ∷ x .nu ∷ x .uu ∷ []
-
--- PQ = det·I
-adjugate-inverse : (x : Baseline) (a b : ℕ) → a < 3 → b < 3 → sum 3 (λ c. P (baseline x) a c *ℤ weightAdjugate (baseline x) c b) ≡ determinant x *ℤ δ a b
-unfolding sum weights weightAdjugate
-adjugate-inverse x zero zero p q = ring (six x) (search shapes depth 12) tt
-adjugate-inverse x zero (suc zero) p q = ring (six x) (search shapes depth 12) tt
-adjugate-inverse x zero (suc (suc zero)) p q = ring (six x) (search shapes depth 12) tt
-adjugate-inverse x (suc zero) zero p q = ring (six x) (search shapes depth 12) tt
-adjugate-inverse x (suc zero) (suc zero) p q = ring (six x) (search shapes depth 12) tt
-adjugate-inverse x (suc zero) (suc (suc zero)) p q = ring (six x) (search shapes depth 12) tt
-adjugate-inverse x (suc (suc zero)) zero p q = ring (six x) (search shapes depth 12) tt
-adjugate-inverse x (suc (suc zero)) (suc zero) p q = ring (six x) (search shapes depth 12) tt
-adjugate-inverse x (suc (suc zero)) (suc (suc zero)) p q = ring (six x) (search shapes depth 12) tt
-adjugate-inverse x (suc (suc (suc a))) b p q = absurd (omega arith)
-adjugate-inverse x zero (suc (suc (suc b))) p q = absurd (omega arith)
-adjugate-inverse x (suc zero) (suc (suc (suc b))) p q = absurd (omega arith)
-adjugate-inverse x (suc (suc zero)) (suc (suc (suc b))) p q = absurd (omega arith)
 
 height-inverse : (x : Level) (a b : ℕ) → a ≡ 2 → b ≡ 2 → sum 3 (λ c. P (height x) a c *ℤ weightAdjugate (height x) c b) ≡ x .weight *ℤ δ a b
 unfolding sum weights weightAdjugate
 height-inverse x a b p q = rw (p, q) (ring (x .weight ∷ []) (search shapes depth 12) tt)
 
 pub inverse-weights : (net : Network) (r : Record) → recordFits net r ≡ true → InverseWeights r (weightAdjugate r) (weightDeterminant r)
-unfolding weightDeterminant acts
+unfolding weightAdjugate weightDeterminant weights acts
 inverse-weights net Empty e = record { positive = lit< tt; inverse = λ a b p q d d′. clash d refl }
 inverse-weights net (baseline x) e =
     let w = weights-by-rules net (baseline x) e .east in
-    record { positive = divisor-some w; inverse = λ a b p q d d′. adjugate-inverse x a b p q ∙ ap (λ (z : ℤ). z *ℤ δ a b) (sym (divisor w)) }
+    record { positive = divisor-some w; inverse = λ a b p q d d′. adjugate-inverse (matrixOf x) a b p q ∙ ap (λ (z : ℤ). z *ℤ δ a b) (sym (divisor w)) }
 inverse-weights net (height x) e =
     let w = weights-by-rules net (height x) e in
     record {
@@ -92,7 +62,7 @@ inverse-weights net (height x) e =
 
 -- q's quotient, floor(S·adj/det), is of its diagonal
 pub observation-quotient : (r : Record) (a : ℕ) → a < 3 → acts a r ≡ true → observationVariance r a ≡ floorDiv (S *ℤ weightAdjugate r a a) (weightDeterminant r)
-unfolding acts observationVariance adjugate weightAdjugate weightDeterminant
+unfolding acts observationVariance adjugate adjugateAt weightAdjugate weightDeterminant
 observation-quotient Empty a h e = clash e refl
 observation-quotient (baseline b) zero h e = refl
 observation-quotient (baseline b) (suc zero) h e = refl

@@ -1,4 +1,3 @@
 pub mod Differences
 pub mod Listing
-pub mod Minors
 pub mod RecordKinds

@@ -9,5 +9,4 @@ pub mod RecordWords
 pub mod StationWords
 pub mod Rules
 pub mod Ranges
-pub mod Positive
 pub mod RuleLaws

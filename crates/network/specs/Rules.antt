@@ -4,10 +4,12 @@ use mathlib.Core.Bool.{Bool, true, false, cond, not, _&&_}
 use mathlib.Core.List.{List}
 use lib.Dec.{eqb, leb}
 use lib.ListN.{getD}
-use lib.IntN.{ℤ, pos, natAbs, _+ℤ_, _-ℤ_, _*ℤ_}
-use lib.Signed.{leZ, ltZ}
+use lib.IntN.{ℤ, pos, natAbs}
+use lib.Signed.{leZ}
 use Rattle.words.specs.Signed.{eqZ}
 use Rattle.lists.specs.All.{allBelow}
+use Rattle.weights.specs.Rules.{weightFits, weightsInRange, matrixFits}
+use Rattle.weights.specs.declared.WeightMatrix.{WeightMatrix}
 use Rattle.network.specs.Stations.{coordinates}
 use Rattle.network.specs.Records.{misclosures}
 use Rattle.network.specs.declared.Network.{Network}
@@ -28,47 +30,18 @@ endsFit count from to = inList count from && inList count to && not (eqZ from to
 abbrev pub observedFits : ℤ → Bool
 observedFits v = leb (natAbs v) 1000000000
 
--- "Diagonal and single weights 1 to 10,000; off-diagonals within ±10,000"
-abbrev pub weightFits : ℤ → Bool
-weightFits w = leZ (pos 1) w && leZ w (pos 10000)
-
-abbrev pub offDiagonalFits : ℤ → Bool
-offDiagonalFits w = leb (natAbs w) 10000
+-- "Diagonal and single weights 1 to 10,000; off-diagonals within ±10,000": `weightFits` and `weightsInRange`, in crate weights; here of a baseline's matrix
+abbrev pub matrixOf : Baseline → WeightMatrix
+matrixOf b = record { ee = b .ee; en = b .en; eu = b .eu; nn = b .nn; nu = b .nu; uu = b .uu }
 
 unfoldable pub baselineInRange : Baseline → Bool
-baselineInRange b =
-    observedFits (b .east) && observedFits (b .north) && observedFits (b .up)
-    && weightFits (b .ee) && weightFits (b .nn) && weightFits (b .uu)
-    && offDiagonalFits (b .en) && offDiagonalFits (b .eu) && offDiagonalFits (b .nu)
+baselineInRange b = observedFits (b .east) && observedFits (b .north) && observedFits (b .up) && weightsInRange (matrixOf b)
 
 unfoldable pub heightInRange : Level → Bool
 heightInRange h = observedFits (h .up) && weightFits (h .weight)
 
--- ════ 5: "A matrix needs all three leading minors positive, and each diagonal entry of its adjugate at most 16 times its determinant"
--- the diagonal of the adjugate
-abbrev pub adjugateE : Baseline → ℤ
-adjugateE b = b .nn *ℤ b .uu -ℤ b .nu *ℤ b .nu
-
-abbrev pub adjugateN : Baseline → ℤ
-adjugateN b = b .ee *ℤ b .uu -ℤ b .eu *ℤ b .eu
-
-abbrev pub adjugateU : Baseline → ℤ
-adjugateU b = b .ee *ℤ b .nn -ℤ b .en *ℤ b .en
-
--- the leading minors are ee, ee·nn − en², and the determinant, here by the first row
-abbrev pub determinant : Baseline → ℤ
-determinant b =
-    b .ee *ℤ (b .nn *ℤ b .uu -ℤ b .nu *ℤ b .nu) -ℤ b .en *ℤ (b .en *ℤ b .uu -ℤ b .nu *ℤ b .eu) +ℤ b .eu *ℤ (b .en *ℤ b .nu -ℤ b .nn *ℤ b .eu)
-
-unfoldable pub minorsPositive : Baseline → Bool
-minorsPositive b = ltZ (pos 0) (b .ee) && ltZ (pos 0) (b .ee *ℤ b .nn -ℤ b .en *ℤ b .en) && ltZ (pos 0) (determinant b)
-
-unfoldable pub adjugateFits : Baseline → Bool
-adjugateFits b =
-    leZ (adjugateE b) (pos 16 *ℤ determinant b) && leZ (adjugateN b) (pos 16 *ℤ determinant b) && leZ (adjugateU b) (pos 16 *ℤ determinant b)
-
-unfoldable pub matrixFits : Baseline → Bool
-matrixFits b = minorsPositive b && adjugateFits b
+-- ════ 5: "A matrix needs all three leading minors positive, and each diagonal entry of its adjugate at most 16 times its determinant":
+-- `matrixFits`, in crate weights
 
 -- ════ 6: "misclosure too large": "each component within ±100,000". A component that is not observed has the misclosure 0. c holds the provisional coordinates
 unfoldable pub misclosureFits : List ℤ → Record → Bool
@@ -78,7 +51,7 @@ misclosureFits c r = allBelow 3 (λ a. leb (natAbs (getD (misclosures c r) a (po
 unfoldable pub recordNoOver : ℕ → List ℤ → Record → ℕ
 recordNoOver count c Empty = 3
 recordNoOver count c (baseline b) =
-    cond (endsFit count (b .from) (b .to)) (cond (baselineInRange b) (cond (matrixFits b) (cond (misclosureFits c (baseline b)) 0 6) 5) 4) 3
+    cond (endsFit count (b .from) (b .to)) (cond (baselineInRange b) (cond (matrixFits (matrixOf b)) (cond (misclosureFits c (baseline b)) 0 6) 5) 4) 3
 recordNoOver count c (height h) =
     cond (endsFit count (h .from) (h .to)) (cond (heightInRange h) (cond (misclosureFits c (height h)) 0 6) 4) 3
 

@@ -23,6 +23,7 @@ pub use records::to_of;
 pub use records::weights_of;
 pub use rules::ends_fit;
 pub use rules::is_empty;
+pub use rules::matrix_of;
 pub use rules::record_fits;
 pub use rules::record_fits_over;
 pub use rules::record_no;

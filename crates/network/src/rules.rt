@@ -6,15 +6,14 @@ use super::Record;
 use super::Unit;
 use super::records::misclosures_of;
 use super::stations::coordinates_of;
+use weights::WeightMatrix;
 ghost use mathlib.Core.Path.{_≡_};
 ghost use mathlib.Core.Bool.{true};
 ghost use Prim.Native.Nat.{_≤_};
-ghost use lib.IntN.{natAbs, _-ℤ_, _*ℤ_};
 ghost use Rattle.integers.specs.Tables.{Within};
 ghost use Rattle.network.specs.Stations.{coordinatesFit};
-ghost use Rattle.network.specs.Rules.{inList, endsFit, baselineInRange, heightInRange, determinant, minorsPositive, adjugateFits, matrixFits, misclosureFits, recordNoOver, recordNo, isEmpty, recordFitsOver, recordFits};
+ghost use Rattle.network.specs.Rules.{inList, endsFit, matrixOf, baselineInRange, heightInRange, misclosureFits, recordNoOver, recordNo, isEmpty, recordFitsOver, recordFits};
 ghost use Rattle.network.specs.RecordLaws.{Observed};
-ghost use Rattle.network.specs.Ranges.{BaselineRange};
 
 // v is the number of a station.
 fn in_list(count: usize, v: i64) -> bool
@@ -30,74 +29,33 @@ pub fn ends_fit(count: usize, from: i64, to: i64) -> bool
     in_list(count, from) & in_list(count, to) & !words::same(from, to)
 }
 
+// The weight matrix of a baseline.
+pub fn matrix_of(b: Baseline) -> WeightMatrix
+    ensures { λ w. ⌜ w ≡ matrixOf b ⌝ }
+{
+    WeightMatrix {
+        ee: b.ee,
+        en: b.en,
+        eu: b.eu,
+        nn: b.nn,
+        nu: b.nu,
+        uu: b.uu,
+    }
+}
+
 fn baseline_in_range(b: Baseline) -> bool
     ensures { λ t. ⌜ t ≡ baselineInRange b ⌝ }
 {
     words::within(b.east, Unit::OBSERVED)
         & words::within(b.north, Unit::OBSERVED)
         & words::within(b.up, Unit::OBSERVED)
-        & words::between(b.ee, 1, Unit::WEIGHT)
-        & words::between(b.nn, 1, Unit::WEIGHT)
-        & words::between(b.uu, 1, Unit::WEIGHT)
-        & words::within(b.en, Unit::OFF_DIAGONAL)
-        & words::within(b.eu, Unit::OFF_DIAGONAL)
-        & words::within(b.nu, Unit::OFF_DIAGONAL)
+        & weights::weights_in_range(matrix_of(b))
 }
 
 fn height_in_range(h: Level) -> bool
     ensures { λ t. ⌜ t ≡ heightInRange h ⌝ }
 {
     words::within(h.up, Unit::OBSERVED) & words::between(h.weight, 1, Unit::WEIGHT)
-}
-
-// a·b − c·d.
-fn minor(a: i64, b: i64, c: i64, d: i64) -> i64
-    requires { ⌜ (natAbs a ≤ 10000) × (natAbs b ≤ 10000) × (natAbs c ≤ 10000) × (natAbs d ≤ 10000) ⌝ }
-    ensures { λ r. ⌜ r ≡ a *ℤ b -ℤ c *ℤ d ⌝ }
-{
-    a * b - c * d
-}
-
-// The determinant by the first row.
-fn determinant_of(b: Baseline) -> i64
-    requires { ⌜ BaselineRange b ⌝ }
-    ensures { λ r. ⌜ r ≡ determinant b ⌝ }
-{
-    let x = minor(b.nn, b.uu, b.nu, b.nu);
-    let y = minor(b.en, b.uu, b.nu, b.eu);
-    let z = minor(b.en, b.nu, b.nn, b.eu);
-    let e = b.ee * x;
-    let n = b.en * y;
-    let u = b.eu * z;
-    e - n + u
-}
-
-fn minors_positive(b: Baseline) -> bool
-    requires { ⌜ BaselineRange b ⌝ }
-    ensures { λ t. ⌜ t ≡ minorsPositive b ⌝ }
-{
-    let m = minor(b.ee, b.nn, b.en, b.en);
-    let d = determinant_of(b);
-    words::less(0, b.ee) & words::less(0, m) & words::less(0, d)
-}
-
-// Each diagonal entry of the adjugate is at most 16 times the determinant.
-fn adjugate_fits(b: Baseline) -> bool
-    requires { ⌜ BaselineRange b ⌝ }
-    ensures { λ t. ⌜ t ≡ adjugateFits b ⌝ }
-{
-    let most = Unit::ADJUGATE_FACTOR * determinant_of(b);
-    let e = minor(b.nn, b.uu, b.nu, b.nu);
-    let n = minor(b.ee, b.uu, b.eu, b.eu);
-    let u = minor(b.ee, b.nn, b.en, b.en);
-    words::at_most(e, most) & words::at_most(n, most) & words::at_most(u, most)
-}
-
-fn matrix_fits(b: Baseline) -> bool
-    requires { ⌜ BaselineRange b ⌝ }
-    ensures { λ t. ⌜ t ≡ matrixFits b ⌝ }
-{
-    minors_positive(b) & adjugate_fits(b)
 }
 
 fn misclosure_fits(coordinate: &[i64; Unit::COMPONENTS], r: Record) -> bool
@@ -120,7 +78,7 @@ fn baseline_no(count: usize, coordinate: &[i64; Unit::COMPONENTS], b: Baseline) 
     if !baseline_in_range(b) {
         return 4;
     }
-    if !matrix_fits(b) {
+    if !weights::matrix_fits(matrix_of(b)) {
         return 5;
     }
     if !misclosure_fits(coordinate, Record::Baseline(b)) {

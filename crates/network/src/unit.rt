@@ -1,4 +1,5 @@
 // The unit of lengths, 0.01 mm, with what document 01 gives in it: the scale of weights, and the limits of stations and records.
+use weights::WeightMatrix;
 ghost use mathlib.Core.Path.{_≡_};
 ghost use lib.IntN.{pos};
 ghost use Rattle.network.specs.Units.{weightOf};
@@ -29,11 +30,11 @@ impl Unit {
 
     pub const MISCLOSURE: u64 = 100_000;
     // The largest weight; the size of an off-diagonal one.
-    pub const WEIGHT: i64 = 10_000;
+    pub const WEIGHT: i64 = WeightMatrix::WEIGHT;
 
-    pub const OFF_DIAGONAL: u64 = 10_000;
+    pub const OFF_DIAGONAL: u64 = WeightMatrix::OFF_DIAGONAL;
     // How many times the determinant a diagonal entry of the adjugate may be.
-    pub const ADJUGATE_FACTOR: i64 = 16;
+    pub const ADJUGATE_FACTOR: i64 = WeightMatrix::ADJUGATE_FACTOR;
 
     // The weight of a standard deviation in units: the whole number nearest to 1,000² over its square. 0, which no record takes, of 0 and of more than 14.14 mm.
     pub fn weight_of(deviation: u64) -> i64

@@ -6,8 +6,6 @@ mod verdicts;
 pub use components::adjusted;
 pub use components::corrections_of;
 pub use components::residuals_of;
-pub use variances::Adjugate;
-pub use variances::adjugate_of;
 pub use variances::covariance;
 pub use variances::verdict_at;
 pub use verdicts::global_verdict;

@@ -1,14 +1,12 @@
 // Variances from M and from the weights, and the local test of a residual.
-use network::Baseline;
 ghost use mathlib.Core.Path.{_≡_};
 ghost use Prim.Native.Nat.{_+_, _*_, _<_, _≤_};
 ghost use lib.IntN.{natAbs, _-ℤ_, _*ℤ_};
 ghost use Rattle.integers.specs.Division.{floorDiv};
-ghost use Rattle.network.specs.Rules.{adjugateE, adjugateN, adjugateU, determinant};
+ghost use Rattle.weights.specs.Quotients.{Quotient};
 ghost use Rattle.residuals.specs.Residuals.{S};
 ghost use Rattle.residuals.specs.Verdicts.{verdictWord, localVerdict};
 ghost use Rattle.residuals.specs.Components.{covarianceIn, differenceIn, Lookup};
-ghost use Rattle.residuals.specs.Weights.{SmallWeights, Quotient};
 
 // M at the components q and k, 0 where one of them is held.
 pub fn covariance(
@@ -44,49 +42,6 @@ fn difference_variance(
     let upper = covariance(number, unknown, m, n, t, f);
     let lower = covariance(number, unknown, m, n, f, t);
     to + j * (from - upper - lower)
-}
-
-// The determinant of two rows and columns of a matrix, with a and b on the diagonal.
-fn minor(a: i64, b: i64, c: i64, d: i64) -> i64
-    requires { ⌜ (natAbs a ≤ 10000) × (natAbs b ≤ 10000) × (natAbs c ≤ 10000) × (natAbs d ≤ 10000) ⌝ }
-    ensures { λ r. ⌜ r ≡ a *ℤ b -ℤ c *ℤ d ⌝ }
-{
-    a * b - c * d
-}
-
-// The determinant of the weight matrix.
-fn determinant_of(b: Baseline) -> i64
-    requires { ⌜ SmallWeights b ⌝ }
-    ensures { λ r. ⌜ r ≡ determinant b ⌝ }
-{
-    let ee = minor(b.nn, b.uu, b.nu, b.nu);
-    let en = minor(b.en, b.uu, b.nu, b.eu);
-    let eu = minor(b.en, b.nu, b.nn, b.eu);
-    b.ee * ee - b.en * en + b.eu * eu
-}
-
-// The diagonal of the adjugate of a baseline's weight matrix, and its determinant.
-pub struct Adjugate {
-    pub east: i64,
-    pub north: i64,
-    pub up: i64,
-    pub determinant: i64,
-}
-
-pub fn adjugate_of(b: Baseline) -> Adjugate
-    requires { ⌜ SmallWeights b ⌝ }
-    ensures { λ r. ⌜ (r .east ≡ adjugateE b) × (r .north ≡ adjugateN b) × (r .up ≡ adjugateU b) × (r .determinant ≡ determinant b) ⌝ }
-{
-    let determinant = determinant_of(b);
-    let east = minor(b.nn, b.uu, b.nu, b.nu);
-    let north = minor(b.ee, b.uu, b.eu, b.eu);
-    let up = minor(b.ee, b.nn, b.en, b.en);
-    Adjugate {
-        east,
-        north,
-        up,
-        determinant,
-    }
 }
 
 // The variance of an observed component, whose adjugate entry and determinant these are, over 2^30; rounded down.

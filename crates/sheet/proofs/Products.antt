@@ -7,13 +7,14 @@ use mir.Syntax.{w64}
 use mir.Val.{SFits}
 use mir.ValLaws.{toZ-ofZ}
 use Rattle.integers.specs.Division.{floorDiv}
+use Rattle.weights.specs.Quotients.{Quotient}
 use Rattle.network.specs.Records.{joins}
 use Rattle.lists.specs.Stored.{stored, back}
 use Rattle.network.specs.declared.Record.{Record}
 use Rattle.residuals.specs.Residuals.{S, observationVariance}
 use Rattle.residuals.specs.Verdicts.{verdictWord, localVerdict}
 use Rattle.residuals.specs.Components.{differenceIn}
-use Rattle.residuals.specs.Weights.{Quotient, Ends}
+use Rattle.residuals.specs.Weights.{Ends}
 use Rattle.sheet.specs.Lines.{verdictIn}
 
 -- a quotient of numbers that were stored

@@ -7,10 +7,12 @@ ghost use Prim.Native.Nat.{_+_, _<_, _≤_};
 ghost use lib.IntN.{pos};
 ghost use lib.ListN.{length};
 ghost use Rattle.integers.specs.Tables.{Within};
+ghost use Rattle.weights.specs.Quotients.{MatrixQuotients, Quotient};
 ghost use Rattle.network.specs.Records.{fromOf, toOf};
+ghost use Rattle.network.specs.Rules.{matrixOf};
 ghost use Rattle.residuals.specs.Components.{Lookup};
 ghost use Rattle.sheet.specs.Sheet.{wordsOf};
-ghost use Rattle.residuals.specs.Weights.{BaselineWeights, Quotient, RecordWeights, Ends};
+ghost use Rattle.residuals.specs.Weights.{RecordWeights, Ends};
 ghost use Rattle.sheet.specs.Lines.{stationWordsIn, recordWordsIn};
 ghost use Rattle.sheet.specs.Written.{written};
 
@@ -70,11 +72,11 @@ fn baseline_line(
     m: &[i64],
     n: usize,
 ) -> [i64; 7]
-    requires { ⌜ (p < 256) × Ends (Record.Baseline b) t f × BaselineWeights b × Within 3 300000 v × Lookup (now number) (now unknown) (now m) n ⌝ }
+    requires { ⌜ (p < 256) × Ends (Record.Baseline b) t f × MatrixQuotients (matrixOf b) × Within 3 300000 v × Lookup (now number) (now unknown) (now m) n ⌝ }
     ensures { λ r. ⌜ r ≡ recordWordsIn (now (number .entry)) (now (unknown .entry)) (now (m .entry)) n p (Record.Baseline b) v ⌝ }
 {
     let k = numbered(p);
-    let w = residuals::adjugate_of(b);
+    let w = weights::adjugate_of(network::matrix_of(b));
     let x = v[0];
     let y = v[1];
     let z = v[2];
@@ -118,7 +120,7 @@ fn put_baseline(
     m: &[i64],
     n: usize,
 ) -> usize
-    requires { ⌜ (at + 7 ≤ length (now sheet)) × (p < 256) × Ends (Record.Baseline b) t f × BaselineWeights b × Within 3 300000 v × Lookup (now number) (now unknown) (now m) n ⌝ }
+    requires { ⌜ (at + 7 ≤ length (now sheet)) × (p < 256) × Ends (Record.Baseline b) t f × MatrixQuotients (matrixOf b) × Within 3 300000 v × Lookup (now number) (now unknown) (now m) n ⌝ }
     ensures { λ r. ⌜ (r ≡ at + 7) × (now (sheet .exit) ≡ written (now (sheet .entry)) at (recordWordsIn (now (number .entry)) (now (unknown .entry)) (now (m .entry)) n p (Record.Baseline b) v)) ⌝ }
 {
     let line = baseline_line(p, b, v, t, f, number, unknown, m, n);

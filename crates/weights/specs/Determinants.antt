@@ -1,13 +1,13 @@
 -- The determinant of a matrix by the rules is at most 10,000 times each diagonal entry of its adjugate. Assumes nothing.
 use mathlib.Core.Path.{_≡_, subst}
-use mathlib.Core.List.{List, [], _∷_}
+use mathlib.Core.List.{[], _∷_}
 use lib.IntN.{ℤ, pos, _+ℤ_, _-ℤ_, _*ℤ_}
 use lib.Signed.{_≤ℤ_, _<ℤ_}
 use Rattle.integers.specs.Solvers.{ring, shapes, zle, lez, zlt, ltz}
 use Rattle.integers.specs.Order.{zarith, pos-abs, <ℤ→≤ℤ, +ℤ-mono, *ℤ-mono, *ℤ-nonneg, sq-nonneg, pos-mono}
 use Rattle.weights.specs.Rules.{adjugateE, adjugateN, adjugateU, determinant}
 use Rattle.weights.specs.Ranges.{Weight, WeightsRange}
-use Rattle.weights.specs.Positive.{PositiveMatrix, factor-positive}
+use Rattle.weights.specs.Positive.{PositiveMatrix, factor-positive, six}
 use Rattle.weights.specs.declared.WeightMatrix.{WeightMatrix}
 
 factor-nonneg : (m x : ℤ) → pos 0 <ℤ m → pos 0 ≤ℤ (m *ℤ x) → pos 0 ≤ℤ x
@@ -33,20 +33,17 @@ determinant-most v a m s z d g ha hm e =
     zle ρ (search shapes) (omega (zarith, lez ρ (search shapes) left, lez ρ (search shapes) high))
 
 module _ (w : WeightMatrix) (g : WeightsRange w) (m : PositiveMatrix w) where
-  abbrev entries : List ℤ
-  entries = w .ee ∷ w .en ∷ w .eu ∷ w .nn ∷ w .nu ∷ w .uu ∷ []
-
   pub determinant-E : determinant w ≤ℤ (pos 10000 *ℤ adjugateE w)
   determinant-E =
       determinant-most (w .ee) (adjugateE w) (w .nn) (w .nn *ℤ w .eu -ℤ w .nu *ℤ w .en) (w .en) (determinant w)
-      (g .ee) (m .positiveE) (weight-some (g .nn)) (ring entries (search shapes depth 20) tt)
+      (g .ee) (m .positiveE) (weight-some (g .nn)) (ring (six w) (search shapes depth 20) tt)
 
   pub determinant-N : determinant w ≤ℤ (pos 10000 *ℤ adjugateN w)
   determinant-N =
       determinant-most (w .nn) (adjugateN w) (w .ee) (w .ee *ℤ w .nu -ℤ w .eu *ℤ w .en) (w .en) (determinant w)
-      (g .nn) (m .positiveN) (weight-some (g .ee)) (ring entries (search shapes depth 20) tt)
+      (g .nn) (m .positiveN) (weight-some (g .ee)) (ring (six w) (search shapes depth 20) tt)
 
   pub determinant-U : determinant w ≤ℤ (pos 10000 *ℤ adjugateU w)
   determinant-U =
       determinant-most (w .uu) (adjugateU w) (w .ee) (w .ee *ℤ w .nu -ℤ w .en *ℤ w .eu) (w .eu) (determinant w)
-      (g .uu) (m .second) (weight-some (g .ee)) (ring entries (search shapes depth 20) tt)
+      (g .uu) (m .second) (weight-some (g .ee)) (ring (six w) (search shapes depth 20) tt)

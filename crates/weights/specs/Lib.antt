@@ -4,3 +4,4 @@ pub mod Ranges
 pub mod Positive
 pub mod Determinants
 pub mod Quotients
+pub mod Inverse

@@ -1,7 +1,7 @@
 -- An accepted weight matrix is positive definite: its leading minors and the diagonal of its adjugate are positive. Assumes nothing.
 use mathlib.Core.Path.{_≡_, sym, subst}
 use mathlib.Core.Bool.{true}
-use mathlib.Core.List.{[], _∷_}
+use mathlib.Core.List.{List, [], _∷_}
 use mathlib.Core.Logic.{⊎-elim}
 use lib.IntN.{ℤ, pos, _+ℤ_, _-ℤ_, _*ℤ_}
 use lib.Signed.{leZ, ltZ, _≤ℤ_, _<ℤ_, clashℤ}
@@ -52,12 +52,16 @@ cofactor-positive : (m x w d s : ℤ) → pos 0 <ℤ m → pos 0 <ℤ w → pos 
 cofactor-positive m x w d s hm hw hd e =
     factor-positive m x hm (subst (λ (z : ℤ). pos 0 <ℤ z) (sym e) (more-positive (w *ℤ d) (s *ℤ s) (product-positive w d hw hd) (sq-nonneg s)))
 
+-- the six weights, as the unknowns of identities
+abbrev pub six : WeightMatrix → List ℤ
+six w = w .ee ∷ w .en ∷ w .eu ∷ w .nn ∷ w .nu ∷ w .uu ∷ []
+
 -- the minors of the adjugate are the entries times the determinant
 minor-E : (w : WeightMatrix) → adjugateU w *ℤ adjugateE w ≡ w .nn *ℤ determinant w +ℤ (w .en *ℤ w .nu -ℤ w .nn *ℤ w .eu) *ℤ (w .en *ℤ w .nu -ℤ w .nn *ℤ w .eu)
-minor-E w = ring (w .ee ∷ w .en ∷ w .eu ∷ w .nn ∷ w .nu ∷ w .uu ∷ []) (search shapes depth 20) tt
+minor-E w = ring (six w) (search shapes depth 20) tt
 
 minor-N : (w : WeightMatrix) → adjugateU w *ℤ adjugateN w ≡ w .ee *ℤ determinant w +ℤ (w .ee *ℤ w .nu -ℤ w .en *ℤ w .eu) *ℤ (w .ee *ℤ w .nu -ℤ w .en *ℤ w .eu)
-minor-N w = ring (w .ee ∷ w .en ∷ w .eu ∷ w .nn ∷ w .nu ∷ w .uu ∷ []) (search shapes depth 20) tt
+minor-N w = ring (six w) (search shapes depth 20) tt
 
 -- ════ the rules
 pub positive-matrix : (w : WeightMatrix) → pos 0 <ℤ w .nn → matrixFits w ≡ true → PositiveMatrix w

@@ -1,11 +1,13 @@
 -- `network::rules::baseline_no` meets its contract. Assumes nothing.
 use borrow.Author.Needs.{needs}
 use borrow.Author.Tests.{not-true, not-false}
-use mathlib.Core.Path.{_≡_, sym, ap₂, _∙_}
+use mathlib.Core.Path.{_≡_, sym, ap, ap₂, _∙_, subst}
 use mathlib.Core.Bool.{true}
 use mir.Syntax.{w64}
 use mir.ValLaws.{toZ-ofZ}
-use Rattle.network.specs.Rules.{endsFit, baselineInRange, matrixFits, recordNoOver}
+use Rattle.weights.specs.Rules.{matrixFits}
+use Rattle.weights.specs.Ranges.{SmallWeights, small-weights}
+use Rattle.network.specs.Rules.{endsFit, matrixOf, baselineInRange, recordNoOver}
 use Rattle.network.specs.Ranges.{baseline-range}
 use Rattle.network.specs.RuleLaws.{baseline-observed}
 use Rattle.network.proofs.rules.baseline_no.Statement.{statement}
@@ -24,8 +26,11 @@ ends c = sym (ends-is (c .before)) ∙ not-false _ (c .if1 .left)
 range : (c : tie.Else2) → baselineInRange (c .before .before .before .before .before .before .args .b) ≡ true
 range c = sym (c .before .baseline-in-range .ensures) ∙ not-false _ (c .if2 .left)
 
-matrix : (c : tie.Else3) → matrixFits (c .before .before .before .before .before .before .before .before .args .b) ≡ true
-matrix c = sym (c .before .matrix-fits .ensures) ∙ not-false _ (c .if3 .left)
+matrix-is : (c : tie.After-matrix-fits) → c .matrix-fits .result ≡ matrixFits (matrixOf (c .before .before .before .before .before .before .before .before .args .b))
+matrix-is c = c .matrix-fits .ensures ∙ ap matrixFits (c .before .matrix-of .ensures)
+
+matrix : (c : tie.Else3) → matrixFits (matrixOf (c .before .before .before .before .before .before .before .before .before .args .b)) ≡ true
+matrix c = sym (matrix-is (c .before)) ∙ not-false _ (c .if3 .left)
 
 ends-fit-requires : tie.Need-ends-fit-requires
 ends-fit-requires c κs = search needs
@@ -41,25 +46,28 @@ returns-2 : tie.Need-returns-2
 unfolding recordNoOver
 returns-2 c = rw (ends (c .before .before), sym (c .before .baseline-in-range .ensures) ∙ not-true _ (c .if2 .taken))
 
+matrix-of-requires : tie.Need-matrix-of-requires
+matrix-of-requires c κs = search needs
+
 matrix-fits-requires : tie.Need-matrix-fits-requires
-matrix-fits-requires c κs = baseline-range _ (range c)
+matrix-fits-requires c κs = subst SmallWeights (sym (c .matrix-of .ensures)) (small-weights (baseline-range _ (range (c .before)) .weights))
 
 returns-3 : tie.Need-returns-3
 unfolding recordNoOver
-returns-3 c = rw (ends (c .before .before .before .before), range (c .before .before), sym (c .before .matrix-fits .ensures) ∙ not-true _ (c .if3 .taken))
+returns-3 c = rw (ends (c .before .before .before .before .before), range (c .before .before .before), sym (matrix-is (c .before)) ∙ not-true _ (c .if3 .taken))
 
 misclosure-fits-requires : tie.Need-misclosure-fits-requires
 misclosure-fits-requires c κs =
-    let s = c .before .before .before .before .before .before .before .before in
-    baseline-observed (s .args .count) (s .args .coordinate .now) (s .pre .0) (s .pre .1) (s .args .b) (ends (c .before .before .before .before)) (range (c .before .before))
+    let s = c .before .before .before .before .before .before .before .before .before in
+    baseline-observed (s .args .count) (s .args .coordinate .now) (s .pre .0) (s .pre .1) (s .args .b) (ends (c .before .before .before .before .before)) (range (c .before .before .before))
 
 returns-4 : tie.Need-returns-4
 unfolding recordNoOver
-returns-4 c = rw (ends (c .before .before .before .before .before .before), range (c .before .before .before .before), matrix (c .before .before), sym (c .before .misclosure-fits .ensures) ∙ not-true _ (c .if4 .taken))
+returns-4 c = rw (ends (c .before .before .before .before .before .before .before), range (c .before .before .before .before .before), matrix (c .before .before), sym (c .before .misclosure-fits .ensures) ∙ not-true _ (c .if4 .taken))
 
 returns-5 : tie.Need-returns-5
 unfolding recordNoOver
-returns-5 c = rw (ends (c .before .before .before .before .before .before), range (c .before .before .before .before), matrix (c .before .before), sym (c .before .misclosure-fits .ensures) ∙ not-false _ (c .if4 .left))
+returns-5 c = rw (ends (c .before .before .before .before .before .before .before), range (c .before .before .before .before .before), matrix (c .before .before), sym (c .before .misclosure-fits .ensures) ∙ not-false _ (c .if4 .left))
 
 pub baseline-no-spec : {M : Type 1} → statement M
 baseline-no-spec =
@@ -69,6 +77,7 @@ baseline-no-spec =
     returns
     baseline-in-range-requires
     returns-2
+    matrix-of-requires
     matrix-fits-requires
     returns-3
     misclosure-fits-requires

@@ -5,7 +5,8 @@ use mathlib.Core.Bool.{_&&_}
 use lib.IntN.{ℤ}
 use mir.Syntax.{w64}
 use mir.ValLaws.{toZ-ofZ}
-use Rattle.network.specs.Rules.{observedFits, weightFits, heightInRange}
+use Rattle.weights.specs.Rules.{weightFits}
+use Rattle.network.specs.Rules.{observedFits, heightInRange}
 use Rattle.network.proofs.rules.height_in_range.Statement.{statement}
 use Rattle.network.proofs.rules.height_in_range.Tie as tie
 

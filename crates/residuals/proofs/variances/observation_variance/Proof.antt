@@ -1,5 +1,3 @@
-use borrow.Author.Needs.{needs}
-use Prim.Native.Nat.{_≤_, _^_}
 use mathlib.Core.Path.{_≡_, sym, ap, _∙_, subst}
 use mathlib.Core.List.{[], _∷_}
 use lib.IntN.{ℤ, pos, natAbs, _*ℤ_}
@@ -9,8 +7,9 @@ use mir.Val.{SFits}
 use Rattle.integers.specs.Code.{fit, code-bounds, ringm, code-shapes}
 use Rattle.integers.specs.Division.{floorDiv}
 use Rattle.lists.specs.Stored.{stored, back, fits-by}
+use Rattle.weights.specs.Quotients.{Quotient, divisor-bits}
 use Rattle.residuals.specs.Residuals.{S}
-use Rattle.residuals.specs.Weights.{Quotient, divisor-bits, observation-size, quotient}
+use Rattle.residuals.specs.Weights.{observation-size, quotient}
 use Rattle.residuals.proofs.variances.observation_variance.Statement.{statement}
 use Rattle.residuals.proofs.variances.observation_variance.Tie as tie
 

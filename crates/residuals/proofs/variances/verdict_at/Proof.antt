@@ -13,7 +13,7 @@ use Rattle.lists.specs.Stored.{stored, back, kept}
 use Rattle.residuals.specs.Residuals.{S}
 use Rattle.residuals.specs.Verdicts.{verdictWord, localVerdict}
 use Rattle.residuals.specs.Components.{differenceIn, difference-size}
-use Rattle.residuals.specs.Weights.{Quotient, observation-size}
+use Rattle.residuals.specs.Weights.{observation-size}
 use Rattle.residuals.proofs.variances.verdict_at.Statement.{statement}
 use Rattle.residuals.proofs.variances.verdict_at.Tie as tie
 
