@@ -21,7 +21,8 @@ use Rattle.network.specs.declared.Place.{Place}
 use Rattle.network.specs.declared.Record.{Record}
 use Rattle.sheet.specs.Sheet.{room}
 use Rattle.words.specs.Concat.{concatBelow, concatBelow-front, concatBelow-ext}
-use Rattle.layout.specs.Layout.{stationPart, recordWords, bookIn, placesIn}
+use Rattle.network.specs.RecordWords.{recordWords}
+use Rattle.layout.specs.Layout.{stationPart, bookIn, placesIn}
 use Rattle.layout.specs.BookWords.{length-station, stations-part}
 use Rattle.layout.specs.Bytes.{wordsOf, bookOf, bytesFit}
 use Rattle.layout.specs.CodecLaws.{read-sized, fits-words, fits-sound}

@@ -32,7 +32,7 @@ use Rattle.distances.specs.DistanceLaws.{distance-least, distance-most}
 use Rattle.lent_checks.specs.LentDistances.{agreementWord, agreementLent}
 use Rattle.lent_checks.specs.LentChecks.{answerWord, checkedLent, sheetFits, onAccepted}
 use Rattle.lent_checks.specs.Offers.{Offers, OffersLent, lentLengths}
-use Rattle.layout.specs.Layout.{recordWords}
+use Rattle.network.specs.RecordWords.{recordWords}
 use Rattle.layout.specs.Bytes.{bookOf, bytesFit}
 use Rattle.dombrelat.specs.Calls.{Returned, refused, settled, through, edit, opens}
 use Rattle.dombrelat.specs.CheckCalls.{Judged, judgedLent, checkCall, sheetCall, distanceCall}

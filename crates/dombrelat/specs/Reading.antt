@@ -14,7 +14,7 @@ use Rattle.network.specs.declared.Network.{Network}
 use Rattle.book.specs.Calls.{placeOf}
 use Rattle.sheet.specs.Sheet.{room}
 use Rattle.words.specs.Concat.{concatBelow}
-use Rattle.layout.specs.Layout.{recordWords}
+use Rattle.network.specs.RecordWords.{recordWords}
 use Rattle.layout.specs.Bytes.{bookOf, bytesFit}
 use Rattle.dombrelat.specs.Calls.{Returned, refused}
 

@@ -39,8 +39,10 @@ use Rattle.book.specs.Calls.{Call, add, replace, strike, placeOf, placeNo, call
 use Rattle.book.specs.CallLaws.{first-zero, place-inside}
 use Rattle.book.specs.Book.{openedBook, opening, edited, bookAccepts}
 use Rattle.words.specs.Concat.{length-concatBelow, concatBelow-at}
-use Rattle.layout.specs.Layout.{stationPart, recordWords}
-use Rattle.layout.specs.BookWords.{length-record, station-word}
+use Rattle.network.specs.RecordWords.{recordWords}
+use Rattle.layout.specs.Layout.{stationPart}
+use Rattle.network.specs.RecordWordLaws.{length-record}
+use Rattle.layout.specs.BookWords.{station-word}
 use Rattle.layout.specs.WordSizes.{words-fit}
 use Rattle.layout.specs.ReadBack.{station-back}
 use Rattle.layout.specs.Bytes.{bookOf, putBook, bytesFit}

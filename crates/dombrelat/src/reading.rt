@@ -93,6 +93,6 @@ pub extern "C" fn dombrelat_record(book: &[u8], place: i64, out: &mut [u8]) -> i
         return 2;
     }
     let r = layout::record_in(book, i);
-    let w = layout::record_words(r);
+    let w = network::record_words(r);
     give(0, &w, out)
 }

@@ -3,27 +3,26 @@ use Prim.Native.Nat.{ℕ, zero, suc, _+_, _*_, _<_, _≤_}
 use mathlib.Core.Path.{_≡_, refl, sym, ap, ap₂, _∙_}
 use mathlib.Core.Bool.{Bool, cond}
 use mathlib.Core.List.{List, [], _∷_}
-use native.Mathlib.Nat.{add-zero}
 use native.Mathlib.Omega.{arith}
 use native.Mathlib.Numerals.{add-one}
 use lib.Dec.{ltb}
 use lib.ListN.{length, getD, take, drop}
 use lib.Seq.{getD-take, getD-drop}
 use lib.IntN.{ℤ, pos}
-use Rattle.words.specs.Signed.{indexIn, eqZ}
+use Rattle.words.specs.Signed.{eqZ}
 use Rattle.words.specs.Words.{wordAt}
 use Rattle.words.specs.Runs.{wordsAt, putWords}
 use Rattle.words.specs.RunLaws.{length-words, words-at}
 use Rattle.lists.specs.All.{allBelow}
 use Rattle.network.specs.Stations.{stationAt}
 use Rattle.network.specs.declared.Network.{Network}
-use Rattle.network.specs.RecordWords.{recordOf, recordIn}
+use Rattle.network.specs.RecordWords.{recordIn, recordWords}
 use Rattle.network.specs.declared.Record.{Record}
-use Rattle.network.specs.declared.Record.the-variants.{Baseline as baseline, Height as height}
 use Rattle.lists.specs.Same.{sameEntries}
 use Rattle.words.specs.Concat.{concatBelow, concatBelow-more, length-concatBelow}
 use Rattle.network.specs.StationWords.{stationWords}
-use Rattle.layout.specs.Layout.{stationPart, recordWords, networkIn, bookIn}
+use Rattle.network.specs.RecordWordLaws.{record-moved}
+use Rattle.layout.specs.Layout.{stationPart, networkIn, bookIn}
 use Rattle.layout.specs.Laid.{recordLaid, stationLaid}
 use Rattle.layout.specs.Bytes.{wordsOf, bookOf}
 use Rattle.layout.specs.RunPatches.{run-append}
@@ -35,33 +34,6 @@ all-same : (n : ℕ) (p q : ℕ → Bool) → ((j : ℕ) → j < n → p j ≡ q
 unfolding allBelow
 all-same zero p q e = refl
 all-same (suc n) p q e = cc (all-same n p q (λ j l. e j (omega arith)), e n (omega arith))
-
--- words that agree give one record
-record-moved : (w v : List ℤ) (at to : ℕ) → ((j : ℕ) → j < 14 → getD w (at + j) (pos 0) ≡ getD v (to + j) (pos 0)) → recordIn w at ≡ recordIn v to
-unfolding recordOf
-record-moved w v at to h =
-    let kind : getD w at (pos 0) ≡ getD v to (pos 0) =
-    ap (λ (k : ℕ). getD w k (pos 0)) (sym (add-zero at)) ∙ h 0 (omega arith) ∙ ap (λ (k : ℕ). getD v k (pos 0)) (add-zero to) in
-    ap (λ (z : ℤ). recordOf (indexIn z 2) w at) kind ∙ go (indexIn (getD v to (pos 0)) 2)
-  where
-    go : (k : ℕ) → recordOf k w at ≡ recordOf k v to
-    go zero =
-        λ i. baseline
-        (record {
-          from = h 1 (omega arith) i;
-          to = h 2 (omega arith) i;
-          east = h 3 (omega arith) i;
-          north = h 4 (omega arith) i;
-          up = h 5 (omega arith) i;
-          ee = h 6 (omega arith) i;
-          en = h 7 (omega arith) i;
-          eu = h 8 (omega arith) i;
-          nn = h 9 (omega arith) i;
-          nu = h 10 (omega arith) i;
-          uu = h 11 (omega arith) i;
-        })
-    go (suc zero) = λ i. height (record { from = h 1 (omega arith) i; to = h 2 (omega arith) i; up = h 5 (omega arith) i; weight = h 11 (omega arith) i })
-    go (suc (suc k)) = refl
 
 -- the 14 words from word k on
 module _ (s : List ℕ) (k : ℕ) (h : k + 14 ≤ 7028) where

@@ -16,8 +16,10 @@ use Rattle.book.specs.declared.Book.{Book}
 use Rattle.book.specs.Journal.{free}
 use Rattle.book.specs.Sound.{Sized}
 use Rattle.words.specs.Concat.{concatBelow, length-concatBelow, concatBelow-ext}
-use Rattle.layout.specs.Layout.{recordWords, reversalWords, countsPart, entriesPart}
-use Rattle.layout.specs.BookWords.{length-record, length-reversal, tail, toStations, toPlaces, toCounts, toEntries, length-toStations, length-toPlaces, length-toCounts, length-toEntries, at-places, at-counts, at-entries, at-matrix, at-right, length-book}
+use Rattle.network.specs.RecordWords.{recordWords}
+use Rattle.layout.specs.Layout.{reversalWords, countsPart, entriesPart}
+use Rattle.network.specs.RecordWordLaws.{length-record}
+use Rattle.layout.specs.BookWords.{length-reversal, tail, toStations, toPlaces, toCounts, toEntries, length-toStations, length-toPlaces, length-toCounts, length-toEntries, at-places, at-counts, at-entries, at-matrix, at-right, length-book}
 use Rattle.layout.specs.Bytes.{putBook}
 use Rattle.layout.specs.RunPatches.{patch}
 

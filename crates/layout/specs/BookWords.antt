@@ -12,23 +12,17 @@ use Rattle.words.specs.Signed.{signed}
 use Rattle.network.specs.Stations.{stationAt}
 use Rattle.network.specs.Records.{recordAt}
 use Rattle.network.specs.declared.Network.{Network}
-use Rattle.network.specs.declared.Record.{Record}
-use Rattle.network.specs.declared.Record.the-variants.{Empty, Baseline as baseline, Height as height}
 use Rattle.book.specs.declared.Reversal.{Reversal}
 use Rattle.book.specs.declared.Book.{Book}
 use Rattle.book.specs.Journal.{free}
 use Rattle.book.specs.Sound.{Sized}
 use Rattle.words.specs.Concat.{length-concatBelow, inside}
 use Rattle.network.specs.StationWords.{stationWords}
-use Rattle.layout.specs.Layout.{stationPart, recordWords, reversalWords, headWords, stationsPart, placesPart, countsPart, entriesPart, bookWords}
+use Rattle.network.specs.RecordWords.{recordWords}
+use Rattle.network.specs.RecordWordLaws.{length-record}
+use Rattle.layout.specs.Layout.{stationPart, reversalWords, headWords, stationsPart, placesPart, countsPart, entriesPart, bookWords}
 
 -- ════ lengths
-pub length-record : (r : Record) → length (recordWords r) ≡ 14
-unfolding recordWords
-length-record Empty = refl
-length-record (baseline b) = refl
-length-record (height h) = refl
-
 pub length-reversal : (u : Reversal) → length (reversalWords u) ≡ 15
 unfolding reversalWords
 length-reversal u = ap suc (length-record (u .prior))

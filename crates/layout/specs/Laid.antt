@@ -1,8 +1,8 @@
 -- The layout test, part by part: words are those that writing the book read from them gives exactly where the first is the layout's number and the words of each
 -- station and record are. Counters, N and u are read and written as they stand. Assumes nothing.
 use Prim.Native.Nat.{ℕ, suc, _+_, _-_, _*_, _/_, _%_, _<_}
-use mathlib.Core.Path.{_≡_, refl, sym, ap, _∙_, subst}
-use mathlib.Core.Bool.{Bool, true, false, _&&_}
+use mathlib.Core.Path.{_≡_, sym, ap, _∙_, subst}
+use mathlib.Core.Bool.{Bool, true, _&&_}
 use mathlib.Core.List.{List}
 use native.Mathlib.Decide.{decLt}
 use native.Mathlib.Omega.{arith}
@@ -17,14 +17,14 @@ use Rattle.words.specs.Signed.{signed, unsigned, eqZ}
 use Rattle.words.specs.SignedLaws.{eqZ-true, eq-eqZ, signed-unsigned}
 use Rattle.lists.specs.All.{allBelow, all-at, all-by}
 use Rattle.network.specs.Records.{vacant, recordAt}
-use Rattle.network.specs.RecordWords.{recordIn}
+use Rattle.network.specs.RecordWords.{recordIn, recordWords}
 use Rattle.network.specs.declared.Place.{Place}
 use Rattle.network.specs.declared.Record.{Record}
 use Rattle.lists.specs.Same.{sameEntries}
 use Rattle.book.specs.declared.Reversal.{Reversal}
 use Rattle.book.specs.Journal.{free}
 use Rattle.book.specs.Sound.{Sized}
-use Rattle.layout.specs.Layout.{stationPart, recordWords, reversalWords, bookWords, reversalIn, networkIn, placeIn, bookIn}
+use Rattle.layout.specs.Layout.{stationPart, reversalWords, bookWords, reversalIn, networkIn, placeIn, bookIn}
 use Rattle.layout.specs.BookWords.{head-word, count-word, station-word, place-word, next-word, held-word, slot-word, matrix-word, right-word}
 
 -- the 14 words from index k on are those of the record that they give

@@ -10,11 +10,9 @@ use Rattle.words.specs.Signed.{signed, unsigned}
 use Rattle.network.specs.Stations.{stationAt, stationIn}
 use Rattle.network.specs.StationWords.{stationWords}
 use Rattle.network.specs.Records.{recordAt}
-use Rattle.network.specs.RecordWords.{recordIn}
+use Rattle.network.specs.RecordWords.{recordWords, recordIn}
 use Rattle.network.specs.declared.Network.{Network}
 use Rattle.network.specs.declared.Place.{Place}
-use Rattle.network.specs.declared.Record.{Record}
-use Rattle.network.specs.declared.Record.the-variants.{Empty, Baseline as baseline, Height as height}
 use Rattle.normals.specs.declared.Normals.{Normals}
 use Rattle.book.specs.declared.Reversal.{Reversal}
 use Rattle.book.specs.declared.Journal.{Journal}
@@ -26,16 +24,6 @@ use Rattle.words.specs.Concat.{concatBelow}
 -- four words a station, of the station s of the list, counted from 0; all 0 beyond the count
 unfoldable pub stationPart : Network → ℕ → List ℤ
 stationPart net s = cond (ltb s (net .count)) (stationWords (stationAt (net .stations) s)) (pos 0 ∷ pos 0 ∷ pos 0 ∷ pos 0 ∷ [])
-
--- 14 words a record: kind (0 empty, 1 baseline, 2 height difference), from, to, observed E, N, U, weights EE, EN, EU, NN, NU, UU, and two that are 0.
--- What a record does not use is 0
-unfoldable pub recordWords : Record → List ℤ
-recordWords Empty =
-    pos 0 ∷ pos 0 ∷ pos 0 ∷ pos 0 ∷ pos 0 ∷ pos 0 ∷ pos 0 ∷ pos 0 ∷ pos 0 ∷ pos 0 ∷ pos 0 ∷ pos 0 ∷ pos 0 ∷ pos 0 ∷ []
-recordWords (baseline b) =
-    pos 1 ∷ b .from ∷ b .to ∷ b .east ∷ b .north ∷ b .up ∷ b .ee ∷ b .en ∷ b .eu ∷ b .nn ∷ b .nu ∷ b .uu ∷ pos 0 ∷ pos 0 ∷ []
-recordWords (height h) =
-    pos 2 ∷ h .from ∷ h .to ∷ pos 0 ∷ pos 0 ∷ h .up ∷ pos 0 ∷ pos 0 ∷ pos 0 ∷ pos 0 ∷ pos 0 ∷ h .weight ∷ pos 0 ∷ pos 0 ∷ []
 
 -- 15 words a reversal: the place counted from 0, and the record to restore
 unfoldable pub reversalWords : Reversal → List ℤ

@@ -18,7 +18,7 @@ use Rattle.words.specs.SignedLaws.{eqZ-true, unsigned-signed}
 use Rattle.lists.specs.All.{all-at}
 use Rattle.network.specs.Stations.{blank, stationAt, kindAt, kindOf, stationIn, countFits, coordinatesFit, unknownsFit, isKnown, isBlank, blankBeyond, networkFits}
 use Rattle.network.specs.Records.{vacant, recordAt}
-use Rattle.network.specs.RecordWords.{recordOf, recordIn}
+use Rattle.network.specs.RecordWords.{recordIn}
 use Rattle.network.specs.Rules.{isEmpty, recordFits}
 use Rattle.network.specs.RuleLaws.{network-few, empty-is, fits-empty}
 use Rattle.network.specs.declared.Kind.{Kind}
@@ -26,7 +26,6 @@ use Rattle.network.specs.declared.Kind.the-variants.{Known, Free, Height}
 use Rattle.network.specs.declared.Station.{Station}
 use Rattle.network.specs.declared.Network.{Network}
 use Rattle.network.specs.declared.Record.{Record}
-use Rattle.network.specs.declared.Record.the-variants.{Empty, Baseline as baseline, Height as height}
 use Rattle.normals.specs.declared.Normals.{Normals}
 use Rattle.book.specs.declared.Reversal.{Reversal}
 use Rattle.book.specs.declared.Book.{Book}
@@ -36,36 +35,10 @@ use Rattle.book.specs.Sound.{Sized, Sound, Undoes, undoable-first}
 use Rattle.words.specs.Concat.{concatBelow-at}
 use Rattle.layout.specs.BookWords.{length-station, toEntries, length-toEntries, length-toMatrix, at-matrix, at-right, place-word, next-word, held-word, slot-word, stations-part}
 use Rattle.network.specs.StationWords.{stationWords, kind-back}
-use Rattle.layout.specs.Layout.{stationPart, recordWords, reversalWords, stationsPart, bookWords, reversalIn, networkIn, placeIn, placesIn, entriesIn, journalIn, normalsIn, bookIn}
+use Rattle.network.specs.RecordWordLaws.{record-back}
+use Rattle.layout.specs.Layout.{stationPart, reversalWords, stationsPart, bookWords, reversalIn, networkIn, placeIn, placesIn, entriesIn, journalIn, normalsIn, bookIn}
 
--- ════ a record
-pub record-back : (w : List ℤ) (at : ℕ) (r : Record) → ((j : ℕ) → j < 14 → getD w (at + j) (pos 0) ≡ getD (recordWords r) j (pos 0)) → recordIn w at ≡ r
-unfolding recordOf recordWords indexIn
-record-back w at Empty h =
-    let kind : getD w at (pos 0) ≡ pos 0 = ap (λ (k : ℕ). getD w k (pos 0)) (sym (add-zero at)) ∙ h 0 (omega arith) in
-    ap (λ (z : ℤ). recordOf (indexIn z 2) w at) kind
-record-back w at (baseline b) h =
-    let kind : getD w at (pos 0) ≡ pos 1 = ap (λ (k : ℕ). getD w k (pos 0)) (sym (add-zero at)) ∙ h 0 (omega arith) in
-    ap (λ (z : ℤ). recordOf (indexIn z 2) w at) kind
-    ∙ (λ i. baseline
-    (record {
-      from = h 1 (omega arith) i;
-      to = h 2 (omega arith) i;
-      east = h 3 (omega arith) i;
-      north = h 4 (omega arith) i;
-      up = h 5 (omega arith) i;
-      ee = h 6 (omega arith) i;
-      en = h 7 (omega arith) i;
-      eu = h 8 (omega arith) i;
-      nn = h 9 (omega arith) i;
-      nu = h 10 (omega arith) i;
-      uu = h 11 (omega arith) i;
-    }))
-record-back w at (height r) h =
-    let kind : getD w at (pos 0) ≡ pos 2 = ap (λ (k : ℕ). getD w k (pos 0)) (sym (add-zero at)) ∙ h 0 (omega arith) in
-    ap (λ (z : ℤ). recordOf (indexIn z 2) w at) kind
-    ∙ (λ i. height (record { from = h 1 (omega arith) i; to = h 2 (omega arith) i; up = h 5 (omega arith) i; weight = h 11 (omega arith) i }))
-
+-- ════ a reversal
 reversal-back : (w : List ℤ) (at : ℕ) (u : Reversal) → ((j : ℕ) → j < 15 → getD w (at + j) (pos 0) ≡ getD (reversalWords u) j (pos 0)) → u .place < 2 ^ 64 → reversalIn w at ≡ u
 unfolding reversalWords
 reversal-back w at u h small =

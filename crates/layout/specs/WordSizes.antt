@@ -36,7 +36,8 @@ use Rattle.book.specs.Journal.{free}
 use Rattle.book.specs.Sound.{Sound}
 use Rattle.words.specs.Concat.{concatBelow}
 use Rattle.network.specs.StationWords.{kindWord, stationWords}
-use Rattle.layout.specs.Layout.{stationPart, recordWords, reversalWords, stationsPart, placesPart, countsPart, entriesPart, bookWords}
+use Rattle.network.specs.RecordWords.{recordWords}
+use Rattle.layout.specs.Layout.{stationPart, reversalWords, stationsPart, placesPart, countsPart, entriesPart, bookWords}
 use Rattle.layout.specs.ReadBack.{Restores, entry-restores}
 
 -- the largest of the limits: that of u

@@ -1,6 +1,5 @@
 // What 25 tests of bytes: the layout, part by part, and then the book's rules.
 use super::reading;
-use super::records::record_words;
 use super::writing::station_part;
 use normals::Normals;
 ghost use mathlib.Core.Path.{_≡_};
@@ -16,7 +15,7 @@ fn record_laid(s: &[u8], k: usize) -> bool
 {
     let w = reading::record_at(s, k);
     let r = network::record_in(&w, 0);
-    let v = record_words(r);
+    let v = network::record_words(r);
     lists::same_entries(&w, &v)
 }
 

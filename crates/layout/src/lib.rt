@@ -1,10 +1,9 @@
 // The layout of a book in bytes: the only crate that knows it (docs/BOOK.md).
 //
-// `records` has a record's words, `reading` the book that bytes hold, `laid` the test of the layout, `writing` a book's words put into bytes, `patching` one edit in place.
+// `reading` has the book that bytes hold, `laid` the test of the layout, `writing` a book's words put into bytes, `patching` one edit in place.
 mod laid;
 mod patching;
 mod reading;
-mod records;
 mod writing;
 
 pub use laid::fits;
@@ -17,7 +16,6 @@ pub use reading::places_in;
 pub use reading::record_in;
 pub use reading::slot_in;
 pub use reading::stations_at;
-pub use records::record_words;
 pub use writing::write_book;
 
 // The bytes of a book: 7,028 words.

@@ -1,12 +1,10 @@
 // The words of a book put into bytes: each function puts one part where it stands.
-use super::records::record_words;
 use book::Book;
 use book::Reversal;
 use network::Network;
 use network::Place;
 use network::Record;
 use network::Station;
-use normals::Normals;
 ghost use mathlib.Core.Path.{_≡_};
 ghost use mathlib.Core.Bool.{cond};
 ghost use mathlib.Core.List.{[], _∷_};
@@ -17,10 +15,11 @@ ghost use lib.ListN.{length, getD};
 ghost use Rattle.words.specs.Signed.{signed};
 ghost use Rattle.words.specs.Runs.{putWords};
 ghost use Rattle.network.specs.Records.{recordAt};
+ghost use Rattle.network.specs.RecordWords.{recordWords};
 ghost use Rattle.book.specs.Journal.{free};
 ghost use Rattle.words.specs.Concat.{concatBelow};
 ghost use Rattle.network.specs.StationWords.{stationWords};
-ghost use Rattle.layout.specs.Layout.{stationPart, recordWords, reversalWords};
+ghost use Rattle.layout.specs.Layout.{stationPart, reversalWords};
 ghost use Rattle.layout.specs.Bytes.{putBook};
 
 // The words of station k, which is x, of a list of `count`: 0 beyond it.
@@ -53,7 +52,7 @@ pub fn put_record(s: &mut [u8], k: usize, r: Record)
     requires { ⌜ (56224 ≤ length (now s)) × (k + 14 ≤ 7028) ⌝ }
     ensures { λ _. ⌜ now (s .exit) ≡ putWords (now (s .entry)) (8 * k) (recordWords r) ⌝ }
 {
-    let v = record_words(r);
+    let v = network::record_words(r);
     words::write_words(s, 8 * k, &v);
 }
 

@@ -6,6 +6,7 @@ pub mod OpeningLaws
 pub mod Records
 pub mod RecordLaws
 pub mod RecordWords
+pub mod RecordWordLaws
 pub mod StationWords
 pub mod Rules
 pub mod Ranges

@@ -1,13 +1,27 @@
--- A record in words: kind (1 baseline, 2 height difference, any other: Empty), from, to, observed E, N, U, weights EE, EN, EU, NN, NU, UU. A height
--- difference has the U and UU words; words that a record does not use are not looked at. Assumes nothing.
+-- A record in 14 words, both ways: kind (0 empty, 1 baseline, 2 height difference), from, to, observed E, N, U, weights EE, EN, EU, NN, NU, UU, and two that
+-- are 0. A height difference has the U and UU words. Assumes nothing.
 use Prim.Native.Nat.{ℕ, zero, suc, _+_}
-use mathlib.Core.List.{List}
+use mathlib.Core.List.{List, [], _∷_}
 use lib.ListN.{getD}
 use lib.IntN.{ℤ, pos}
 use Rattle.words.specs.Signed.{indexIn}
 use Rattle.network.specs.declared.Record.{Record}
 use Rattle.network.specs.declared.Record.the-variants.{Empty, Baseline as baseline, Height as height}
 
+-- the words of a record
+abbrev pub recordLength : ℕ
+recordLength = 14
+
+-- what a record does not use is 0
+unfoldable pub recordWords : Record → List ℤ
+recordWords Empty =
+    pos 0 ∷ pos 0 ∷ pos 0 ∷ pos 0 ∷ pos 0 ∷ pos 0 ∷ pos 0 ∷ pos 0 ∷ pos 0 ∷ pos 0 ∷ pos 0 ∷ pos 0 ∷ pos 0 ∷ pos 0 ∷ []
+recordWords (baseline b) =
+    pos 1 ∷ b .from ∷ b .to ∷ b .east ∷ b .north ∷ b .up ∷ b .ee ∷ b .en ∷ b .eu ∷ b .nn ∷ b .nu ∷ b .uu ∷ pos 0 ∷ pos 0 ∷ []
+recordWords (height h) =
+    pos 2 ∷ h .from ∷ h .to ∷ pos 0 ∷ pos 0 ∷ h .up ∷ pos 0 ∷ pos 0 ∷ pos 0 ∷ pos 0 ∷ pos 0 ∷ h .weight ∷ pos 0 ∷ pos 0 ∷ []
+
+-- the record of kind k + 1 whose first word is at index at; words that it does not use are not looked at
 unfoldable pub recordOf : ℕ → List ℤ → ℕ → Record
 recordOf zero w at =
     baseline
@@ -28,6 +42,6 @@ recordOf (suc zero) w at =
     height (record { from = getD w (at + 1) (pos 0); to = getD w (at + 2) (pos 0); up = getD w (at + 5) (pos 0); weight = getD w (at + 11) (pos 0) })
 recordOf (suc (suc k)) w at = Empty
 
--- the record whose first word is at index at
+-- the record whose first word is at index at: Empty where the kind is neither 1 nor 2
 abbrev pub recordIn : List ℤ → ℕ → Record
 recordIn w at = recordOf (indexIn (getD w at (pos 0)) 2) w at

@@ -2,7 +2,7 @@
 
 mod as_words;
 mod opening;
-mod record_words;
+mod record_codec;
 mod records;
 mod rules;
 mod stations;
@@ -15,7 +15,8 @@ pub use opening::network_fits;
 pub use opening::network_of;
 pub use opening::open_no;
 pub use opening::opens;
-pub use record_words::record_in;
+pub use record_codec::record_in;
+pub use record_codec::record_words;
 pub use records::from_of;
 pub use records::joins_of;
 pub use records::misclosures_of;

@@ -6,8 +6,8 @@ use lib.ListN.{length}
 use Rattle.words.specs.Runs.{putWords}
 use Rattle.words.specs.Concat.{concatBelow}
 use Rattle.network.specs.Records.{recordAt}
-use Rattle.layout.specs.Layout.{recordWords}
-use Rattle.layout.specs.BookWords.{length-record}
+use Rattle.network.specs.RecordWords.{recordWords}
+use Rattle.network.specs.RecordWordLaws.{length-record}
 use Rattle.layout.proofs.Parts.{parts-none, parts-more}
 use borrow.Author.Needs.{needs}
 use Rattle.layout.proofs.writing.put_places.Statement.{statement}

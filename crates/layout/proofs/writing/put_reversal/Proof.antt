@@ -7,7 +7,8 @@ use mir.Syntax.{w64}
 use mir.Facts.{toZ-ofZ}
 use Rattle.words.specs.Words.{putWord}
 use Rattle.words.specs.Runs.{putWords}
-use Rattle.layout.specs.Layout.{recordWords, reversalWords}
+use Rattle.network.specs.RecordWords.{recordWords}
+use Rattle.layout.specs.Layout.{reversalWords}
 use borrow.Author.Needs.{needs, sfits-of}
 use Rattle.layout.proofs.writing.put_reversal.Statement.{statement}
 use Rattle.layout.proofs.writing.put_reversal.Tie as tie

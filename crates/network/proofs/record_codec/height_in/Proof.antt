@@ -7,10 +7,10 @@ use lib.ListN.{getD}
 use denote.Ref.{now}
 use Rattle.network.specs.declared.Record.the-variants.{Height as height}
 use Rattle.network.specs.RecordWords.{recordOf}
-use Rattle.network.proofs.record_words.height_in.Statement.{statement}
-use Rattle.network.proofs.record_words.height_in.Tie as tie
-use Rattle.network.proofs.record_words.height_in.Reads as reads
-use Rattle.network.proofs.record_words.height_in.Lts as lts
+use Rattle.network.proofs.record_codec.height_in.Statement.{statement}
+use Rattle.network.proofs.record_codec.height_in.Tie as tie
+use Rattle.network.proofs.record_codec.height_in.Reads as reads
+use Rattle.network.proofs.record_codec.height_in.Lts as lts
 
 add-from : tie.Need-add-from
 add-from c = search needs

@@ -1,11 +1,11 @@
-use Rattle.layout.specs.Layout.{recordWords}
+use Rattle.network.specs.RecordWords.{recordWords}
 use mathlib.Core.List.{[], _∷_}
 use lib.IntN.{pos}
 use mir.Syntax.{w64}
 use mir.Facts.{toZ-ofZ}
 use borrow.Author.Needs.{needs}
-use Rattle.layout.proofs.records.baseline_words.Statement.{statement}
-use Rattle.layout.proofs.records.baseline_words.Tie as tie
+use Rattle.network.proofs.record_codec.baseline_words.Statement.{statement}
+use Rattle.network.proofs.record_codec.baseline_words.Tie as tie
 
 returns : tie.Need-returns
 unfolding recordWords

@@ -1,8 +1,8 @@
 use mathlib.Core.Path.{sym, ap}
-use Rattle.layout.specs.Layout.{recordWords}
+use Rattle.network.specs.RecordWords.{recordWords}
 use borrow.Author.Needs.{needs}
-use Rattle.layout.proofs.records.record_words.Statement.{statement}
-use Rattle.layout.proofs.records.record_words.Tie as tie
+use Rattle.network.proofs.record_codec.record_words.Statement.{statement}
+use Rattle.network.proofs.record_codec.record_words.Tie as tie
 
 enum-told : tie.Need-enum-told
 enum-told c = search needs

@@ -9,12 +9,12 @@ use denote.Ref.{now}
 use Rattle.words.specs.Signed.{indexIn}
 use Rattle.network.specs.RecordWords.{recordOf}
 use Rattle.network.proofs.RecordKinds.{other-record}
-use Rattle.network.proofs.record_words.record_in.Statement.{statement}
-use Rattle.network.proofs.record_words.record_in.Tie as tie
-use Rattle.network.proofs.record_words.record_in.Reads as reads
-use Rattle.network.proofs.record_words.record_in.Lts as lts
-use Rattle.network.proofs.record_words.baseline_in.Reads as baseline-in-reads
-use Rattle.network.proofs.record_words.height_in.Reads as height-in-reads
+use Rattle.network.proofs.record_codec.record_in.Statement.{statement}
+use Rattle.network.proofs.record_codec.record_in.Tie as tie
+use Rattle.network.proofs.record_codec.record_in.Reads as reads
+use Rattle.network.proofs.record_codec.record_in.Lts as lts
+use Rattle.network.proofs.record_codec.baseline_in.Reads as baseline-in-reads
+use Rattle.network.proofs.record_codec.height_in.Reads as height-in-reads
 use Rattle.words.proofs.index_in.Reads as index-in-reads
 
 mul-index-in : tie.Need-mul-index-in

@@ -1,11 +1,18 @@
-// A record in 12 words: kind (1 baseline, 2 height difference, any other: Empty), from, to, observed E, N, U, weights EE, EN, EU, NN, NU, UU.
+// A record in 14 words: kind (0 empty, 1 baseline, 2 height difference), from, to, observed E, N, U, weights EE, EN, EU, NN, NU, UU, and two that are 0.
+// The first 12 give the record: words of any other kind are read as Empty, and the last two are not looked at.
 use super::Baseline;
 use super::Level;
 use super::Record;
 ghost use mathlib.Core.Path.{_≡_};
 ghost use Prim.Native.Nat.{_+_, _≤_};
 ghost use lib.ListN.{length};
-ghost use Rattle.network.specs.RecordWords.{recordOf, recordIn};
+ghost use Rattle.network.specs.RecordWords.{recordOf, recordIn, recordWords};
+ghost use Rattle.network.specs.declared.Record.the-variants.{Baseline as baseline, Height as height};
+
+impl Record {
+    // The words of a record.
+    pub const WORDS: usize = 14;
+}
 
 fn baseline_in(w: &[i64], at: usize) -> Record
     requires { ⌜ at + 12 ≤ length (now w) ⌝ }
@@ -68,4 +75,41 @@ pub fn record_in(w: &[i64], at: usize) -> Record
         return r;
     }
     Record::Empty
+}
+
+fn baseline_words(b: Baseline) -> [i64; Record::WORDS]
+    ensures { λ w. ⌜ w ≡ recordWords (baseline b) ⌝ }
+{
+    [
+        1,
+        b.from,
+        b.to,
+        b.east,
+        b.north,
+        b.up,
+        b.ee,
+        b.en,
+        b.eu,
+        b.nn,
+        b.nu,
+        b.uu,
+        0,
+        0,
+    ]
+}
+
+fn height_words(h: Level) -> [i64; Record::WORDS]
+    ensures { λ w. ⌜ w ≡ recordWords (height h) ⌝ }
+{
+    [2, h.from, h.to, 0, 0, h.up, 0, 0, 0, 0, 0, h.weight, 0, 0]
+}
+
+pub fn record_words(r: Record) -> [i64; Record::WORDS]
+    ensures { λ w. ⌜ w ≡ recordWords r ⌝ }
+{
+    match r {
+        Record::Empty => [0; Record::WORDS],
+        Record::Baseline(b) => baseline_words(b),
+        Record::Height(h) => height_words(h),
+    }
 }
