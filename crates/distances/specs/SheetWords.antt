@@ -7,7 +7,7 @@ use native.Mathlib.Omega.{arith}
 use lib.ListN.{length, getD, drop, List·getD-append}
 use lib.IntN.{ℤ, pos}
 use Rattle.words.specs.Signed.{indexIn}
-use Rattle.words.specs.Concat.{concatBelow, inside}
+use Rattle.words.specs.Concat.{concatBelow, concatBelow-between}
 use Rattle.network.specs.Stations.{unknownCount}
 use Rattle.network.specs.Rules.{inList, endsFit}
 use Rattle.network.specs.RuleLaws.{network-few, in-list, ends}
@@ -52,7 +52,7 @@ module _ (net : Network) (places : List Place) (x m : List ℤ) where
   unfolding sheetWords
   sheet-coordinate s c h l =
       ap (λ (w : List ℤ). getD w (coordinateWord s c) (pos 0)) parted
-      ∙ inside H (R ++ G) 7 (net .count) s (1 + c) 2 (stationWords (net .stations) x m) (pos 0) (line-long (net .stations) x m) refl h (omega arith)
+      ∙ concatBelow-between H (R ++ G) 7 (net .count) s (1 + c) 2 (stationWords (net .stations) x m) (pos 0) (line-long (net .stations) x m) refl h (omega arith)
       ∙ coordinate-at (net .stations) x m s c l
     where
       H : List ℤ

@@ -16,7 +16,7 @@ use Rattle.book.specs.declared.Reversal.{Reversal}
 use Rattle.book.specs.declared.Book.{Book}
 use Rattle.book.specs.Journal.{free}
 use Rattle.book.specs.Sound.{Sized}
-use Rattle.words.specs.Concat.{length-concatBelow, inside}
+use Rattle.words.specs.Concat.{length-concatBelow, concatBelow-between}
 use Rattle.network.specs.StationWords.{stationWords}
 use Rattle.network.specs.RecordWords.{recordWords}
 use Rattle.network.specs.RecordWordLaws.{length-record}
@@ -120,12 +120,12 @@ module _ (b : Book) (z : Sized b) where
 
   pub station-word : (s j : ℕ) → s < 32 → j < 4 → word (2 + s * 4 + j) ≡ getD (stationPart (b .network) s) j (pos 0)
   unfolding bookWords
-  station-word s j h l = inside (headWords b) (placesPart b ++ tail) 4 32 s j 2 (stationPart (b .network)) (pos 0) (length-station (b .network)) refl h l
+  station-word s j h l = concatBelow-between (headWords b) (placesPart b ++ tail) 4 32 s j 2 (stationPart (b .network)) (pos 0) (length-station (b .network)) refl h l
 
   pub place-word : (p j : ℕ) → p < 256 → j < 14 → word (130 + p * 14 + j) ≡ getD (recordWords (recordAt (b .places) p)) j (pos 0)
   place-word p j h l =
       ap (λ (x : List ℤ). getD x (130 + p * 14 + j) (pos 0)) at-places
-      ∙ inside toStations tail 14 256 p j 130 _ (pos 0) (λ k. length-record (recordAt (b .places) k)) length-toStations h l
+      ∙ concatBelow-between toStations tail 14 256 p j 130 _ (pos 0) (λ k. length-record (recordAt (b .places) k)) length-toStations h l
 
   pub next-word : word 3714 ≡ signed (b .journal .next)
   next-word = behind toPlaces tail 3714 0 at-counts length-toPlaces
@@ -136,7 +136,7 @@ module _ (b : Book) (z : Sized b) where
   pub slot-word : (k j : ℕ) → k < 64 → j < 15 → word (3716 + k * 15 + j) ≡ getD (reversalWords (getD (b .journal .entries) k free)) j (pos 0)
   slot-word k j h l =
       ap (λ (x : List ℤ). getD x (3716 + k * 15 + j) (pos 0)) at-entries
-      ∙ inside toCounts (b .normals .matrix ++ b .normals .right) 15 64 k j 3716 _ (pos 0) (λ i. length-reversal (getD (b .journal .entries) i free)) length-toCounts h l
+      ∙ concatBelow-between toCounts (b .normals .matrix ++ b .normals .right) 15 64 k j 3716 _ (pos 0) (λ i. length-reversal (getD (b .journal .entries) i free)) length-toCounts h l
 
   pub matrix-word : (k : ℕ) → k < 2304 → word (4676 + k) ≡ getD (b .normals .matrix) k (pos 0)
   matrix-word k h =

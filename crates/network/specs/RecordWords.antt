@@ -8,7 +8,7 @@ use Rattle.words.specs.Signed.{indexIn}
 use Rattle.network.specs.declared.Record.{Record}
 use Rattle.network.specs.declared.Record.the-variants.{Empty, Baseline as baseline, Height as height}
 
--- the words of a record
+-- a record's length in words
 abbrev pub recordLength : ℕ
 recordLength = 14
 

@@ -10,8 +10,8 @@ ghost use Rattle.network.specs.RecordWords.{recordOf, recordIn, recordWo
 ghost use Rattle.network.specs.declared.Record.the-variants.{Baseline as baseline, Height as height};
 
 impl Record {
-    // The words of a record.
-    pub const WORDS: usize = 14;
+    // A record's length in words.
+    pub const LENGTH: usize = 14;
 }
 
 fn baseline_in(w: &[i64], at: usize) -> Record
@@ -77,7 +77,7 @@ pub fn record_in(w: &[i64], at: usize) -> Record
     Record::Empty
 }
 
-fn baseline_words(b: Baseline) -> [i64; Record::WORDS]
+fn baseline_words(b: Baseline) -> [i64; Record::LENGTH]
     ensures { λ w. ⌜ w ≡ recordWords (baseline b) ⌝ }
 {
     [
@@ -98,17 +98,17 @@ fn baseline_words(b: Baseline) -> [i64; Record::WORDS]
     ]
 }
 
-fn height_words(h: Level) -> [i64; Record::WORDS]
+fn height_words(h: Level) -> [i64; Record::LENGTH]
     ensures { λ w. ⌜ w ≡ recordWords (height h) ⌝ }
 {
     [2, h.from, h.to, 0, 0, h.up, 0, 0, 0, 0, 0, h.weight, 0, 0]
 }
 
-pub fn record_words(r: Record) -> [i64; Record::WORDS]
+pub fn record_words(r: Record) -> [i64; Record::LENGTH]
     ensures { λ w. ⌜ w ≡ recordWords r ⌝ }
 {
     match r {
-        Record::Empty => [0; Record::WORDS],
+        Record::Empty => [0; Record::LENGTH],
         Record::Baseline(b) => baseline_words(b),
         Record::Height(h) => height_words(h),
     }

@@ -64,10 +64,10 @@ unfolding concatBelow
 concatBelow-ext zero f g h = refl
 concatBelow-ext (suc n) f g h = ap₂ (λ (a b : List ℤ). a ++ b) (concatBelow-ext n f g (λ k l. h k (omega arith))) (h n (omega arith))
 
--- a list in three parts, the second made of equal ones: word j of its part k
-pub inside : (a c : List ℤ) (m n k j at : ℕ) (f : ℕ → List ℤ) (d : ℤ) → ((i : ℕ) → length (f i) ≡ m) → length a ≡ at → k < n → j < m
+-- word j of part k, where the parts stand between the lists a and c
+pub concatBelow-between : (a c : List ℤ) (m n k j at : ℕ) (f : ℕ → List ℤ) (d : ℤ) → ((i : ℕ) → length (f i) ≡ m) → length a ≡ at → k < n → j < m
     → getD (a ++ (concatBelow n f ++ c)) (at + k * m + j) d ≡ getD (f k) j d
-inside a c m n k j at f d even e h l =
+concatBelow-between a c m n k j at f d even e h l =
     let low : suc k ≤ n = omega arith in
     let i : at + k * m + j ≡ length a + (k * m + j) = omega arith in
     ap (λ (i : ℕ). getD (a ++ (concatBelow n f ++ c)) i d) i
