@@ -16,15 +16,16 @@ use Rattle.book.specs.declared.Edited.{Edited}
 use Rattle.network.specs.declared.Record.{Record}
 use Rattle.book.specs.Calls.{Call, add, replace, strike, undo}
 use Rattle.book.specs.Book.{sound}
+use Rattle.layout.specs.Layout.{bookBytes}
 use Rattle.layout.specs.Bytes.{bookOf, laidOut, bytesFit}
 use Rattle.dombrelat.specs.declared.Request.{Request}
 use Rattle.dombrelat.specs.declared.Request.the-variants.{Add, Replace, Strike, Undo}
 use Rattle.dombrelat.specs.Calls.{refused, settled, through, edit, callOf}
 
 -- ════ a call through the book
-pub short-unfit : (s : List ℕ) → length s < 56224 → bytesFit s ≡ false
+pub short-unfit : (s : List ℕ) → length s < bookBytes → bytesFit s ≡ false
 unfolding bytesFit
-short-unfit s h = and-no-left (leb 56224 (length s) && laidOut s) (sound (bookOf s)) (and-no-left (leb 56224 (length s)) (laidOut s) (lt-leb 56224 (length s) h))
+short-unfit s h = and-no-left (leb bookBytes (length s) && laidOut s) (sound (bookOf s)) (and-no-left (leb bookBytes (length s)) (laidOut s) (lt-leb bookBytes (length s) h))
 
 module _ (s : List ℕ) (f : Book → Edited) where
   pub through-unfit : bytesFit s ≡ false → refused 25 s ≡ through s f

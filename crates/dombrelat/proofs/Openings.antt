@@ -17,6 +17,7 @@ use Rattle.book.specs.declared.Edited.{Edited}
 use Rattle.book.specs.Calls.{unless}
 use Rattle.book.specs.Book.{openedBook, opening}
 use Rattle.dombrelat.specs.Calls.{Returned, refused, settled, opens}
+use Rattle.layout.specs.Layout.{bookBytes}
 
 too-many : (w : List ℤ) → 32 < length w / 4 → allOpens w ≡ false
 unfolding allOpens
@@ -28,20 +29,20 @@ module _ (list s : List ℕ) where
   abbrev tested : Bool → Bool → Returned
   tested t u = cond t (cond u (settled s (opening (wordsAt list 0 (length list / 8)))) (refused 1 s)) (refused 25 s)
 
-  pub opens-short : length s < 56224 → refused 25 s ≡ opens list s
+  pub opens-short : length s < bookBytes → refused 25 s ≡ opens list s
   unfolding opens
-  opens-short h = sym (ap (λ (t : Bool). tested t (eqb (length list % 32) 0)) (lt-leb 56224 (length s) h))
+  opens-short h = sym (ap (λ (t : Bool). tested t (eqb (length list % 32) 0)) (lt-leb bookBytes (length s) h))
 
-  module _ (room : 56224 ≤ length s) where
+  module _ (room : bookBytes ≤ length s) where
     pub opens-odd : (length list % 32 ≡ 0 → ⊥) → refused 1 s ≡ opens list s
     unfolding opens
-    opens-odd h = sym (ap (λ (t : Bool). tested t (eqb (length list % 32) 0)) (le-leb 56224 (length s) room) ∙ ap (tested true) (ne-eqb _ _ h))
+    opens-odd h = sym (ap (λ (t : Bool). tested t (eqb (length list % 32) 0)) (le-leb bookBytes (length s) room) ∙ ap (tested true) (ne-eqb _ _ h))
 
     module _ (even : length list % 32 ≡ 0) where
       pub opens-done : (e : Edited) → e ≡ opening (wordsAt list 0 (length list / 8)) → settled s e ≡ opens list s
       unfolding opens
       opens-done e p =
-          ap (settled s) p ∙ sym (ap (λ (t : Bool). tested t (eqb (length list % 32) 0)) (le-leb 56224 (length s) room) ∙ ap (tested true) (eq-eqb _ _ even))
+          ap (settled s) p ∙ sym (ap (λ (t : Bool). tested t (eqb (length list % 32) 0)) (le-leb bookBytes (length s) room) ∙ ap (tested true) (eq-eqb _ _ even))
 
       pub opens-many : 1024 < length list → refused 1 s ≡ opens list s
       unfolding unless

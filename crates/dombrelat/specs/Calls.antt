@@ -15,6 +15,7 @@ use Rattle.book.specs.Book.{opening, outcome}
 use Rattle.dombrelat.specs.declared.Request.{Request}
 use Rattle.dombrelat.specs.declared.Request.the-variants.{Add, Replace, Strike, Undo}
 use Rattle.layout.specs.Bytes.{bookOf, putBook, bytesFit}
+use Rattle.layout.specs.Layout.{bookBytes}
 
 -- the answer of a call, and the lent bytes as it leaves them: those of the book, or of a slice that it reads into
 pub record Returned : Type 0 where
@@ -40,7 +41,7 @@ edit s c = through s (λ b. outcome b c)
 -- an opening, on the bytes of a station list: 25 where the book bytes are too short; a list that is not of whole stations, 32 bytes each, is refused with 1
 unfoldable pub opens : List ℕ → List ℕ → Returned
 opens list s =
-    cond (leb 56224 (length s)) (cond (eqb (length list % 32) 0) (settled s (opening (wordsAt list 0 (length list / 8)))) (refused 1 s)) (refused 25 s)
+    cond (leb bookBytes (length s)) (cond (eqb (length list % 32) 0) (settled s (opening (wordsAt list 0 (length list / 8)))) (refused 1 s)) (refused 25 s)
 
 -- the records that the numbers of a C call give, in the header's order
 abbrev pub baselineOf : ℤ → ℤ → ℤ → ℤ → ℤ → ℤ → ℤ → ℤ → ℤ → ℤ → ℤ → Record

@@ -34,6 +34,7 @@ use Rattle.lent_checks.specs.LentChecks.{answerWord, checkedLent, sheetFits, on
 use Rattle.lent_checks.specs.Offers.{Offers, OffersLent, lentLengths}
 use Rattle.network.specs.RecordWords.{recordWords}
 use Rattle.layout.specs.Bytes.{bookOf, bytesFit}
+use Rattle.layout.specs.Layout.{bookBytes}
 use Rattle.dombrelat.specs.Calls.{Returned, refused, settled, through, edit, opens}
 use Rattle.dombrelat.specs.CheckCalls.{Judged, judgedLent, checkCall, sheetCall, distanceCall}
 use Rattle.dombrelat.specs.Proposal.{Proposes}
@@ -110,7 +111,7 @@ opens-right : (list s : List ℕ) → Right 0 s (opens list s)
 unfolding opens
 opens-right list s =
     let e = opening (wordsAt list 0 (length list / 8)) in
-    either 0 s (leb 56224 (length s)) (cond (eqb (length list % 32) 0) (settled s e) (refused 1 s)) (refused 25 s)
+    either 0 s (leb bookBytes (length s)) (cond (eqb (length list % 32) 0) (settled s e) (refused 1 s)) (refused 25 s)
     (either 0 s (eqb (length list % 32) 0) (settled s e) (refused 1 s) (settled-right s e (let h = opening-small (wordsAt list 0 (length list / 8)) in omega arith)) (refused-right 0 s 1 (omega arith) (omega arith)))
     (unfit-right 0 s)
 

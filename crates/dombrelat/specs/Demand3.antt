@@ -17,6 +17,7 @@ use Rattle.book.specs.Rows.{names}
 use Rattle.book.specs.Run.{final, answers}
 use Rattle.book.specs.Demand3 as ledger
 use Rattle.layout.specs.Bytes.{bookOf, bytesFit}
+use Rattle.layout.specs.Layout.{bookBytes}
 use Rattle.dombrelat.specs.Calls.{edit, opens}
 
 abbrev pub bytesNext : List ℕ → Call → List ℕ
@@ -41,7 +42,7 @@ pub record Demand (list s : List ℕ) (calls : List Call) : Type 0 where
   -- the bytes left are a book that the next call takes
   pub fits : bytesFit (bytesAfter list s calls) ≡ true
   -- bytes beyond it stay
-  pub beyond : (j : ℕ) → 56224 ≤ j → getD (bytesAfter list s calls) j 0 ≡ getD s j 0
+  pub beyond : (j : ℕ) → bookBytes ≤ j → getD (bytesAfter list s calls) j 0 ≡ getD s j 0
 
 abbrev pub Demand3 : Type 0
 Demand3 = (list s : List ℕ) → opens list s .answer ≡ pos 0 → (calls : List Call) → Demand list s calls

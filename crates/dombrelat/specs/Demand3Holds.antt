@@ -29,6 +29,7 @@ use Rattle.book.specs.Run.{final, answers, Alike, run-answers, run-final}
 use Rattle.book.specs.Demand3Holds.{demanded}
 use Rattle.layout.specs.Bytes.{bookOf, putBook, bytesFit}
 use Rattle.layout.specs.CodecLaws.{read-stations, fits-room, fits-sound, writes-reads, writes-fit, writes-beyond}
+use Rattle.layout.specs.Layout.{bookBytes}
 use Rattle.dombrelat.specs.Calls.{Returned, refused, settled, through, opens}
 use Rattle.dombrelat.specs.Demand3.{bytesNext, bytesSays, bytesAfter, bytesAnswers, Demand3}
 
@@ -72,7 +73,7 @@ module _ (s₀ : List ℕ) where
   record Holds (s : List ℕ) (b : Book) : Type 0 where
     reads : bookOf s ≡ b
     fits : bytesFit s ≡ true
-    beyond : (j : ℕ) → 56224 ≤ j → getD s j 0 ≡ getD s₀ j 0
+    beyond : (j : ℕ) → bookBytes ≤ j → getD s j 0 ≡ getD s₀ j 0
 
   -- what a call leaves: the bytes and the book as they were, or the next book written
   leaves : (n : ℕ) (s : List ℕ) (b b′ : Book) → Holds s b → Sound (unless n b b′) → length (unless n b b′ .network .stations) ≡ 32
@@ -106,7 +107,7 @@ module _ (s₀ : List ℕ) where
 
 -- ════ an accepted opening
 record Opened (list s : List ℕ) : Type 0 where
-  room : 56224 ≤ length s
+  room : bookBytes ≤ length s
   accepts : stations.opens (wordsAt list 0 (length list / 8)) ≡ true
   written : opens list s .bytes ≡ putBook s (openedBook (networkOf (wordsAt list 0 (length list / 8))))
 
@@ -128,7 +129,7 @@ accepted : (list s : List ℕ) → opens list s .answer ≡ pos 0 → Opened lis
 unfolding opens
 accepted list s a =
     let words = wordsAt list 0 (length list / 8) in
-    let w = tests-pass (leb 56224 (length s)) (eqb (length list % 32) 0) (stations.opens words) s (openedBook (networkOf words)) (openedBook (networkOf [])) a in
+    let w = tests-pass (leb bookBytes (length s)) (eqb (length list % 32) 0) (stations.opens words) s (openedBook (networkOf words)) (openedBook (networkOf [])) a in
     record { room = leb-true _ _ (w .0); accepts = w .1; written = w .2 }
 
 -- ════ the statement

@@ -40,7 +40,7 @@ use Rattle.book.specs.CallLaws.{first-zero, place-inside}
 use Rattle.book.specs.Book.{openedBook, opening, edited, bookAccepts}
 use Rattle.words.specs.Concat.{length-concatBelow, concatBelow-at}
 use Rattle.network.specs.RecordWords.{recordWords}
-use Rattle.layout.specs.Layout.{stationPart}
+use Rattle.layout.specs.Layout.{stationPart, bookBytes}
 use Rattle.network.specs.RecordWordLaws.{length-record}
 use Rattle.layout.specs.BookWords.{station-word}
 use Rattle.layout.specs.WordSizes.{words-fit}
@@ -201,7 +201,7 @@ stations-opened list s a calls out room =
     ∙ gives-room (length list / 32) w out (omega arith))
 
 -- ════ of any bytes that hold a book: an opening on the list that is written gives a book of the same stations
-pub opens-again : (s out t : List ℕ) → bytesFit s ≡ true → length out ≡ 32 * bookOf s .network .count → 56224 ≤ length t
+pub opens-again : (s out t : List ℕ) → bytesFit s ≡ true → length out ≡ 32 * bookOf s .network .count → bookBytes ≤ length t
     → opens (stationsCall s out .bytes) t ≡ record { answer = pos 0; bytes = putBook t (openedBook (bookOf s .network)) }
 unfolding opens unless
 opens-again s out t e long room =
@@ -217,7 +217,7 @@ opens-again s out t e long room =
     let o = fits-sound s e .network in
     let opened : opening w ≡ record { refusal = 0; book = openedBook net } = rw (list-opens net o (read-stations s), list-back net o (read-stations s)) in
     ap (λ (l : List ℕ). opens l t) is
-    ∙ rw (le-leb 56224 (length t) room, even) (ap (λ (x : Edited). settled t x) (ap opening read ∙ opened))
+    ∙ rw (le-leb bookBytes (length t) room, even) (ap (λ (x : Edited). settled t x) (ap opening read ∙ opened))
 
 -- ════ what an accepted edit put at its place
 module _ (s : List ℕ) (c : Call) (p : ℤ) (r : Record) (a : bytesSays s c ≡ pos 0) (out : List ℕ) (room : 112 ≤ length out) where

@@ -1,6 +1,7 @@
 // The C call that opens a book.
 use book::Book;
 use book::Edited;
+use layout::Layout;
 ghost use mathlib.Core.Path.{_≡_};
 ghost use Prim.Native.Nat.{_≤_, _*_};
 ghost use lib.ListN.{length};
@@ -9,11 +10,12 @@ ghost use Rattle.words.specs.Runs.{wordsAt};
 ghost use Rattle.book.specs.Calls.{unless};
 ghost use Rattle.book.specs.Book.{opening};
 ghost use Rattle.layout.specs.Bytes.{putBook};
+ghost use Rattle.layout.specs.Layout.{bookBytes};
 ghost use Rattle.dombrelat.specs.Calls.{opens};
 
 // The answer of an opening, whose book is written unless it is refused.
 fn settle(s: &mut [u8], e: Edited) -> i64
-    requires { ⌜ (56224 ≤ length (now s)) × (e .refusal ≤ 9) ⌝ }
+    requires { ⌜ (bookBytes ≤ length (now s)) × (e .refusal ≤ 9) ⌝ }
     ensures { λ r. ⌜ (r ≡ pos (e .refusal)) × (now (s .exit) ≡ unless (e .refusal) (now (s .entry)) (putBook (now (s .entry)) (e .book))) ⌝ }
 {
     let refusal = e.refusal;
@@ -46,7 +48,7 @@ pub extern "C" fn dombrelat_open(list: &[u8], book: &mut [u8]) -> i64
     ensures { λ r. ⌜ r ≡ opens (now (list .entry)) (now (book .entry)) .answer ⌝ }
     ensures { λ _. ⌜ now (book .exit) ≡ opens (now (list .entry)) (now (book .entry)) .bytes ⌝ }
 {
-    if book.len() < layout::BOOK_BYTES {
+    if book.len() < Layout::BOOK_BYTES {
         return 25;
     }
     if list.len() % 32 != 0 {

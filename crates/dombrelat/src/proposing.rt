@@ -6,7 +6,7 @@ ghost use Rattle.dombrelat.specs.Proposal.{Proposes};
 pub extern "C" fn dombrelat_propose(book: &[u8], x: &mut [u8], m: &mut [u8]) -> i64
     ensures { λ r. ⌜ Proposes (now (book .entry)) r (now (x .entry)) (now (m .entry)) (now (x .exit)) (now (m .exit)) ⌝ }
 {
-    if book.len() < layout::BOOK_BYTES {
+    if book.len() < layout::Layout::BOOK_BYTES {
         return 25;
     }
     if !layout::fits(book) {

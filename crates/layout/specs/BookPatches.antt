@@ -16,8 +16,8 @@ use Rattle.book.specs.declared.Book.{Book}
 use Rattle.book.specs.Journal.{free}
 use Rattle.book.specs.Sound.{Sized}
 use Rattle.words.specs.Concat.{concatBelow, length-concatBelow, concatBelow-ext}
-use Rattle.network.specs.RecordWords.{recordWords}
-use Rattle.layout.specs.Layout.{reversalWords, countsPart, entriesPart}
+use Rattle.network.specs.RecordWords.{recordWords, recordLength}
+use Rattle.layout.specs.Layout.{reversalWords, countsPart, entriesPart, reversalLength, placesStart, countsStart, entriesStart, matrixStart, rightStart, bookBytes, slots}
 use Rattle.network.specs.RecordWordLaws.{length-record}
 use Rattle.layout.specs.BookWords.{length-reversal, tail, toStations, toPlaces, toCounts, toEntries, length-toStations, length-toPlaces, length-toCounts, length-toEntries, at-places, at-counts, at-entries, at-matrix, at-right, length-book}
 use Rattle.layout.specs.Bytes.{putBook}
@@ -82,8 +82,8 @@ withCounts b next held = record { network = b .network; places = b .places; jour
 abbrev pub withNormals : Book → List ℤ → List ℤ → Book
 withNormals b m u = record { network = b .network; places = b .places; journal = b .journal; normals = record { matrix = m; right = u } }
 
-module _ (s : List ℕ) (room : 56224 ≤ length s) (b : Book) (z : Sized b) where
-  pub put-place : (i : ℕ) (r : Record) → i < 256 → putWords (putBook s b) (8 * (130 + i * 14)) (recordWords r) ≡ putBook s (withPlace b i r)
+module _ (s : List ℕ) (room : bookBytes ≤ length s) (b : Book) (z : Sized b) where
+  pub put-place : (i : ℕ) (r : Record) → i < 256 → putWords (putBook s b) (8 * (placesStart + i * recordLength)) (recordWords r) ≡ putBook s (withPlace b i r)
   put-place i r h =
       let b′ = withPlace b i r in
       let z′ : Sized b′ = record { places = length-set (b .places) i _ ∙ z .places; entries = z .entries; matrix = z .matrix; right = z .right } in
@@ -91,15 +91,15 @@ module _ (s : List ℕ) (room : 56224 ≤ length s) (b : Book) (z : Sized b) whe
       let g : ℕ → List ℤ = λ p. recordWords (recordAt (set (b .places) i (record { entry = r })) p) in
       let long : i < length (b .places) = let e = z .places in omega arith in
       let new : g i ≡ recordWords r = ap (λ (q : Place). recordWords (q .entry)) (getD-set-same (b .places) i (record { entry = r }) vacant long) in
-      let fits : 8 * (130 + 256 * 14 + length (tail b z)) ≤ length s =
+      let fits : 8 * (placesStart + 256 * recordLength + length (tail b z)) ≤ length s =
       let l = length-book b z in let e = ap length (at-counts b z) ∙ length-append (toPlaces b z) (tail b z) in let p = length-toPlaces b z in omega arith in
-      ap (λ (x : List ℤ). putWords (putWords s 0 x) (8 * (130 + i * 14)) (recordWords r)) (at-places b z)
-      ∙ ap (putWords (putWords s 0 (toStations b z ++ (concatBelow 256 f ++ tail b z))) (8 * (130 + i * 14))) (sym new)
-      ∙ concatBelow-patch s (toStations b z) (tail b z) 14 256 i 130 f g (λ p. length-record _) (λ p. length-record _)
+      ap (λ (x : List ℤ). putWords (putWords s 0 x) (8 * (placesStart + i * recordLength)) (recordWords r)) (at-places b z)
+      ∙ ap (putWords (putWords s 0 (toStations b z ++ (concatBelow 256 f ++ tail b z))) (8 * (placesStart + i * recordLength))) (sym new)
+      ∙ concatBelow-patch s (toStations b z) (tail b z) recordLength 256 i placesStart f g (λ p. length-record _) (λ p. length-record _)
       (λ k d. ap (λ (q : Place). recordWords (q .entry)) (sym (getD-set-other (b .places) i k (record { entry = r }) vacant d))) h (length-toStations b z) fits
       ∙ ap (putWords s 0) (sym (at-places b′ z′))
 
-  pub put-slot : (k : ℕ) (u : Reversal) → k < 64 → putWords (putBook s b) (8 * (3716 + k * 15)) (reversalWords u) ≡ putBook s (withSlot b k u)
+  pub put-slot : (k : ℕ) (u : Reversal) → k < slots → putWords (putBook s b) (8 * (entriesStart + k * reversalLength)) (reversalWords u) ≡ putBook s (withSlot b k u)
   put-slot k u h =
       let b′ = withSlot b k u in
       let z′ : Sized b′ = record { places = z .places; entries = length-set (b .journal .entries) k _ ∙ z .entries; matrix = z .matrix; right = z .right } in
@@ -108,26 +108,26 @@ module _ (s : List ℕ) (room : 56224 ≤ length s) (b : Book) (z : Sized b) whe
       let c : List ℤ = b .normals .matrix ++ b .normals .right in
       let long : k < length (b .journal .entries) = let e = z .entries in omega arith in
       let new : g k ≡ reversalWords u = ap reversalWords (getD-set-same (b .journal .entries) k u free long) in
-      let fits : 8 * (3716 + 64 * 15 + length c) ≤ length s =
+      let fits : 8 * (entriesStart + slots * reversalLength + length c) ≤ length s =
       let l = length-book b z in let e = ap length (at-matrix b z) ∙ length-append (toEntries b z) c in let p = length-toEntries b z in omega arith in
-      ap (λ (x : List ℤ). putWords (putWords s 0 x) (8 * (3716 + k * 15)) (reversalWords u)) (at-entries b z)
-      ∙ ap (putWords (putWords s 0 (toCounts b z ++ (concatBelow 64 f ++ c))) (8 * (3716 + k * 15))) (sym new)
-      ∙ concatBelow-patch s (toCounts b z) c 15 64 k 3716 f g (λ p. length-reversal _) (λ p. length-reversal _)
+      ap (λ (x : List ℤ). putWords (putWords s 0 x) (8 * (entriesStart + k * reversalLength)) (reversalWords u)) (at-entries b z)
+      ∙ ap (putWords (putWords s 0 (toCounts b z ++ (concatBelow slots f ++ c))) (8 * (entriesStart + k * reversalLength))) (sym new)
+      ∙ concatBelow-patch s (toCounts b z) c reversalLength slots k entriesStart f g (λ p. length-reversal _) (λ p. length-reversal _)
       (λ j d. ap reversalWords (sym (getD-set-other (b .journal .entries) k j u free d))) h (length-toCounts b z) fits
       ∙ ap (putWords s 0) (sym (at-entries b′ z′))
 
-  pub put-counts : (next held : ℕ) → putWords (putBook s b) 29712 (signed next ∷ signed held ∷ []) ≡ putBook s (withCounts b next held)
+  pub put-counts : (next held : ℕ) → putWords (putBook s b) (8 * countsStart) (signed next ∷ signed held ∷ []) ≡ putBook s (withCounts b next held)
   put-counts next held =
       let b′ = withCounts b next held in
       let z′ : Sized b′ = record { places = z .places; entries = z .entries; matrix = z .matrix; right = z .right } in
       let c : List ℤ = entriesPart b ++ (b .normals .matrix ++ b .normals .right) in
       let fits : 8 * (length (toPlaces b z) + 2 + length c) ≤ length s =
       let l = length-book b z in let e = ap length (at-entries b z) ∙ length-append (toCounts b z) c in let p = length-toCounts b z in let q = length-toPlaces b z in omega arith in
-      ap (λ (x : List ℤ). putWords (putWords s 0 x) 29712 (signed next ∷ signed held ∷ [])) (at-counts b z)
-      ∙ patch s (toPlaces b z) (countsPart b) (signed next ∷ signed held ∷ []) c 29712 refl (let q = length-toPlaces b z in omega arith) fits
+      ap (λ (x : List ℤ). putWords (putWords s 0 x) (8 * countsStart) (signed next ∷ signed held ∷ [])) (at-counts b z)
+      ∙ patch s (toPlaces b z) (countsPart b) (signed next ∷ signed held ∷ []) c (8 * countsStart) refl (let q = length-toPlaces b z in omega arith) fits
       ∙ ap (putWords s 0) (sym (at-counts b′ z′))
 
-  pub put-normals : (m u : List ℤ) → length m ≡ 2304 → length u ≡ 48 → putWords (putWords (putBook s b) 37408 m) 55840 u ≡ putBook s (withNormals b m u)
+  pub put-normals : (m u : List ℤ) → length m ≡ 2304 → length u ≡ 48 → putWords (putWords (putBook s b) (8 * matrixStart) m) (8 * rightStart) u ≡ putBook s (withNormals b m u)
   put-normals m u lm lu =
       let b′ = withNormals b m u in
       let z′ : Sized b′ = record { places = z .places; entries = z .entries; matrix = lm; right = lu } in
@@ -137,17 +137,17 @@ module _ (s : List ℕ) (room : 56224 ≤ length s) (b : Book) (z : Sized b) whe
       let la = length-toEntries b z in
       let lo = z .matrix in
       let lv = z .right in
-      let joined : length (a ++ m) ≡ 6980 = length-append a m ∙ (let e : length a + length m ≡ 6980 = omega arith in e) in
-      ap (λ (x : List ℤ). putWords (putWords (putWords s 0 x) 37408 m) 55840 u) (at-matrix b z)
-      ∙ ap (λ (x : List ℕ). putWords x 55840 u) (patch s a old m v 37408 (lo ∙ sym lm) (omega arith) (omega arith))
-      ∙ ap (λ (x : List ℤ). putWords (putWords s 0 x) 55840 u) (sym (append-assoc a m v) ∙ ap (λ (x : List ℤ). (a ++ m) ++ x) (sym (append-nil v)))
-      ∙ patch s (a ++ m) v u [] 55840 (lv ∙ sym lu) (omega arith) (let n : length {A = ℤ} [] ≡ 0 = refl in omega arith)
+      let joined : length (a ++ m) ≡ rightStart = length-append a m ∙ (let e : length a + length m ≡ rightStart = omega arith in e) in
+      ap (λ (x : List ℤ). putWords (putWords (putWords s 0 x) (8 * matrixStart) m) (8 * rightStart) u) (at-matrix b z)
+      ∙ ap (λ (x : List ℕ). putWords x (8 * rightStart) u) (patch s a old m v (8 * matrixStart) (lo ∙ sym lm) (omega arith) (omega arith))
+      ∙ ap (λ (x : List ℤ). putWords (putWords s 0 x) (8 * rightStart) u) (sym (append-assoc a m v) ∙ ap (λ (x : List ℤ). (a ++ m) ++ x) (sym (append-nil v)))
+      ∙ patch s (a ++ m) v u [] (8 * rightStart) (lv ∙ sym lu) (omega arith) (let n : length {A = ℤ} [] ≡ 0 = refl in omega arith)
       ∙ ap (putWords s 0) (ap (λ (x : List ℤ). (a ++ m) ++ x) (append-nil u) ∙ sym (at-right b′ z′))
 
 -- ════ all of them
-pub put-edit : (s : List ℕ) → 56224 ≤ length s → (b : Book) → Sized b → (m v : List ℤ) → length m ≡ 2304 → length v ≡ 48 → (i : ℕ) (r : Record) (slot : ℕ) (u : Reversal) (next held : ℕ) → i < 256 → slot < 64
-    → (s₁ s₂ s₃ s₄ : List ℕ) → s₁ ≡ putBook s (withNormals b m v) → s₂ ≡ putWords s₁ (8 * (130 + i * 14)) (recordWords r) → s₃ ≡ putWords s₂ (8 * (3716 + slot * 15)) (reversalWords u)
-    → s₄ ≡ putWords s₃ 29712 (signed next ∷ signed held ∷ [])
+pub put-edit : (s : List ℕ) → bookBytes ≤ length s → (b : Book) → Sized b → (m v : List ℤ) → length m ≡ 2304 → length v ≡ 48 → (i : ℕ) (r : Record) (slot : ℕ) (u : Reversal) (next held : ℕ) → i < 256 → slot < slots
+    → (s₁ s₂ s₃ s₄ : List ℕ) → s₁ ≡ putBook s (withNormals b m v) → s₂ ≡ putWords s₁ (8 * (placesStart + i * recordLength)) (recordWords r) → s₃ ≡ putWords s₂ (8 * (entriesStart + slot * reversalLength)) (reversalWords u)
+    → s₄ ≡ putWords s₃ (8 * countsStart) (signed next ∷ signed held ∷ [])
     → s₄ ≡ putBook s (withCounts (withSlot (withPlace (withNormals b m v) i r) slot u) next held)
 put-edit s room b z m v lm lv i r slot u next held h k s₁ s₂ s₃ s₄ p₁ p₂ p₃ p₄ =
     let b₁ = withNormals b m v in
@@ -156,6 +156,6 @@ put-edit s room b z m v lm lv i r slot u next held h k s₁ s₂ s₃ s₄ p₁ 
     let z₂ : Sized b₂ = record { places = length-set (b .places) i _ ∙ z .places; entries = z .entries; matrix = lm; right = lv } in
     let b₃ = withSlot b₂ slot u in
     let z₃ : Sized b₃ = record { places = z₂ .places; entries = length-set (b .journal .entries) slot u ∙ z .entries; matrix = lm; right = lv } in
-    let q₂ : s₂ ≡ putBook s b₂ = p₂ ∙ ap (λ (x : List ℕ). putWords x (8 * (130 + i * 14)) (recordWords r)) p₁ ∙ put-place s room b₁ z₁ i r h in
-    let q₃ : s₃ ≡ putBook s b₃ = p₃ ∙ ap (λ (x : List ℕ). putWords x (8 * (3716 + slot * 15)) (reversalWords u)) q₂ ∙ put-slot s room b₂ z₂ slot u k in
-    p₄ ∙ ap (λ (x : List ℕ). putWords x 29712 (signed next ∷ signed held ∷ [])) q₃ ∙ put-counts s room b₃ z₃ next held
+    let q₂ : s₂ ≡ putBook s b₂ = p₂ ∙ ap (λ (x : List ℕ). putWords x (8 * (placesStart + i * recordLength)) (recordWords r)) p₁ ∙ put-place s room b₁ z₁ i r h in
+    let q₃ : s₃ ≡ putBook s b₃ = p₃ ∙ ap (λ (x : List ℕ). putWords x (8 * (entriesStart + slot * reversalLength)) (reversalWords u)) q₂ ∙ put-slot s room b₂ z₂ slot u k in
+    p₄ ∙ ap (λ (x : List ℕ). putWords x (8 * countsStart) (signed next ∷ signed held ∷ [])) q₃ ∙ put-counts s room b₃ z₃ next held

@@ -1,4 +1,4 @@
--- The words of a book of any value: where each part stands among the 7,028, and what is read there. Assumes nothing.
+-- The words of a book of any value: where each part stands among them, and what is read there. Assumes nothing.
 use Prim.Native.Nat.{ℕ, suc, _+_, _*_, _<_}
 use mathlib.Core.Path.{_≡_, refl, sym, ap, _∙_}
 use mathlib.Core.Bool.{Bool, true, false, cond}
@@ -18,12 +18,12 @@ use Rattle.book.specs.Journal.{free}
 use Rattle.book.specs.Sound.{Sized}
 use Rattle.words.specs.Concat.{length-concatBelow, concatBelow-between}
 use Rattle.network.specs.StationWords.{stationWords}
-use Rattle.network.specs.RecordWords.{recordWords}
+use Rattle.network.specs.RecordWords.{recordWords, recordLength}
 use Rattle.network.specs.RecordWordLaws.{length-record}
-use Rattle.layout.specs.Layout.{stationPart, reversalWords, headWords, stationsPart, placesPart, countsPart, entriesPart, bookWords}
+use Rattle.layout.specs.Layout.{stationPart, reversalWords, headWords, stationsPart, placesPart, countsPart, entriesPart, bookWords, slots, reversalLength, placesStart, countsStart, entriesStart, matrixStart, rightStart, bookLength, stationsStart}
 
 -- ════ lengths
-pub length-reversal : (u : Reversal) → length (reversalWords u) ≡ 15
+pub length-reversal : (u : Reversal) → length (reversalWords u) ≡ reversalLength
 unfolding reversalWords
 length-reversal u = ap suc (length-record (u .prior))
 
@@ -44,11 +44,11 @@ module _ (b : Book) (z : Sized b) where
   pub length-stations : length (stationsPart b) ≡ 128
   length-stations = length-concatBelow 4 (stationPart (b .network)) (length-station (b .network)) 32
 
-  pub length-places : length (placesPart b) ≡ 3584
-  length-places = length-concatBelow 14 _ (λ p. length-record (recordAt (b .places) p)) 256
+  pub length-places : length (placesPart b) ≡ 256 * recordLength
+  length-places = length-concatBelow recordLength _ (λ p. length-record (recordAt (b .places) p)) 256
 
-  pub length-entries : length (entriesPart b) ≡ 960
-  length-entries = length-concatBelow 15 _ (λ k. length-reversal (getD (b .journal .entries) k free)) 64
+  pub length-entries : length (entriesPart b) ≡ slots * reversalLength
+  length-entries = length-concatBelow reversalLength _ (λ k. length-reversal (getD (b .journal .entries) k free)) slots
 
   -- what stands before each part
   abbrev pub toStations : List ℤ
@@ -63,19 +63,19 @@ module _ (b : Book) (z : Sized b) where
   abbrev pub toEntries : List ℤ
   toEntries = toCounts ++ entriesPart b
 
-  pub length-toStations : length toStations ≡ 130
-  length-toStations = length-append (headWords b) (stationsPart b) ∙ ap (λ (n : ℕ). 2 + n) length-stations
+  pub length-toStations : length toStations ≡ placesStart
+  length-toStations = length-append (headWords b) (stationsPart b) ∙ ap (λ (n : ℕ). stationsStart + n) length-stations
 
-  pub length-toPlaces : length toPlaces ≡ 3714
+  pub length-toPlaces : length toPlaces ≡ countsStart
   length-toPlaces = length-append toStations (placesPart b) ∙ omega (arith, length-toStations, length-places)
 
-  pub length-toCounts : length toCounts ≡ 3716
+  pub length-toCounts : length toCounts ≡ entriesStart
   length-toCounts = length-append toPlaces (countsPart b) ∙ ap (λ (n : ℕ). n + 2) length-toPlaces
 
-  pub length-toEntries : length toEntries ≡ 4676
+  pub length-toEntries : length toEntries ≡ matrixStart
   length-toEntries = length-append toCounts (entriesPart b) ∙ omega (arith, length-toCounts, length-entries)
 
-  pub length-toMatrix : length (toEntries ++ b .normals .matrix) ≡ 6980
+  pub length-toMatrix : length (toEntries ++ b .normals .matrix) ≡ rightStart
   length-toMatrix = length-append toEntries (b .normals .matrix) ∙ omega (arith, length-toEntries, z .matrix)
 
   pub at-places : bookWords b ≡ toStations ++ (placesPart b ++ tail)
@@ -94,10 +94,10 @@ module _ (b : Book) (z : Sized b) where
   pub at-right : bookWords b ≡ (toEntries ++ b .normals .matrix) ++ b .normals .right
   at-right = at-matrix ∙ sym (append-assoc toEntries (b .normals .matrix) (b .normals .right))
 
-  pub length-book : length (bookWords b) ≡ 7028
+  pub length-book : length (bookWords b) ≡ bookLength
   length-book = ap length at-right ∙ length-append (toEntries ++ b .normals .matrix) (b .normals .right) ∙ omega (arith, length-toMatrix, z .right)
 
-  pub stations-part : take 128 (drop 2 (bookWords b)) ≡ stationsPart b
+  pub stations-part : take 128 (drop stationsStart (bookWords b)) ≡ stationsPart b
   unfolding bookWords
   stations-part = take-at (stationsPart b) (placesPart b ++ tail) 128 length-stations
 
@@ -118,30 +118,30 @@ module _ (b : Book) (z : Sized b) where
   unfolding bookWords
   count-word = refl
 
-  pub station-word : (s j : ℕ) → s < 32 → j < 4 → word (2 + s * 4 + j) ≡ getD (stationPart (b .network) s) j (pos 0)
+  pub station-word : (s j : ℕ) → s < 32 → j < 4 → word (stationsStart + s * 4 + j) ≡ getD (stationPart (b .network) s) j (pos 0)
   unfolding bookWords
-  station-word s j h l = concatBelow-between (headWords b) (placesPart b ++ tail) 4 32 s j 2 (stationPart (b .network)) (pos 0) (length-station (b .network)) refl h l
+  station-word s j h l = concatBelow-between (headWords b) (placesPart b ++ tail) 4 32 s j stationsStart (stationPart (b .network)) (pos 0) (length-station (b .network)) refl h l
 
-  pub place-word : (p j : ℕ) → p < 256 → j < 14 → word (130 + p * 14 + j) ≡ getD (recordWords (recordAt (b .places) p)) j (pos 0)
+  pub place-word : (p j : ℕ) → p < 256 → j < recordLength → word (placesStart + p * recordLength + j) ≡ getD (recordWords (recordAt (b .places) p)) j (pos 0)
   place-word p j h l =
-      ap (λ (x : List ℤ). getD x (130 + p * 14 + j) (pos 0)) at-places
-      ∙ concatBelow-between toStations tail 14 256 p j 130 _ (pos 0) (λ k. length-record (recordAt (b .places) k)) length-toStations h l
+      ap (λ (x : List ℤ). getD x (placesStart + p * recordLength + j) (pos 0)) at-places
+      ∙ concatBelow-between toStations tail recordLength 256 p j placesStart _ (pos 0) (λ k. length-record (recordAt (b .places) k)) length-toStations h l
 
-  pub next-word : word 3714 ≡ signed (b .journal .next)
-  next-word = behind toPlaces tail 3714 0 at-counts length-toPlaces
+  pub next-word : word countsStart ≡ signed (b .journal .next)
+  next-word = behind toPlaces tail countsStart 0 at-counts length-toPlaces
 
-  pub held-word : word 3715 ≡ signed (b .journal .held)
-  held-word = behind toPlaces tail 3714 1 at-counts length-toPlaces
+  pub held-word : word (countsStart + 1) ≡ signed (b .journal .held)
+  held-word = behind toPlaces tail countsStart 1 at-counts length-toPlaces
 
-  pub slot-word : (k j : ℕ) → k < 64 → j < 15 → word (3716 + k * 15 + j) ≡ getD (reversalWords (getD (b .journal .entries) k free)) j (pos 0)
+  pub slot-word : (k j : ℕ) → k < slots → j < reversalLength → word (entriesStart + k * reversalLength + j) ≡ getD (reversalWords (getD (b .journal .entries) k free)) j (pos 0)
   slot-word k j h l =
-      ap (λ (x : List ℤ). getD x (3716 + k * 15 + j) (pos 0)) at-entries
-      ∙ concatBelow-between toCounts (b .normals .matrix ++ b .normals .right) 15 64 k j 3716 _ (pos 0) (λ i. length-reversal (getD (b .journal .entries) i free)) length-toCounts h l
+      ap (λ (x : List ℤ). getD x (entriesStart + k * reversalLength + j) (pos 0)) at-entries
+      ∙ concatBelow-between toCounts (b .normals .matrix ++ b .normals .right) reversalLength slots k j entriesStart _ (pos 0) (λ i. length-reversal (getD (b .journal .entries) i free)) length-toCounts h l
 
-  pub matrix-word : (k : ℕ) → k < 2304 → word (4676 + k) ≡ getD (b .normals .matrix) k (pos 0)
+  pub matrix-word : (k : ℕ) → k < 2304 → word (matrixStart + k) ≡ getD (b .normals .matrix) k (pos 0)
   matrix-word k h =
-      behind toEntries (b .normals .matrix ++ b .normals .right) 4676 k at-matrix length-toEntries
+      behind toEntries (b .normals .matrix ++ b .normals .right) matrixStart k at-matrix length-toEntries
       ∙ List·getD-append (b .normals .matrix) (b .normals .right) (pos 0) k (let l = z .matrix in omega arith)
 
-  pub right-word : (k : ℕ) → word (6980 + k) ≡ getD (b .normals .right) k (pos 0)
-  right-word k = behind (toEntries ++ b .normals .matrix) (b .normals .right) 6980 k at-right length-toMatrix
+  pub right-word : (k : ℕ) → word (rightStart + k) ≡ getD (b .normals .right) k (pos 0)
+  right-word k = behind (toEntries ++ b .normals .matrix) (b .normals .right) rightStart k at-right length-toMatrix

@@ -1,4 +1,4 @@
--- A book in lent bytes: its 7,028 words, 56,224 bytes, at the start of them; and what 25 tests of lent bytes. Assumes nothing.
+-- A book in lent bytes: its words at the start of them; and what 25 tests of lent bytes. Assumes nothing.
 use Prim.Native.Nat.{ℕ}
 use mathlib.Core.Bool.{Bool, _&&_}
 use mathlib.Core.List.{List}
@@ -9,10 +9,10 @@ use Rattle.words.specs.Runs.{wordsAt, putWords}
 use Rattle.lists.specs.Same.{sameEntries}
 use Rattle.book.specs.declared.Book.{Book}
 use Rattle.book.specs.Book.{sound}
-use Rattle.layout.specs.Layout.{bookWords, bookIn}
+use Rattle.layout.specs.Layout.{bookLength, bookBytes, bookWords, bookIn}
 
 abbrev pub wordsOf : List ℕ → List ℤ
-wordsOf s = wordsAt s 0 7028
+wordsOf s = wordsAt s 0 bookLength
 
 -- the book that bytes hold
 abbrev pub bookOf : List ℕ → Book
@@ -24,9 +24,9 @@ putBook s b = putWords s 0 (bookWords b)
 
 -- the words are those that writing the book gives: every kind and every unused word by the layout
 abbrev pub laidOut : List ℕ → Bool
-laidOut s = sameEntries 7028 (wordsOf s) (bookWords (bookOf s))
+laidOut s = sameEntries bookLength (wordsOf s) (bookWords (bookOf s))
 
 -- "25 | C calls, before all others | lent book bytes too short, or … breaking a rule here (also in what the history holds to restore), or N or u not
 -- that of the records": bytes that pass
 unfoldable pub bytesFit : List ℕ → Bool
-bytesFit s = leb 56224 (length s) && laidOut s && sound (bookOf s)
+bytesFit s = leb bookBytes (length s) && laidOut s && sound (bookOf s)

@@ -21,7 +21,7 @@ use Rattle.book.specs.declared.Book.{Book}
 use Rattle.book.specs.Book.{sound}
 use Rattle.book.specs.Sound.{Sound, Sized, sound-parts, parts-sound}
 use Rattle.integers.specs.Tables.{length-tabulate}
-use Rattle.layout.specs.Layout.{bookWords, bookIn}
+use Rattle.layout.specs.Layout.{bookWords, bookIn, bookLength, bookBytes}
 use Rattle.layout.specs.BookWords.{length-book}
 use Rattle.layout.specs.ReadBack.{sound-sized, book-back}
 use Rattle.layout.specs.Laid.{sized-in}
@@ -31,20 +31,20 @@ use Rattle.layout.specs.Bytes.{wordsOf, bookOf, putBook, laidOut, bytesF
 -- ════ a book that was read: the lengths of its arrays, and what 25 has shown of it
 module _ (s : List ℕ) where
   pub read-sized : Sized (bookOf s)
-  read-sized = sized-in (wordsOf s) (length-words s 0 7028)
+  read-sized = sized-in (wordsOf s) (length-words s 0 bookLength)
 
   pub read-stations : length (bookOf s .network .stations) ≡ 32
   unfolding bookIn
   read-stations = length-tabulate 32 _
 
   module _ (e : bytesFit s ≡ true) where
-    parts : (leb 56224 (length s) ≡ true) × (laidOut s ≡ true) × (sound (bookOf s) ≡ true)
+    parts : (leb bookBytes (length s) ≡ true) × (laidOut s ≡ true) × (sound (bookOf s) ≡ true)
     unfolding bytesFit
     parts =
-        let two = and-left (leb 56224 (length s) && laidOut s) (sound (bookOf s)) e in
-        (and-left (leb 56224 (length s)) (laidOut s) two, and-right (leb 56224 (length s)) (laidOut s) two, and-right (leb 56224 (length s) && laidOut s) (sound (bookOf s)) e)
+        let two = and-left (leb bookBytes (length s) && laidOut s) (sound (bookOf s)) e in
+        (and-left (leb bookBytes (length s)) (laidOut s) two, and-right (leb bookBytes (length s)) (laidOut s) two, and-right (leb bookBytes (length s) && laidOut s) (sound (bookOf s)) e)
 
-    pub fits-room : 56224 ≤ length s
+    pub fits-room : bookBytes ≤ length s
     fits-room = leb-true _ _ (parts .0)
 
     pub fits-tested : sound (bookOf s) ≡ true
@@ -56,14 +56,14 @@ module _ (s : List ℕ) where
     -- bytes that pass are those that writing gives
     pub fits-words : wordsOf s ≡ bookWords (bookOf s)
     fits-words =
-        ext-getD (pos 0) _ _ (length-words s 0 7028 ∙ sym (length-book (bookOf s) read-sized))
-        (λ k l. eqZ-true _ _ (all-at 7028 _ k (parts .1) (subst (λ (n : ℕ). k < n) (length-words s 0 7028) l)))
+        ext-getD (pos 0) _ _ (length-words s 0 bookLength ∙ sym (length-book (bookOf s) read-sized))
+        (λ k l. eqZ-true _ _ (all-at bookLength _ k (parts .1) (subst (λ (n : ℕ). k < n) (length-words s 0 bookLength) l)))
 
     pub writes-same : Bytes s → putBook s (bookOf s) ≡ s
-    writes-same h = ap (putWords s 0) (sym fits-words) ∙ run-kept s 0 7028 h
+    writes-same h = ap (putWords s 0) (sym fits-words) ∙ run-kept s 0 bookLength h
 
 -- ════ a sound book written to bytes with room for it
-module _ (s : List ℕ) (b : Book) (o : Sound b) (long : length (b .network .stations) ≡ 32) (room : 56224 ≤ length s) where
+module _ (s : List ℕ) (b : Book) (o : Sound b) (long : length (b .network .stations) ≡ 32) (room : bookBytes ≤ length s) where
   words-back : wordsOf (putBook s b) ≡ bookWords b
   words-back =
       subst (λ (n : ℕ). wordsAt (putWords s 0 (bookWords b)) 0 n ≡ bookWords b) (length-book b (sound-sized b o))
@@ -77,10 +77,10 @@ module _ (s : List ℕ) (b : Book) (o : Sound b) (long : length (b .network .sta
   unfolding bytesFit
   writes-fit =
       and-both _ _
-      (and-both _ _ (le-leb _ _ (subst (λ (n : ℕ). 56224 ≤ n) (sym (length-run s 0 (bookWords b))) room))
-      (all-by 7028 _ (λ k h. eq-eqZ _ _ (ap (λ (l : List ℤ). getD l k (pos 0)) (words-back ∙ sym (ap bookWords writes-reads))))))
+      (and-both _ _ (le-leb _ _ (subst (λ (n : ℕ). bookBytes ≤ n) (sym (length-run s 0 (bookWords b))) room))
+      (all-by bookLength _ (λ k h. eq-eqZ _ _ (ap (λ (l : List ℤ). getD l k (pos 0)) (words-back ∙ sym (ap bookWords writes-reads))))))
       (ap sound writes-reads ∙ parts-sound b o)
 
   -- bytes beyond stay
-  pub writes-beyond : (j : ℕ) → 56224 ≤ j → getD (putBook s b) j 0 ≡ getD s j 0
+  pub writes-beyond : (j : ℕ) → bookBytes ≤ j → getD (putBook s b) j 0 ≡ getD s j 0
   writes-beyond j h = run-out s 0 (bookWords b) j (inr (omega (arith, length-book b (sound-sized b o))))

@@ -1,5 +1,6 @@
--- The layout of a book: its 7,028 words in order, and the book that 7,028 words give. docs/BOOK.md has each word's index and name. Assumes nothing.
+-- The layout of a book: where each part stands, its words in order, and the book that words give. docs/BOOK.md has each word's index and name. Assumes nothing.
 use Prim.Native.Nat.{ℕ, _+_, _*_}
+use mathlib.Core.Path.{_≡_, refl}
 use mathlib.Core.Bool.{cond}
 use mathlib.Core.List.{List, [], _∷_, _++_}
 use lib.Dec.{ltb}
@@ -10,7 +11,7 @@ use Rattle.words.specs.Signed.{signed, unsigned}
 use Rattle.network.specs.Stations.{stationAt, stationIn}
 use Rattle.network.specs.StationWords.{stationWords}
 use Rattle.network.specs.Records.{recordAt}
-use Rattle.network.specs.RecordWords.{recordWords, recordIn}
+use Rattle.network.specs.RecordWords.{recordLength, recordWords, recordIn}
 use Rattle.network.specs.declared.Network.{Network}
 use Rattle.network.specs.declared.Place.{Place}
 use Rattle.normals.specs.declared.Normals.{Normals}
@@ -20,12 +21,52 @@ use Rattle.book.specs.declared.Book.{Book}
 use Rattle.book.specs.Journal.{free}
 use Rattle.words.specs.Concat.{concatBelow}
 
+-- ════ where each part begins, counted in words from 0, and the lengths
+-- slots of the journal, and the words of each: the place, and the record to restore
+abbrev pub slots : ℕ
+slots = 64
+
+abbrev pub reversalLength : ℕ
+reversalLength = 1 + recordLength
+
+-- the station list follows the layout's number and the station count: 4 words a station
+abbrev pub stationsStart : ℕ
+stationsStart = 2
+
+abbrev pub placesStart : ℕ
+placesStart = stationsStart + 32 * 4
+
+-- the journal's counters: next, then held
+abbrev pub countsStart : ℕ
+countsStart = placesStart + 256 * recordLength
+
+abbrev pub entriesStart : ℕ
+entriesStart = countsStart + 2
+
+-- N, then u
+abbrev pub matrixStart : ℕ
+matrixStart = entriesStart + slots * reversalLength
+
+abbrev pub rightStart : ℕ
+rightStart = matrixStart + 48 * 48
+
+-- a book, in words and in bytes
+abbrev pub bookLength : ℕ
+bookLength = rightStart + 48
+
+abbrev pub bookBytes : ℕ
+bookBytes = 8 * bookLength
+
+-- the number that include/dombrelat.h gives a host
+pub book-bytes : bookBytes ≡ 56224
+book-bytes = refl
+
 -- ════ words of the parts
 -- four words a station, of the station s of the list, counted from 0; all 0 beyond the count
 unfoldable pub stationPart : Network → ℕ → List ℤ
 stationPart net s = cond (ltb s (net .count)) (stationWords (stationAt (net .stations) s)) (pos 0 ∷ pos 0 ∷ pos 0 ∷ pos 0 ∷ [])
 
--- 15 words a reversal: the place counted from 0, and the record to restore
+-- the place counted from 0, and the record to restore
 unfoldable pub reversalWords : Reversal → List ℤ
 reversalWords u = signed (u .place) ∷ recordWords (u .prior)
 
@@ -44,7 +85,7 @@ abbrev pub countsPart : Book → List ℤ
 countsPart b = signed (b .journal .next) ∷ signed (b .journal .held) ∷ []
 
 abbrev pub entriesPart : Book → List ℤ
-entriesPart b = concatBelow 64 (λ k. reversalWords (getD (b .journal .entries) k free))
+entriesPart b = concatBelow slots (λ k. reversalWords (getD (b .journal .entries) k free))
 
 unfoldable pub bookWords : Book → List ℤ
 bookWords b = headWords b ++ (stationsPart b ++ (placesPart b ++ (countsPart b ++ (entriesPart b ++ (b .normals .matrix ++ b .normals .right)))))
@@ -58,22 +99,22 @@ abbrev pub reversalIn : List ℤ → ℕ → Reversal
 reversalIn w at = record { place = countIn w at; prior = recordIn w (at + 1) }
 
 abbrev pub networkIn : List ℤ → Network
-networkIn w = record { count = countIn w 1; stations = tabulate 32 (stationIn (take 128 (drop 2 w))) }
+networkIn w = record { count = countIn w 1; stations = tabulate 32 (stationIn (take 128 (drop stationsStart w))) }
 
 abbrev pub placeIn : List ℤ → ℕ → Place
-placeIn w p = record { entry = recordIn w (130 + p * 14) }
+placeIn w p = record { entry = recordIn w (placesStart + p * recordLength) }
 
 abbrev pub placesIn : List ℤ → List Place
 placesIn w = tabulate 256 (placeIn w)
 
 abbrev pub entriesIn : List ℤ → List Reversal
-entriesIn w = tabulate 64 (λ k. reversalIn w (3716 + k * 15))
+entriesIn w = tabulate slots (λ k. reversalIn w (entriesStart + k * reversalLength))
 
 abbrev pub journalIn : List ℤ → Journal
-journalIn w = record { entries = entriesIn w; next = countIn w 3714; held = countIn w 3715 }
+journalIn w = record { entries = entriesIn w; next = countIn w countsStart; held = countIn w (countsStart + 1) }
 
 abbrev pub normalsIn : List ℤ → Normals
-normalsIn w = record { matrix = take 2304 (drop 4676 w); right = take 48 (drop 6980 w) }
+normalsIn w = record { matrix = take 2304 (drop matrixStart w); right = take 48 (drop rightStart w) }
 
 unfoldable pub bookIn : List ℤ → Book
 bookIn w = record { network = networkIn w; places = placesIn w; journal = journalIn w; normals = normalsIn w }

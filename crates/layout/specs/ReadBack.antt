@@ -18,7 +18,7 @@ use Rattle.words.specs.SignedLaws.{eqZ-true, unsigned-signed}
 use Rattle.lists.specs.All.{all-at}
 use Rattle.network.specs.Stations.{blank, stationAt, kindAt, kindOf, stationIn, countFits, coordinatesFit, unknownsFit, isKnown, isBlank, blankBeyond, networkFits}
 use Rattle.network.specs.Records.{vacant, recordAt}
-use Rattle.network.specs.RecordWords.{recordIn}
+use Rattle.network.specs.RecordWords.{recordIn, recordLength}
 use Rattle.network.specs.Rules.{isEmpty, recordFits}
 use Rattle.network.specs.RuleLaws.{network-few, empty-is, fits-empty}
 use Rattle.network.specs.declared.Kind.{Kind}
@@ -36,10 +36,10 @@ use Rattle.words.specs.Concat.{concatBelow-at}
 use Rattle.layout.specs.BookWords.{length-station, toEntries, length-toEntries, length-toMatrix, at-matrix, at-right, place-word, next-word, held-word, slot-word, stations-part}
 use Rattle.network.specs.StationWords.{stationWords, kind-back}
 use Rattle.network.specs.RecordWordLaws.{record-back}
-use Rattle.layout.specs.Layout.{stationPart, reversalWords, stationsPart, bookWords, reversalIn, networkIn, placeIn, placesIn, entriesIn, journalIn, normalsIn, bookIn}
+use Rattle.layout.specs.Layout.{stationPart, reversalWords, stationsPart, bookWords, reversalIn, networkIn, placeIn, placesIn, entriesIn, journalIn, normalsIn, bookIn, reversalLength, placesStart, countsStart, entriesStart, matrixStart, rightStart, slots}
 
 -- ════ a reversal
-reversal-back : (w : List ℤ) (at : ℕ) (u : Reversal) → ((j : ℕ) → j < 15 → getD w (at + j) (pos 0) ≡ getD (reversalWords u) j (pos 0)) → u .place < 2 ^ 64 → reversalIn w at ≡ u
+reversal-back : (w : List ℤ) (at : ℕ) (u : Reversal) → ((j : ℕ) → j < reversalLength → getD w (at + j) (pos 0) ≡ getD (reversalWords u) j (pos 0)) → u .place < 2 ^ 64 → reversalIn w at ≡ u
 unfolding reversalWords
 reversal-back w at u h small =
     let first : unsigned (getD w at (pos 0)) ≡ u .place =
@@ -53,7 +53,7 @@ pub record Restores (net : Network) (u : Reversal) : Type 0 where
   pub inside : u .place < 256
   pub fits : recordFits net (u .prior) ≡ true
 
-held-restores : (net : Network) (entries : List Reversal) (n slot t : ℕ) (at : ℕ → Record) → slot < 64 → t < 64 → (slot + 63 - t) % 64 < n
+held-restores : (net : Network) (entries : List Reversal) (n slot t : ℕ) (at : ℕ → Record) → slot < slots → t < slots → (slot + 63 - t) % slots < n
     → undoable net at (entriesBefore entries slot n) ≡ true → Restores net (getD entries t free)
 unfolding entriesBefore
 held-restores net entries zero slot t at s h l e = absurd (omega arith)
@@ -74,10 +74,10 @@ free-restores net u e =
       fits = ap (recordFits net) (empty-is (u .prior) (and-right (eqb (u .place) 0) (isEmpty (u .prior)) e)) ∙ fits-empty net;
     }
 
-pub entry-restores : (b : Book) → Sound b → (k : ℕ) → k < 64 → Restores (b .network) (getD (b .journal .entries) k free)
-entry-restores b o k h = go (decLt ((b .journal .next + 63 - k) % 64) (b .journal .held))
+pub entry-restores : (b : Book) → Sound b → (k : ℕ) → k < slots → Restores (b .network) (getD (b .journal .entries) k free)
+entry-restores b o k h = go (decLt ((b .journal .next + 63 - k) % slots) (b .journal .held))
   where
-    go : Dec ((b .journal .next + 63 - k) % 64 < b .journal .held) → Restores (b .network) (getD (b .journal .entries) k free)
+    go : Dec ((b .journal .next + 63 - k) % slots < b .journal .held) → Restores (b .network) (getD (b .journal .entries) k free)
     go (yes l) = held-restores (b .network) (b .journal .entries) (b .journal .held) (b .journal .next) k (recordAt (b .places)) (o .journal .next) h l (o .undoes)
     go (no l) = free-restores (b .network) _ (o .journal .blank k h (omega arith))
 
@@ -171,33 +171,33 @@ module _ (b : Book) (o : Sound b) (long : length (b .network .stations) ≡ 32) 
   places-back : placesIn w ≡ b .places
   places-back =
       sym (is-tabulate 256 (placeIn w) (b .places) vacant (o .places)
-      (λ p h. ap (λ (r : Record). record { entry = r }) (sym (record-back w (130 + p * 14) (recordAt (b .places) p)
+      (λ p h. ap (λ (r : Record). record { entry = r }) (sym (record-back w (placesStart + p * recordLength) (recordAt (b .places) p)
       (λ j l. place-word b sized p j h l)))))
 
   entries-back : entriesIn w ≡ b .journal .entries
   entries-back =
-      sym (is-tabulate 64 (λ k. reversalIn w (3716 + k * 15)) (b .journal .entries) free (o .entries)
-      (λ k h. sym (reversal-back w (3716 + k * 15) (getD (b .journal .entries) k free)
+      sym (is-tabulate slots (λ k. reversalIn w (entriesStart + k * reversalLength)) (b .journal .entries) free (o .entries)
+      (λ k h. sym (reversal-back w (entriesStart + k * reversalLength) (getD (b .journal .entries) k free)
       (λ j l. slot-word b sized k j h l)
       (let q = entry-restores b o k h .inside in omega arith))))
 
   journal-back : journalIn w ≡ b .journal
   journal-back =
-      let next : unsigned (getD w 3714 (pos 0)) ≡ b .journal .next =
+      let next : unsigned (getD w countsStart (pos 0)) ≡ b .journal .next =
       ap unsigned (next-word b sized) ∙ unsigned-signed (b .journal .next) (let q = o .journal .next in omega arith) in
-      let held : unsigned (getD w 3715 (pos 0)) ≡ b .journal .held =
+      let held : unsigned (getD w (countsStart + 1) (pos 0)) ≡ b .journal .held =
       ap unsigned (held-word b sized) ∙ unsigned-signed (b .journal .held) (let q = o .journal .held in omega arith) in
       λ i. record { entries = entries-back i; next = next i; held = held i }
 
   normals-back : normalsIn w ≡ b .normals
   normals-back =
-      let matrix : take 2304 (drop 4676 w) ≡ b .normals .matrix =
-      ap (λ (x : List ℤ). take 2304 (drop 4676 x)) (at-matrix b sized)
-      ∙ ap (take 2304) (drop-at (toEntries b sized) (b .normals .matrix ++ b .normals .right) 4676 (length-toEntries b sized))
+      let matrix : take 2304 (drop matrixStart w) ≡ b .normals .matrix =
+      ap (λ (x : List ℤ). take 2304 (drop matrixStart x)) (at-matrix b sized)
+      ∙ ap (take 2304) (drop-at (toEntries b sized) (b .normals .matrix ++ b .normals .right) matrixStart (length-toEntries b sized))
       ∙ take-at (b .normals .matrix) (b .normals .right) 2304 (sized .matrix) in
-      let right : take 48 (drop 6980 w) ≡ b .normals .right =
-      ap (λ (x : List ℤ). take 48 (drop 6980 x)) (at-right b sized)
-      ∙ ap (take 48) (drop-at (toEntries b sized ++ b .normals .matrix) (b .normals .right) 6980 (length-toMatrix b sized))
+      let right : take 48 (drop rightStart w) ≡ b .normals .right =
+      ap (λ (x : List ℤ). take 48 (drop rightStart x)) (at-right b sized)
+      ∙ ap (take 48) (drop-at (toEntries b sized ++ b .normals .matrix) (b .normals .right) rightStart (length-toMatrix b sized))
       ∙ take-all 48 (b .normals .right) (omega (arith, sized .right)) in
       λ i. record { matrix = matrix i; right = right i }
 

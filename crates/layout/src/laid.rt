@@ -1,16 +1,21 @@
 // What 25 tests of bytes: the layout, part by part, and then the book's rules.
+use super::offsets::Layout;
 use super::reading;
 use super::writing::station_part;
+use network::Record;
+use network::Unit;
 use normals::Normals;
 ghost use mathlib.Core.Path.{_≡_};
 ghost use Prim.Native.Nat.{ℕ, _+_, _*_, _≤_, _<_};
 ghost use lib.ListN.{length};
 ghost use Rattle.lists.specs.All.{allBelow};
+ghost use Rattle.network.specs.RecordWords.{recordLength};
+ghost use Rattle.layout.specs.Layout.{bookLength, bookBytes};
 ghost use Rattle.layout.specs.Laid.{recordLaid, stationLaid};
 ghost use Rattle.layout.specs.Bytes.{wordsOf, laidOut, bytesFit};
 
 fn record_laid(s: &[u8], k: usize) -> bool
-    requires { ⌜ (56224 ≤ length (now s)) × (k + 14 ≤ 7028) ⌝ }
+    requires { ⌜ (bookBytes ≤ length (now s)) × (k + recordLength ≤ bookLength) ⌝ }
     ensures { λ r. ⌜ r ≡ recordLaid (wordsOf (now (s .entry))) k ⌝ }
 {
     let w = reading::record_at(s, k);
@@ -21,7 +26,7 @@ fn record_laid(s: &[u8], k: usize) -> bool
 
 // n records, `step` words from one to the next.
 fn records_laid(s: &[u8], at: usize, step: usize, n: usize) -> bool
-    requires { ⌜ (56224 ≤ length (now s)) × (n ≤ 256) × ((p : ℕ) → p < n → at + p * step + 14 ≤ 7028) ⌝ }
+    requires { ⌜ (bookBytes ≤ length (now s)) × (n ≤ 256) × ((p : ℕ) → p < n → at + p * step + recordLength ≤ bookLength) ⌝ }
     ensures { λ r. ⌜ r ≡ allBelow n (λ p. recordLaid (wordsOf (now (s .entry))) (at + p * step)) ⌝ }
 {
     let mut p: usize = 0;
@@ -35,7 +40,7 @@ fn records_laid(s: &[u8], at: usize, step: usize, n: usize) -> bool
 }
 
 fn stations_laid(s: &[u8]) -> bool
-    requires { ⌜ 56224 ≤ length (now s) ⌝ }
+    requires { ⌜ bookBytes ≤ length (now s) ⌝ }
     ensures { λ r. ⌜ r ≡ allBelow 32 (stationLaid (wordsOf (now (s .entry)))) ⌝ }
 {
     let net = reading::network_in(s);
@@ -57,19 +62,20 @@ fn stations_laid(s: &[u8]) -> bool
 }
 
 fn laid_out(s: &[u8]) -> bool
-    requires { ⌜ 56224 ≤ length (now s) ⌝ }
+    requires { ⌜ bookBytes ≤ length (now s) ⌝ }
     ensures { λ r. ⌜ r ≡ laidOut (now (s .entry)) ⌝ }
 {
     let first = reading::word_in(s, 0);
+    let prior = Layout::ENTRIES_START + 1;
     words::same(first, 1)
         & stations_laid(s)
-        & records_laid(s, 130, 14, 256)
-        & records_laid(s, 3717, 15, 64)
+        & records_laid(s, Layout::PLACES_START, Record::LENGTH, Unit::PLACES)
+        & records_laid(s, prior, Layout::REVERSAL_LENGTH, Layout::SLOTS)
 }
 
 // Bytes long enough for a book pass the rest of what 25 tests.
 pub fn fits(s: &[u8]) -> bool
-    requires { ⌜ 56224 ≤ length (now s) ⌝ }
+    requires { ⌜ bookBytes ≤ length (now s) ⌝ }
     ensures { λ r. ⌜ r ≡ bytesFit (now (s .entry)) ⌝ }
 {
     if !laid_out(s) {

@@ -1,4 +1,5 @@
 // One edit in place: bytes that hold a book are changed where the edited book differs.
+use super::offsets::Layout;
 use super::reading;
 use super::writing;
 use book::Reversal;
@@ -9,6 +10,7 @@ ghost use Prim.Native.Nat.{_<_};
 ghost use lib.ListN.{set};
 ghost use Rattle.network.specs.Rules.{recordFits};
 ghost use Rattle.book.specs.Book.{withEntry, withRecord};
+ghost use Rattle.layout.specs.Layout.{slots};
 ghost use Rattle.layout.specs.Bytes.{bookOf, putBook, bytesFit};
 ghost use Rattle.layout.specs.BookPatches.{withNormals};
 
@@ -27,11 +29,11 @@ fn exchange(s: &mut [u8], i: usize, r: Record)
 
 // The book's core edit: r at place i, N and u with it, u in a slot of the journal, and its counters.
 pub fn put(s: &mut [u8], i: usize, r: Record, slot: usize, u: Reversal, next: usize, held: usize)
-    requires { ⌜ (bytesFit (now s) ≡ true) × (i < 256) × (recordFits (bookOf (now s) .network) r ≡ true) × (slot < 64) ⌝ }
+    requires { ⌜ (bytesFit (now s) ≡ true) × (i < 256) × (recordFits (bookOf (now s) .network) r ≡ true) × (slot < slots) ⌝ }
     ensures { λ _. ⌜ now (s .exit) ≡ putBook (now (s .entry)) (withEntry (bookOf (now (s .entry))) i r (record { entries = set (bookOf (now (s .entry)) .journal .entries) slot u; next = next; held = held })) ⌝ }
 {
     exchange(s, i, r);
-    writing::put_record(s, 130 + i * 14, r);
-    writing::put_reversal(s, 3716 + slot * 15, u);
+    writing::put_record(s, Layout::PLACES_START + i * Record::LENGTH, r);
+    writing::put_reversal(s, Layout::ENTRIES_START + slot * Layout::REVERSAL_LENGTH, u);
     writing::put_counts(s, next, held);
 }

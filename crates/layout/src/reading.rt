@@ -1,4 +1,5 @@
 // The book that bytes hold, part by part, for any bytes that are long enough.
+use super::offsets::Layout;
 use book::Book;
 use book::Journal;
 use book::Reversal;
@@ -14,19 +15,19 @@ ghost use Rattle.words.specs.Runs.{wordsAt};
 ghost use Rattle.network.specs.Records.{recordAt};
 ghost use Rattle.network.specs.RecordWords as words;
 ghost use Rattle.book.specs.Journal.{free};
-ghost use Rattle.layout.specs.Layout.{countIn, placesIn, entriesIn, journalIn};
+ghost use Rattle.layout.specs.Layout.{countIn, placesIn, entriesIn, journalIn, slots, stationsStart, bookLength, bookBytes};
 ghost use Rattle.layout.specs.Bytes.{wordsOf, bookOf};
 
 // Word k.
 pub fn word_in(s: &[u8], k: usize) -> i64
-    requires { ⌜ (56224 ≤ length (now s)) × (k < 7028) ⌝ }
+    requires { ⌜ (bookBytes ≤ length (now s)) × (k < bookLength) ⌝ }
     ensures { λ r. ⌜ r ≡ getD (wordsOf (now (s .entry))) k (pos 0) ⌝ }
 {
     words::word_at(s, 8 * k)
 }
 
 fn count_in(s: &[u8], k: usize) -> usize
-    requires { ⌜ (56224 ≤ length (now s)) × (k < 7028) ⌝ }
+    requires { ⌜ (bookBytes ≤ length (now s)) × (k < bookLength) ⌝ }
     ensures { λ r. ⌜ r ≡ countIn (wordsOf (now (s .entry))) k ⌝ }
 {
     words::to_unsigned(word_in(s, k)) as usize
@@ -34,31 +35,31 @@ fn count_in(s: &[u8], k: usize) -> usize
 
 // The journal's counters.
 pub fn next_in(s: &[u8]) -> usize
-    requires { ⌜ 56224 ≤ length (now s) ⌝ }
+    requires { ⌜ bookBytes ≤ length (now s) ⌝ }
     ensures { λ r. ⌜ r ≡ bookOf (now (s .entry)) .journal .next ⌝ }
 {
-    count_in(s, 3714)
+    count_in(s, Layout::COUNTS_START)
 }
 
 pub fn held_in(s: &[u8]) -> usize
-    requires { ⌜ 56224 ≤ length (now s) ⌝ }
+    requires { ⌜ bookBytes ≤ length (now s) ⌝ }
     ensures { λ r. ⌜ r ≡ bookOf (now (s .entry)) .journal .held ⌝ }
 {
-    count_in(s, 3715)
+    count_in(s, Layout::COUNTS_START + 1)
 }
 
 // The words of the station list.
 pub fn stations_at(s: &[u8]) -> [i64; 128]
-    requires { ⌜ 56224 ≤ length (now s) ⌝ }
-    ensures { λ r. ⌜ r ≡ take 128 (drop 2 (wordsOf (now (s .entry)))) ⌝ }
+    requires { ⌜ bookBytes ≤ length (now s) ⌝ }
+    ensures { λ r. ⌜ r ≡ take 128 (drop stationsStart (wordsOf (now (s .entry)))) ⌝ }
 {
     let mut w = [0i64; 128];
-    words::read_words(s, 16, &mut w);
+    words::read_words(s, 8 * Layout::STATIONS_START, &mut w);
     w
 }
 
 pub fn network_in(s: &[u8]) -> Network
-    requires { ⌜ 56224 ≤ length (now s) ⌝ }
+    requires { ⌜ bookBytes ≤ length (now s) ⌝ }
     ensures { λ r. ⌜ r ≡ bookOf (now (s .entry)) .network ⌝ }
 {
     let count = count_in(s, 1);
@@ -68,18 +69,18 @@ pub fn network_in(s: &[u8]) -> Network
     Network { count, stations }
 }
 
-// The 14 words of a record, the first of them word k.
-pub fn record_at(s: &[u8], k: usize) -> [i64; 14]
-    requires { ⌜ (56224 ≤ length (now s)) × (k + 14 ≤ 7028) ⌝ }
-    ensures { λ r. ⌜ r ≡ wordsAt (now (s .entry)) (8 * k) 14 ⌝ }
+// The words of a record, the first of them word k.
+pub fn record_at(s: &[u8], k: usize) -> [i64; Record::LENGTH]
+    requires { ⌜ (bookBytes ≤ length (now s)) × (k + words.recordLength ≤ bookLength) ⌝ }
+    ensures { λ r. ⌜ r ≡ wordsAt (now (s .entry)) (8 * k) words.recordLength ⌝ }
 {
-    let mut w = [0i64; 14];
+    let mut w = [0i64; Record::LENGTH];
     words::read_words(s, 8 * k, &mut w);
     w
 }
 
 fn entry_in(s: &[u8], k: usize) -> Record
-    requires { ⌜ (56224 ≤ length (now s)) × (k + 14 ≤ 7028) ⌝ }
+    requires { ⌜ (bookBytes ≤ length (now s)) × (k + words.recordLength ≤ bookLength) ⌝ }
     ensures { λ r. ⌜ r ≡ words.recordIn (wordsOf (now (s .entry))) k ⌝ }
 {
     let w = record_at(s, k);
@@ -88,18 +89,18 @@ fn entry_in(s: &[u8], k: usize) -> Record
 
 // The record at a place, counted from 0; an empty one beyond the last.
 pub fn record_in(s: &[u8], p: usize) -> Record
-    requires { ⌜ 56224 ≤ length (now s) ⌝ }
+    requires { ⌜ bookBytes ≤ length (now s) ⌝ }
     ensures { λ r. ⌜ r ≡ recordAt (bookOf (now (s .entry)) .places) p ⌝ }
 {
     if p < 256 {
-        let r = entry_in(s, 130 + p * 14);
+        let r = entry_in(s, Layout::PLACES_START + p * Record::LENGTH);
         return r;
     }
     Record::Empty
 }
 
 pub fn places_in(s: &[u8]) -> [Place; 256]
-    requires { ⌜ 56224 ≤ length (now s) ⌝ }
+    requires { ⌜ bookBytes ≤ length (now s) ⌝ }
     ensures { λ r. ⌜ r ≡ placesIn (wordsOf (now (s .entry))) ⌝ }
 {
     let none = Record::Empty;
@@ -107,7 +108,7 @@ pub fn places_in(s: &[u8]) -> [Place; 256]
     let mut places = [vacant; 256];
     let mut p: usize = 0;
     while p < 256 {
-        let r = entry_in(s, 130 + p * 14);
+        let r = entry_in(s, Layout::PLACES_START + p * Record::LENGTH);
         places[p] = Place { entry: r };
         p += 1;
     }
@@ -116,17 +117,17 @@ pub fn places_in(s: &[u8]) -> [Place; 256]
 
 // What slot k of the journal holds.
 pub fn slot_in(s: &[u8], k: usize) -> Reversal
-    requires { ⌜ (56224 ≤ length (now s)) × (k < 64) ⌝ }
+    requires { ⌜ (bookBytes ≤ length (now s)) × (k < slots) ⌝ }
     ensures { λ r. ⌜ r ≡ getD (bookOf (now (s .entry)) .journal .entries) k free ⌝ }
 {
-    let at = 3716 + k * 15;
+    let at = Layout::ENTRIES_START + k * Layout::REVERSAL_LENGTH;
     let place = count_in(s, at);
     let prior = entry_in(s, at + 1);
     Reversal { place, prior }
 }
 
-fn entries_in(s: &[u8]) -> [Reversal; 64]
-    requires { ⌜ 56224 ≤ length (now s) ⌝ }
+fn entries_in(s: &[u8]) -> [Reversal; Layout::SLOTS]
+    requires { ⌜ bookBytes ≤ length (now s) ⌝ }
     ensures { λ r. ⌜ r ≡ entriesIn (wordsOf (now (s .entry))) ⌝ }
 {
     let none = Record::Empty;
@@ -134,9 +135,9 @@ fn entries_in(s: &[u8]) -> [Reversal; 64]
         place: 0,
         prior: none,
     };
-    let mut entries = [free; 64];
+    let mut entries = [free; Layout::SLOTS];
     let mut k: usize = 0;
-    while k < 64 {
+    while k < Layout::SLOTS {
         let u = slot_in(s, k);
         entries[k] = u;
         k += 1;
@@ -145,7 +146,7 @@ fn entries_in(s: &[u8]) -> [Reversal; 64]
 }
 
 pub fn journal_in(s: &[u8]) -> Journal
-    requires { ⌜ 56224 ≤ length (now s) ⌝ }
+    requires { ⌜ bookBytes ≤ length (now s) ⌝ }
     ensures { λ r. ⌜ r ≡ journalIn (wordsOf (now (s .entry))) ⌝ }
 {
     let entries = entries_in(s);
@@ -158,26 +159,26 @@ pub fn journal_in(s: &[u8]) -> Journal
     }
 }
 
-pub fn matrix_in(s: &[u8]) -> [i64; 2304]
-    requires { ⌜ 56224 ≤ length (now s) ⌝ }
+pub fn matrix_in(s: &[u8]) -> [i64; Normals::ENTRIES]
+    requires { ⌜ bookBytes ≤ length (now s) ⌝ }
     ensures { λ r. ⌜ r ≡ bookOf (now (s .entry)) .normals .matrix ⌝ }
 {
-    let mut matrix = [0i64; 2304];
-    words::read_words(s, 37408, &mut matrix);
+    let mut matrix = [0i64; Normals::ENTRIES];
+    words::read_words(s, 8 * Layout::MATRIX_START, &mut matrix);
     matrix
 }
 
-pub fn right_in(s: &[u8]) -> [i64; 48]
-    requires { ⌜ 56224 ≤ length (now s) ⌝ }
+pub fn right_in(s: &[u8]) -> [i64; Normals::ROW]
+    requires { ⌜ bookBytes ≤ length (now s) ⌝ }
     ensures { λ r. ⌜ r ≡ bookOf (now (s .entry)) .normals .right ⌝ }
 {
-    let mut right = [0i64; 48];
-    words::read_words(s, 55840, &mut right);
+    let mut right = [0i64; Normals::ROW];
+    words::read_words(s, 8 * Layout::RIGHT_START, &mut right);
     right
 }
 
 pub fn book_in(s: &[u8]) -> Book
-    requires { ⌜ 56224 ≤ length (now s) ⌝ }
+    requires { ⌜ bookBytes ≤ length (now s) ⌝ }
     ensures { λ r. ⌜ r ≡ bookOf (now (s .entry)) ⌝ }
 {
     let network = network_in(s);

@@ -1,10 +1,12 @@
 // The words of a book put into bytes: each function puts one part where it stands.
+use super::offsets::Layout;
 use book::Book;
 use book::Reversal;
 use network::Network;
 use network::Place;
 use network::Record;
 use network::Station;
+use normals::Normals;
 ghost use mathlib.Core.Path.{_≡_};
 ghost use mathlib.Core.Bool.{cond};
 ghost use mathlib.Core.List.{[], _∷_};
@@ -15,11 +17,11 @@ ghost use lib.ListN.{length, getD};
 ghost use Rattle.words.specs.Signed.{signed};
 ghost use Rattle.words.specs.Runs.{putWords};
 ghost use Rattle.network.specs.Records.{recordAt};
-ghost use Rattle.network.specs.RecordWords.{recordWords};
+ghost use Rattle.network.specs.RecordWords.{recordWords, recordLength};
 ghost use Rattle.book.specs.Journal.{free};
 ghost use Rattle.words.specs.Concat.{concatBelow};
 ghost use Rattle.network.specs.StationWords.{stationWords};
-ghost use Rattle.layout.specs.Layout.{stationPart, reversalWords};
+ghost use Rattle.layout.specs.Layout.{stationPart, reversalWords, slots, reversalLength, stationsStart, placesStart, countsStart, entriesStart, matrixStart, rightStart, bookLength, bookBytes};
 ghost use Rattle.layout.specs.Bytes.{putBook};
 
 // The words of station k, which is x, of a list of `count`: 0 beyond it.
@@ -33,8 +35,8 @@ pub fn station_part(count: usize, k: usize, x: Station) -> [i64; 4]
 }
 
 fn put_stations(s: &mut [u8], net: Network)
-    requires { ⌜ 56224 ≤ length (now s) ⌝ }
-    ensures { λ _. ⌜ now (s .exit) ≡ putWords (now (s .entry)) 16 (concatBelow 32 (stationPart net)) ⌝ }
+    requires { ⌜ bookBytes ≤ length (now s) ⌝ }
+    ensures { λ _. ⌜ now (s .exit) ≡ putWords (now (s .entry)) (8 * stationsStart) (concatBelow 32 (stationPart net)) ⌝ }
 {
     let count = net.count;
     let stations = net.stations;
@@ -42,14 +44,15 @@ fn put_stations(s: &mut [u8], net: Network)
     while k < 32 {
         let x = stations[k];
         let v = station_part(count, k, x);
-        words::write_words(s, 16 + k * 32, &v);
+        let at = Layout::STATIONS_START + k * 4;
+        words::write_words(s, 8 * at, &v);
         k += 1;
     }
 }
 
 // A record, its first word word k.
 pub fn put_record(s: &mut [u8], k: usize, r: Record)
-    requires { ⌜ (56224 ≤ length (now s)) × (k + 14 ≤ 7028) ⌝ }
+    requires { ⌜ (bookBytes ≤ length (now s)) × (k + recordLength ≤ bookLength) ⌝ }
     ensures { λ _. ⌜ now (s .exit) ≡ putWords (now (s .entry)) (8 * k) (recordWords r) ⌝ }
 {
     let v = network::record_words(r);
@@ -57,14 +60,14 @@ pub fn put_record(s: &mut [u8], k: usize, r: Record)
 }
 
 fn put_places(s: &mut [u8], places: [Place; 256])
-    requires { ⌜ 56224 ≤ length (now s) ⌝ }
-    ensures { λ _. ⌜ now (s .exit) ≡ putWords (now (s .entry)) 1040 (concatBelow 256 (λ p. recordWords (recordAt places p))) ⌝ }
+    requires { ⌜ bookBytes ≤ length (now s) ⌝ }
+    ensures { λ _. ⌜ now (s .exit) ≡ putWords (now (s .entry)) (8 * placesStart) (concatBelow 256 (λ p. recordWords (recordAt places p))) ⌝ }
 {
     let mut p: usize = 0;
     while p < 256 {
         let q = places[p];
         let r = q.entry;
-        put_record(s, 130 + p * 14, r);
+        put_record(s, Layout::PLACES_START + p * Record::LENGTH, r);
         p += 1;
     }
 }
@@ -77,7 +80,7 @@ fn count_word(n: usize) -> i64
 
 // What a slot of the journal holds, its first word word k.
 pub fn put_reversal(s: &mut [u8], k: usize, u: Reversal)
-    requires { ⌜ (56224 ≤ length (now s)) × (k + 15 ≤ 7028) ⌝ }
+    requires { ⌜ (bookBytes ≤ length (now s)) × (k + reversalLength ≤ bookLength) ⌝ }
     ensures { λ _. ⌜ now (s .exit) ≡ putWords (now (s .entry)) (8 * k) (reversalWords u) ⌝ }
 {
     let place = count_word(u.place);
@@ -86,21 +89,21 @@ pub fn put_reversal(s: &mut [u8], k: usize, u: Reversal)
     put_record(s, k + 1, r);
 }
 
-fn put_entries(s: &mut [u8], entries: [Reversal; 64])
-    requires { ⌜ 56224 ≤ length (now s) ⌝ }
-    ensures { λ _. ⌜ now (s .exit) ≡ putWords (now (s .entry)) 29728 (concatBelow 64 (λ k. reversalWords (getD entries k free))) ⌝ }
+fn put_entries(s: &mut [u8], entries: [Reversal; Layout::SLOTS])
+    requires { ⌜ bookBytes ≤ length (now s) ⌝ }
+    ensures { λ _. ⌜ now (s .exit) ≡ putWords (now (s .entry)) (8 * entriesStart) (concatBelow slots (λ k. reversalWords (getD entries k free))) ⌝ }
 {
     let mut k: usize = 0;
-    while k < 64 {
+    while k < Layout::SLOTS {
         let u = entries[k];
-        put_reversal(s, 3716 + k * 15, u);
+        put_reversal(s, Layout::ENTRIES_START + k * Layout::REVERSAL_LENGTH, u);
         k += 1;
     }
 }
 
 // Two words, the first of them word k.
 fn put_pair(s: &mut [u8], k: usize, a: i64, b: i64)
-    requires { ⌜ (56224 ≤ length (now s)) × (k + 2 ≤ 7028) ⌝ }
+    requires { ⌜ (bookBytes ≤ length (now s)) × (k + 2 ≤ bookLength) ⌝ }
     ensures { λ _. ⌜ now (s .exit) ≡ putWords (now (s .entry)) (8 * k) (a ∷ b ∷ []) ⌝ }
 {
     words::put_word(s, 8 * k, a);
@@ -109,26 +112,26 @@ fn put_pair(s: &mut [u8], k: usize, a: i64, b: i64)
 
 // The journal's counters.
 pub fn put_counts(s: &mut [u8], next: usize, held: usize)
-    requires { ⌜ 56224 ≤ length (now s) ⌝ }
-    ensures { λ _. ⌜ now (s .exit) ≡ putWords (now (s .entry)) 29712 (signed next ∷ signed held ∷ []) ⌝ }
+    requires { ⌜ bookBytes ≤ length (now s) ⌝ }
+    ensures { λ _. ⌜ now (s .exit) ≡ putWords (now (s .entry)) (8 * countsStart) (signed next ∷ signed held ∷ []) ⌝ }
 {
     let n = count_word(next);
     let h = count_word(held);
-    put_pair(s, 3714, n, h);
+    put_pair(s, Layout::COUNTS_START, n, h);
 }
 
 // N and u.
-pub fn put_normals(s: &mut [u8], matrix: &[i64; 2304], right: &[i64; 48])
-    requires { ⌜ (56224 ≤ length (now s)) × (length (now matrix) ≡ 2304) × (length (now right) ≡ 48) ⌝ }
-    ensures { λ _. ⌜ now (s .exit) ≡ putWords (putWords (now (s .entry)) 37408 (now (matrix .entry))) 55840 (now (right .entry)) ⌝ }
+pub fn put_normals(s: &mut [u8], matrix: &[i64; Normals::ENTRIES], right: &[i64; Normals::ROW])
+    requires { ⌜ (bookBytes ≤ length (now s)) × (length (now matrix) ≡ 2304) × (length (now right) ≡ 48) ⌝ }
+    ensures { λ _. ⌜ now (s .exit) ≡ putWords (putWords (now (s .entry)) (8 * matrixStart) (now (matrix .entry))) (8 * rightStart) (now (right .entry)) ⌝ }
 {
-    words::write_words(s, 37408, matrix);
-    words::write_words(s, 55840, right);
+    words::write_words(s, 8 * Layout::MATRIX_START, matrix);
+    words::write_words(s, 8 * Layout::RIGHT_START, right);
 }
 
 // A book at the start of bytes.
 pub fn write_book(s: &mut [u8], book: Book)
-    requires { ⌜ 56224 ≤ length (now s) ⌝ }
+    requires { ⌜ bookBytes ≤ length (now s) ⌝ }
     ensures { λ _. ⌜ now (s .exit) ≡ putBook (now (s .entry)) book ⌝ }
 {
     let net = book.network;

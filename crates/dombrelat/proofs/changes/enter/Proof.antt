@@ -5,12 +5,13 @@ use native.Mathlib.Omega.{arith}
 use lib.ListN.{length}
 use Rattle.layout.specs.Bytes.{bookOf}
 use Rattle.layout.specs.CodecLaws.{fits-room, fits-sound}
+use Rattle.layout.specs.Layout.{bookBytes}
 use Rattle.dombrelat.proofs.Changed.{entered}
 use borrow.Author.Needs.{needs}
 use Rattle.dombrelat.proofs.changes.enter.Statement.{statement}
 use Rattle.dombrelat.proofs.changes.enter.Tie as tie
 
-room : (s : tie.Start) → 56224 ≤ length (s .args .s .now)
+room : (s : tie.Start) → bookBytes ≤ length (s .args .s .now)
 room s = fits-room (s .args .s .now) (s .pre .0)
 
 small : (n : tie.After-next-in) → n .next-in .result < 64

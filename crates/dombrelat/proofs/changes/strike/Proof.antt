@@ -13,12 +13,13 @@ use Rattle.book.specs.SoundLaws.{enters-strike}
 use Rattle.book.specs.Numbers.{strike-number}
 use Rattle.layout.specs.Bytes.{bookOf}
 use Rattle.layout.specs.CodecLaws.{fits-room, fits-sound}
+use Rattle.layout.specs.Layout.{bookBytes}
 use Rattle.dombrelat.proofs.Changed.{settle-ready, edit-changed}
 use borrow.Author.Needs.{needs, sfits-of}
 use Rattle.dombrelat.proofs.changes.strike.Statement.{statement}
 use Rattle.dombrelat.proofs.changes.strike.Tie as tie
 
-room : (s : tie.Start) → 56224 ≤ length (s .args .s .now)
+room : (s : tie.Start) → bookBytes ≤ length (s .args .s .now)
 room s = fits-room (s .args .s .now) (s .pre)
 
 -- where the number is known

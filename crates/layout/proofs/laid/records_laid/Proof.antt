@@ -5,8 +5,10 @@ use mathlib.Core.Bool.{Bool, true}
 use native.Mathlib.Omega.{arith}
 use borrow.Author.Tests.{not-true, not-false}
 use Rattle.lists.specs.All.{allBelow, all-none, all-more, all-done, all-fails}
+use Rattle.network.specs.RecordWords.{recordLength}
 use Rattle.layout.specs.Laid.{recordLaid}
 use Rattle.layout.specs.Bytes.{wordsOf}
+use Rattle.layout.specs.Layout.{bookLength}
 use borrow.Author.Needs.{needs}
 use Rattle.layout.proofs.laid.records_laid.Statement.{statement}
 use Rattle.layout.proofs.laid.records_laid.Tie as tie
@@ -20,7 +22,7 @@ abbrev μ-loop : tie.MeasureT-loop
 abbrev test : tie.Start Inv-loop μ-loop → ℕ → Bool
 test s q = recordLaid (wordsOf (s .args .s .now)) (s .args .at + q * s .args .step)
 
-inside : (c : tie.In-loop Inv-loop μ-loop) → c .before .before .before .args .at + c .before .loop .p * c .before .before .before .args .step + 14 ≤ 7028
+inside : (c : tie.In-loop Inv-loop μ-loop) → c .before .before .before .args .at + c .before .loop .p * c .before .before .before .args .step + recordLength ≤ bookLength
 inside c = c .before .before .before .pre .2 (c .before .loop .p) (c .loop-test .taken)
 
 loop-holds : tie.Need-loop-holds Inv-loop μ-loop

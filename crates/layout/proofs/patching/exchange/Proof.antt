@@ -2,7 +2,7 @@
 use mathlib.Core.Path.{_≡_, sym, ap, _∙_}
 use native.Mathlib.Omega.{arith}
 use lib.ListN.{length}
-use Prim.Native.Nat.{_≤_}
+use Prim.Native.Nat.{_≤_, _*_}
 use Rattle.integers.specs.Tables.{length-tabulate}
 use Rattle.words.specs.Words.{Bytes}
 use Rattle.words.specs.Runs.{putWords}
@@ -11,6 +11,7 @@ use Rattle.book.specs.Book.{withRecord}
 use Rattle.layout.specs.Bytes.{bookOf}
 use Rattle.layout.specs.CodecLaws.{read-sized, fits-room, fits-sound, writes-same}
 use Rattle.layout.specs.BookPatches.{put-normals}
+use Rattle.layout.specs.Layout.{matrixStart, rightStart, bookBytes}
 use Rattle.layout.proofs.Whole.{may-change, matrix-changed, right-changed}
 use borrow.Author.Needs.{needs}
 use Rattle.layout.proofs.patching.exchange.Statement.{statement}
@@ -19,7 +20,7 @@ use Rattle.layout.proofs.patching.exchange.Tie as tie
 abbrev here : tie.Start → Book
 here s = bookOf (s .args .s .now)
 
-room : (s : tie.Start) → 56224 ≤ length (s .args .s .now)
+room : (s : tie.Start) → bookBytes ≤ length (s .args .s .now)
 room s = fits-room (s .args .s .now) (s .pre .0)
 
 -- where the shares are exchanged
@@ -90,7 +91,7 @@ returns c =
     let bytes : Bytes t = λ i. let h = x .before .before .before .before .before .before .before .before .before .before .before .slice-known .given i in omega arith in
     let n = withRecord (here s) (s .args .i) (s .args .r) in
     p .put-normals .ensures
-    ∙ (λ i. putWords (putWords (sym (writes-same t (s .pre .0) bytes) i) 37408 (matrix-new x i)) 55840 (right-new x i))
+    ∙ (λ i. putWords (putWords (sym (writes-same t (s .pre .0) bytes) i) (8 * matrixStart) (matrix-new x i)) (8 * rightStart) (right-new x i))
     ∙ put-normals t (room s) (here s) (read-sized t) (n .matrix) (n .right) (length-tabulate 2304 _) (length-tabulate 48 _)
 
 pub exchange-spec : {M : Type 1} → statement M

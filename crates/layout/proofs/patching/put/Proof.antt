@@ -8,11 +8,12 @@ use Rattle.book.specs.Book.{withRecord}
 use Rattle.layout.specs.Bytes.{bookOf}
 use Rattle.layout.specs.CodecLaws.{read-sized, fits-room}
 use Rattle.layout.specs.BookPatches.{put-edit}
+use Rattle.layout.specs.Layout.{bookBytes}
 use borrow.Author.Needs.{needs}
 use Rattle.layout.proofs.patching.put.Statement.{statement}
 use Rattle.layout.proofs.patching.put.Tie as tie
 
-room : (s : tie.Start) → 56224 ≤ length (s .args .s .now)
+room : (s : tie.Start) → bookBytes ≤ length (s .args .s .now)
 room s = fits-room (s .args .s .now) (s .pre .0)
 
 exchange-requires : tie.Need-exchange-requires

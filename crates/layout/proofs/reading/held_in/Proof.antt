@@ -4,6 +4,9 @@ use borrow.Author.Needs.{needs}
 use Rattle.layout.proofs.reading.held_in.Statement.{statement}
 use Rattle.layout.proofs.reading.held_in.Tie as tie
 
+add-count-in : tie.Need-add-count-in
+add-count-in c = search needs
+
 count-in-requires : tie.Need-count-in-requires
 count-in-requires c κs = search needs
 
@@ -12,4 +15,4 @@ unfolding bookIn
 returns c = c .count-in .ensures
 
 pub held-in-spec : {M : Type 1} → statement M
-held-in-spec = tie.close (tie.spec count-in-requires returns)
+held-in-spec = tie.close (tie.spec add-count-in count-in-requires returns)

@@ -3,6 +3,7 @@ use mathlib.Core.Path.{sym, _∙_}
 use Rattle.words.specs.RunLaws.{length-words}
 use Rattle.layout.specs.Bytes.{wordsOf}
 use Rattle.layout.specs.Laid.{reversal-in}
+use Rattle.layout.specs.Layout.{bookLength}
 use borrow.Author.Needs.{needs}
 use Rattle.layout.proofs.reading.slot_in.Statement.{statement}
 use Rattle.layout.proofs.reading.slot_in.Tie as tie
@@ -26,7 +27,7 @@ returns : tie.Need-returns
 returns c =
     let s = c .before .before .before in
     let w = wordsOf (s .args .s .now) in
-    (λ i. record { place = c .before .count-in .ensures i; prior = c .entry-in .ensures i }) ∙ sym (reversal-in w (length-words (s .args .s .now) 0 7028) (s .args .k) (s .pre .1))
+    (λ i. record { place = c .before .count-in .ensures i; prior = c .entry-in .ensures i }) ∙ sym (reversal-in w (length-words (s .args .s .now) 0 bookLength) (s .args .k) (s .pre .1))
 
 pub slot-in-spec : {M : Type 1} → statement M
 slot-in-spec =

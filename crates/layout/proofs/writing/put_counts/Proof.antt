@@ -1,4 +1,5 @@
 -- `put_counts` puts the journal's counters. Assumes nothing.
+use Prim.Native.Nat.{_*_}
 use mathlib.Core.Path.{_∙_}
 use mathlib.Core.List.{[], _∷_}
 use mir.Syntax.{w64}
@@ -7,6 +8,7 @@ use Rattle.words.specs.Runs.{putWords}
 use borrow.Author.Needs.{needs, sfits-of}
 use Rattle.layout.proofs.writing.put_counts.Statement.{statement}
 use Rattle.layout.proofs.writing.put_counts.Tie as tie
+use Rattle.layout.specs.Layout.{countsStart}
 
 count-word-requires : tie.Need-count-word-requires
 count-word-requires c κs = search needs
@@ -27,7 +29,7 @@ returns c =
     let n = h .before in
     let s = n .before .before in
     p .put-pair .ensures
-    ∙ (λ i. putWords (s .args .s .now) 29712
+    ∙ (λ i. putWords (s .args .s .now) (8 * countsStart)
     ((toZ-ofZ {w = w64} {z = n .count-word .result} (sfits-of (n .count-word .ok)) ∙ n .count-word .ensures) i
     ∷ (toZ-ofZ {w = w64} {z = h .count-word2 .result} (sfits-of (h .count-word2 .ok)) ∙ h .count-word2 .ensures) i ∷ []))
 

@@ -1,12 +1,12 @@
 -- `put_entries` puts the journal's slots. The loop's invariant: those passed stand in their order. Assumes nothing.
-use Prim.Native.Nat.{_-_, _≤_}
+use Prim.Native.Nat.{_-_, _≤_, _*_}
 use mathlib.Core.Path.{_≡_, refl, _∙_}
 use native.Mathlib.Omega.{arith}
 use lib.ListN.{length, getD}
 use Rattle.words.specs.Runs.{putWords}
 use Rattle.words.specs.Concat.{concatBelow}
 use Rattle.book.specs.Journal.{free}
-use Rattle.layout.specs.Layout.{reversalWords}
+use Rattle.layout.specs.Layout.{reversalWords, slots, entriesStart, reversalLength}
 use Rattle.layout.specs.BookWords.{length-reversal}
 use Rattle.layout.proofs.Parts.{parts-none, parts-more}
 use borrow.Author.Needs.{needs}
@@ -14,13 +14,13 @@ use Rattle.layout.proofs.writing.put_entries.Statement.{statement}
 use Rattle.layout.proofs.writing.put_entries.Tie as tie
 
 abbrev Inv-loop : tie.InvT-loop
-Inv-loop s₀ entries k₀ s k = (s ≡ putWords s₀ 29728 (concatBelow k (λ q. reversalWords (getD entries q free)))) × (length s ≡ length s₀) × (k ≤ 64)
+Inv-loop s₀ entries k₀ s k = (s ≡ putWords s₀ (8 * entriesStart) (concatBelow k (λ q. reversalWords (getD entries q free)))) × (length s ≡ length s₀) × (k ≤ slots)
 
 abbrev μ-loop : tie.MeasureT-loop
-μ-loop s₀ entries k₀ s k = 64 - k
+μ-loop s₀ entries k₀ s k = slots - k
 
 loop-holds : tie.Need-loop-holds Inv-loop μ-loop
-loop-holds c = (parts-none _ 29728 _, refl, omega arith)
+loop-holds c = (parts-none _ (8 * entriesStart) _, refl, omega arith)
 
 mul-u : tie.Need-mul-u Inv-loop μ-loop
 mul-u c = search needs
@@ -48,7 +48,7 @@ loop-again c =
     let w = c .before .before in
     let t = w .before .before .before .before in
     let s = t .before .before in (
-      parts-more (s .args .s .now) (t .loop .s) _ 29728 15 (t .loop .k) _ (λ q. reversalWords (getD (s .args .t2) q free)) (λ i. length-reversal _) (omega arith) (t .loop .inv .0) (w .put-reversal .ensures),
+      parts-more (s .args .s .now) (t .loop .s) _ (8 * entriesStart) reversalLength (t .loop .k) _ (λ q. reversalWords (getD (s .args .t2) q free)) (λ i. length-reversal _) (omega arith) (t .loop .inv .0) (w .put-reversal .ensures),
       w .put-reversal .kept .0 ∙ t .loop .inv .1,
       omega arith,
     )
@@ -57,7 +57,7 @@ same-length : tie.Need-same-length Inv-loop μ-loop
 same-length c = search needs
 
 returns : tie.Need-returns Inv-loop μ-loop
-returns c = let e : c .before .loop .k ≡ 64 = omega arith in rw e at (c .before .loop .inv .0)
+returns c = let e : c .before .loop .k ≡ slots = omega arith in rw e at (c .before .loop .inv .0)
 
 pub put-entries-spec : {M : Type 1} → statement M
 put-entries-spec =

@@ -1,26 +1,27 @@
 -- `put_places` puts the places. The loop's invariant: those passed stand in their order. Assumes nothing.
-use Prim.Native.Nat.{_-_, _≤_}
+use Prim.Native.Nat.{_-_, _≤_, _*_}
 use mathlib.Core.Path.{_≡_, refl, _∙_}
 use native.Mathlib.Omega.{arith}
 use lib.ListN.{length}
 use Rattle.words.specs.Runs.{putWords}
 use Rattle.words.specs.Concat.{concatBelow}
 use Rattle.network.specs.Records.{recordAt}
-use Rattle.network.specs.RecordWords.{recordWords}
+use Rattle.network.specs.RecordWords.{recordWords, recordLength}
 use Rattle.network.specs.RecordWordLaws.{length-record}
 use Rattle.layout.proofs.Parts.{parts-none, parts-more}
 use borrow.Author.Needs.{needs}
 use Rattle.layout.proofs.writing.put_places.Statement.{statement}
 use Rattle.layout.proofs.writing.put_places.Tie as tie
+use Rattle.layout.specs.Layout.{placesStart}
 
 abbrev Inv-loop : tie.InvT-loop
-Inv-loop s₀ places p₀ s p = (s ≡ putWords s₀ 1040 (concatBelow p (λ q. recordWords (recordAt places q)))) × (length s ≡ length s₀) × (p ≤ 256)
+Inv-loop s₀ places p₀ s p = (s ≡ putWords s₀ (8 * placesStart) (concatBelow p (λ q. recordWords (recordAt places q)))) × (length s ≡ length s₀) × (p ≤ 256)
 
 abbrev μ-loop : tie.MeasureT-loop
 μ-loop s₀ places p₀ s p = 256 - p
 
 loop-holds : tie.Need-loop-holds Inv-loop μ-loop
-loop-holds c = (parts-none _ 1040 _, refl, omega arith)
+loop-holds c = (parts-none _ (8 * placesStart) _, refl, omega arith)
 
 mul-q : tie.Need-mul-q Inv-loop μ-loop
 mul-q c = search needs
@@ -48,7 +49,7 @@ loop-again c =
     let w = c .before .before in
     let t = w .before .before .before .before in
     let s = t .before .before in (
-      parts-more (s .args .s .now) (t .loop .s) _ 1040 14 (t .loop .p) _ (λ q. recordWords (recordAt (s .args .t2) q)) (λ i. length-record _) (omega arith) (t .loop .inv .0) (w .put-record .ensures),
+      parts-more (s .args .s .now) (t .loop .s) _ (8 * placesStart) recordLength (t .loop .p) _ (λ q. recordWords (recordAt (s .args .t2) q)) (λ i. length-record _) (omega arith) (t .loop .inv .0) (w .put-record .ensures),
       w .put-record .kept .0 ∙ t .loop .inv .1,
       omega arith,
     )

@@ -5,7 +5,7 @@ use native.Mathlib.Omega.{arith}
 use lib.ListN.{length}
 use Rattle.words.specs.Runs.{putWords}
 use Rattle.words.specs.Concat.{concatBelow}
-use Rattle.layout.specs.Layout.{stationPart}
+use Rattle.layout.specs.Layout.{stationPart, stationsStart}
 use Rattle.layout.specs.BookWords.{length-station}
 use Rattle.layout.proofs.Parts.{parts-none, parts-more}
 use borrow.Author.Needs.{needs}
@@ -13,13 +13,13 @@ use Rattle.layout.proofs.writing.put_stations.Statement.{statement}
 use Rattle.layout.proofs.writing.put_stations.Tie as tie
 
 abbrev Inv-loop : tie.InvT-loop
-Inv-loop s₀ count stations k₀ s k = (s ≡ putWords s₀ 16 (concatBelow k (stationPart (record { count = count; stations = stations })))) × (length s ≡ length s₀) × (k ≤ 32)
+Inv-loop s₀ count stations k₀ s k = (s ≡ putWords s₀ (8 * stationsStart) (concatBelow k (stationPart (record { count = count; stations = stations })))) × (length s ≡ length s₀) × (k ≤ 32)
 
 abbrev μ-loop : tie.MeasureT-loop
 μ-loop s₀ count stations k₀ s k = 32 - k
 
 loop-holds : tie.Need-loop-holds Inv-loop μ-loop
-loop-holds c = (parts-none _ 16 _, refl, omega arith)
+loop-holds c = (parts-none _ (8 * stationsStart) _, refl, omega arith)
 
 mul-x : tie.Need-mul-x Inv-loop μ-loop
 mul-x c = search needs
@@ -30,11 +30,14 @@ array-copy-out-x c = search needs
 station-part-requires : tie.Need-station-part-requires Inv-loop μ-loop
 station-part-requires c κs = search needs
 
+mul-at : tie.Need-mul-at Inv-loop μ-loop
+mul-at c = search needs
+
+add-at : tie.Need-add-at Inv-loop μ-loop
+add-at c = search needs
+
 mul-write-words : tie.Need-mul-write-words Inv-loop μ-loop
 mul-write-words c = search needs
-
-add-write-words : tie.Need-add-write-words Inv-loop μ-loop
-add-write-words c = search needs
 
 slice-aggregate-write-words : tie.Need-slice-aggregate-write-words Inv-loop μ-loop
 slice-aggregate-write-words c = search needs
@@ -58,8 +61,8 @@ loop-again c =
     let v = w .before .before .before in
     let t = v .before .before .before in
     let s = t .before .before .before in (
-      parts-more (s .args .s .now) (t .loop .s) _ 16 4 (t .loop .k) _ (stationPart (s .args .net)) (length-station (s .args .net)) (omega arith) (t .loop .inv .0)
-          (w .write-words .ensures ∙ ap (putWords (t .loop .s) (16 + t .loop .k * 32)) (v .station-part .ensures)),
+      parts-more (s .args .s .now) (t .loop .s) _ (8 * stationsStart) 4 (t .loop .k) _ (stationPart (s .args .net)) (length-station (s .args .net)) (omega arith) (t .loop .inv .0)
+          (w .write-words .ensures ∙ ap (putWords (t .loop .s) (8 * (stationsStart + t .loop .k * 4))) (v .station-part .ensures)),
       w .write-words .kept .0 ∙ t .loop .inv .1,
       omega arith,
     )
@@ -80,8 +83,9 @@ put-stations-spec =
     mul-x
     array-copy-out-x
     station-part-requires
+    mul-at
+    add-at
     mul-write-words
-    add-write-words
     slice-aggregate-write-words
     write-words-requires
     add-k

@@ -12,6 +12,7 @@ use Rattle.layout.proofs.Whole.{joined}
 use borrow.Author.Needs.{needs, sfits-of}
 use Rattle.layout.proofs.writing.write_book.Statement.{statement}
 use Rattle.layout.proofs.writing.write_book.Tie as tie
+use Rattle.layout.specs.Layout.{bookBytes}
 
 -- the arrays' lengths
 sized : (s : tie.Start) → Sized (s .args .book)
@@ -49,7 +50,7 @@ put-normals-requires c κs =
     let l₄ = k .put-counts .kept .0 in
     let l₅ = e .put-entries .kept .0 in
     let room = s .pre in
-    (subst (λ (n : ℕ). 56224 ≤ n) (sym (l₅ ∙ l₄ ∙ l₃ ∙ l₂ ∙ l₁)) room, sized s .matrix, sized s .right)
+    (subst (λ (n : ℕ). bookBytes ≤ n) (sym (l₅ ∙ l₄ ∙ l₃ ∙ l₂ ∙ l₁)) room, sized s .matrix, sized s .right)
 
 same-length : tie.Need-same-length
 same-length c = search needs
