@@ -1,32 +1,22 @@
 -- Lent bytes: refused with 25, called through, and written back. Assumes nothing.
-use Prim.Native.Nat.{ℕ, _<_}
+use Prim.Native.Nat.{ℕ}
 use mathlib.Core.Path.{_≡_, sym, ap, _∙_}
-use mathlib.Core.Bool.{Bool, true, false, cond, _&&_}
+use mathlib.Core.Bool.{Bool, true, false, cond}
 use mathlib.Core.List.{List}
-use borrow.Author.Tests.{lt-leb}
-use lib.Dec.{leb}
-use lib.ListN.{length}
 use lib.IntN.{ℤ}
 use mir.Syntax.{w64}
 use mir.Val.{SFits, toZ, ofZ}
 use mir.Facts.{toZ-ofZ}
-use Rattle.words.specs.Bools.{and-no-left}
 use Rattle.book.specs.declared.Book.{Book}
 use Rattle.book.specs.declared.Edited.{Edited}
 use Rattle.network.specs.declared.Record.{Record}
 use Rattle.book.specs.Calls.{Call, add, replace, strike, undo}
-use Rattle.book.specs.Book.{sound}
-use Rattle.layout.specs.Layout.{bookBytes}
-use Rattle.layout.specs.Bytes.{bookOf, laidOut, bytesFit}
+use Rattle.layout.specs.Bytes.{bookOf, bytesFit}
 use Rattle.dombrelat.specs.declared.Request.{Request}
 use Rattle.dombrelat.specs.declared.Request.the-variants.{Add, Replace, Strike, Undo}
 use Rattle.dombrelat.specs.Calls.{refused, settled, through, edit, callOf}
 
 -- ════ a call through the book
-pub short-unfit : (s : List ℕ) → length s < bookBytes → bytesFit s ≡ false
-unfolding bytesFit
-short-unfit s h = and-no-left (leb bookBytes (length s) && laidOut s) (sound (bookOf s)) (and-no-left (leb bookBytes (length s)) (laidOut s) (lt-leb bookBytes (length s) h))
-
 module _ (s : List ℕ) (f : Book → Edited) where
   pub through-unfit : bytesFit s ≡ false → refused 25 s ≡ through s f
   unfolding through

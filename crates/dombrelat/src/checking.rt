@@ -8,10 +8,7 @@ ghost use Rattle.dombrelat.specs.CheckCalls.{checkCall, sheetCall, dista
 pub extern "C" fn dombrelat_check(book: &[u8], x: &[u8], m: &[u8]) -> i64
     ensures { λ r. ⌜ r ≡ checkCall (now (book .entry)) (now (x .entry)) (now (m .entry)) ⌝ }
 {
-    if book.len() < layout::Layout::BOOK_BYTES {
-        return 25;
-    }
-    if !layout::fits(book) {
+    if !layout::holds_book(book) {
         return 25;
     }
     let b = layout::book_in(book);
@@ -25,10 +22,7 @@ pub extern "C" fn dombrelat_check_sheet(book: &[u8], x: &[u8], m: &[u8], out: &m
     ensures { λ r. ⌜ r ≡ sheetCall (now (book .entry)) (now (x .entry)) (now (m .entry)) (now (out .entry)) .answer ⌝ }
     ensures { λ _. ⌜ now (out .exit) ≡ sheetCall (now (book .entry)) (now (x .entry)) (now (m .entry)) (now (out .entry)) .sheet ⌝ }
 {
-    if book.len() < layout::Layout::BOOK_BYTES {
-        return 25;
-    }
-    if !layout::fits(book) {
+    if !layout::holds_book(book) {
         return 25;
     }
     let b = layout::book_in(book);
@@ -51,10 +45,7 @@ pub extern "C" fn dombrelat_check_distance(
 ) -> i64
     ensures { λ r. ⌜ r ≡ distanceCall (now (book .entry)) (now (x .entry)) (now (m .entry)) (distanceOf from to distance instrument target tolerance) ⌝ }
 {
-    if book.len() < layout::Layout::BOOK_BYTES {
-        return 25;
-    }
-    if !layout::fits(book) {
+    if !layout::holds_book(book) {
         return 25;
     }
     let b = layout::book_in(book);

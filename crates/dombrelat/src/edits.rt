@@ -27,10 +27,7 @@ fn apply(book: &mut [u8], request: Request) -> i64
 fn edit_bytes(book: &mut [u8], request: Request) -> i64
     ensures { λ r. ⌜ (r ≡ edit (now (book .entry)) (callOf request) .answer) × (now (book .exit) ≡ edit (now (book .entry)) (callOf request) .bytes) ⌝ }
 {
-    if book.len() < layout::Layout::BOOK_BYTES {
-        return 25;
-    }
-    if !layout::fits(book) {
+    if !layout::holds_book(book) {
         return 25;
     }
     apply(book, request)

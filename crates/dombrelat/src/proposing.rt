@@ -6,10 +6,7 @@ ghost use Rattle.dombrelat.specs.Proposal.{Proposes};
 pub extern "C" fn dombrelat_propose(book: &[u8], x: &mut [u8], m: &mut [u8]) -> i64
     ensures { λ r. ⌜ Proposes (now (book .entry)) r (now (x .entry)) (now (m .entry)) (now (x .exit)) (now (m .exit)) ⌝ }
 {
-    if book.len() < layout::Layout::BOOK_BYTES {
-        return 25;
-    }
-    if !layout::fits(book) {
+    if !layout::holds_book(book) {
         return 25;
     }
     let b = layout::book_in(book);

@@ -28,10 +28,7 @@ fn give(number: usize, w: &[i64], out: &mut [u8]) -> i64
 pub extern "C" fn dombrelat_unknowns(book: &[u8]) -> i64
     ensures { λ r. ⌜ r ≡ unknownsCall (now (book .entry)) ⌝ }
 {
-    if book.len() < layout::Layout::BOOK_BYTES {
-        return 25;
-    }
-    if !layout::fits(book) {
+    if !layout::holds_book(book) {
         return 25;
     }
     let net = layout::network_in(book);
@@ -45,10 +42,7 @@ pub extern "C" fn dombrelat_unknowns(book: &[u8]) -> i64
 pub extern "C" fn dombrelat_sheet_bytes(book: &[u8]) -> i64
     ensures { λ r. ⌜ r ≡ sheetBytesCall (now (book .entry)) ⌝ }
 {
-    if book.len() < layout::Layout::BOOK_BYTES {
-        return 25;
-    }
-    if !layout::fits(book) {
+    if !layout::holds_book(book) {
         return 25;
     }
     let net = layout::network_in(book);
@@ -63,10 +57,7 @@ pub extern "C" fn dombrelat_stations(book: &[u8], list: &mut [u8]) -> i64
     ensures { λ r. ⌜ r ≡ stationsCall (now (book .entry)) (now (list .entry)) .answer ⌝ }
     ensures { λ _. ⌜ now (list .exit) ≡ stationsCall (now (book .entry)) (now (list .entry)) .bytes ⌝ }
 {
-    if book.len() < layout::Layout::BOOK_BYTES {
-        return 25;
-    }
-    if !layout::fits(book) {
+    if !layout::holds_book(book) {
         return 25;
     }
     let net = layout::network_in(book);
@@ -82,10 +73,7 @@ pub extern "C" fn dombrelat_record(book: &[u8], place: i64, out: &mut [u8]) -> i
     ensures { λ r. ⌜ r ≡ recordCall (now (book .entry)) place (now (out .entry)) .answer ⌝ }
     ensures { λ _. ⌜ now (out .exit) ≡ recordCall (now (book .entry)) place (now (out .entry)) .bytes ⌝ }
 {
-    if book.len() < layout::Layout::BOOK_BYTES {
-        return 25;
-    }
-    if !layout::fits(book) {
+    if !layout::holds_book(book) {
         return 25;
     }
     let i = words::index_in(place, 256);

@@ -4,7 +4,7 @@ use mathlib.Core.Path.{_≡_, sym, ap, _∙_}
 use mathlib.Core.Bool.{Bool, true, false, _&&_}
 use mathlib.Core.List.{List, _++_}
 use native.Mathlib.Omega.{arith}
-use borrow.Author.Tests.{le-leb}
+use borrow.Author.Tests.{le-leb, lt-leb}
 use lib.Dec.{leb}
 use lib.ListN.{length}
 use lib.IntN.{ℤ}
@@ -26,6 +26,10 @@ use Rattle.layout.specs.Bytes.{bookOf, putBook, laidOut, bytesFit}
 use Rattle.layout.specs.RunPatches.{run-append}
 
 -- ════ judged
+pub judged-short : (s : List ℕ) → length s < bookBytes → false ≡ bytesFit s
+unfolding bytesFit
+judged-short s h = sym (and-no-left (leb bookBytes (length s) && laidOut s) (sound (bookOf s)) (and-no-left (leb bookBytes (length s)) (laidOut s) (lt-leb bookBytes (length s) h)))
+
 pub judged-odd : (s : List ℕ) → laidOut s ≡ false → false ≡ bytesFit s
 unfolding bytesFit
 judged-odd s e = sym (and-no-left (leb bookBytes (length s) && laidOut s) (sound (bookOf s)) (and-no-right (leb bookBytes (length s)) (laidOut s) e))

@@ -74,7 +74,7 @@ fn laid_out(s: &[u8]) -> bool
 }
 
 // Bytes long enough for a book pass the rest of what 25 tests.
-pub fn fits(s: &[u8]) -> bool
+fn fits(s: &[u8]) -> bool
     requires { ⌜ bookBytes ≤ length (now s) ⌝ }
     ensures { λ r. ⌜ r ≡ bytesFit (now (s .entry)) ⌝ }
 {
@@ -87,4 +87,14 @@ pub fn fits(s: &[u8]) -> bool
     let matrix = reading::matrix_in(s);
     let right = reading::right_in(s);
     book::parts_fit(network, places, journal, Normals { matrix, right })
+}
+
+// The bytes hold a book: what 25 tests, of any bytes.
+pub fn holds_book(s: &[u8]) -> bool
+    ensures { λ r. ⌜ r ≡ bytesFit (now (s .entry)) ⌝ }
+{
+    if s.len() < Layout::BOOK_BYTES {
+        return false;
+    }
+    fits(s)
 }

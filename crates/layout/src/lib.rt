@@ -7,7 +7,7 @@ mod patching;
 mod reading;
 mod writing;
 
-pub use laid::fits;
+pub use laid::holds_book;
 pub use offsets::Layout;
 pub use patching::put;
 pub use reading::book_in;

@@ -1,40 +1,42 @@
 use mir.Syntax.{w64}
 use mir.Facts.{toZ-ofZ}
-use mathlib.Core.Path.{sym, ap, _∙_}
+use mathlib.Core.Path.{_≡_, sym, ap, _∙_}
+use mathlib.Core.Bool.{true}
+use denote.Ref.{now}
 use borrow.Author.Tests.{not-true, not-false}
 use Rattle.book.specs.Book.{sound}
-use Rattle.layout.specs.CodecLaws.{fits-tested}
-use Rattle.dombrelat.proofs.Lent.{short-unfit}
+use Rattle.layout.specs.Bytes.{bytesFit}
+use Rattle.layout.specs.CodecLaws.{fits-room, fits-tested}
 use Rattle.dombrelat.proofs.Answers.{check-unfit, check-fit}
 use borrow.Author.Needs.{needs, sfits-of}
 use Rattle.dombrelat.proofs.checking.dombrelat_check.Statement.{statement}
 use Rattle.dombrelat.proofs.checking.dombrelat_check.Tie as tie
 
+fit : (e : tie.Else1) → bytesFit (now (e .before .before .before .before .before .args .book)) ≡ true
+fit e = sym (e .before .holds-book .ensures) ∙ not-false _ (e .if1 .left)
+
+holds-book-requires : tie.Need-holds-book-requires
+holds-book-requires c κs = search needs
+
 returns : tie.Need-returns
-returns c = check-unfit _ _ _ (short-unfit _ (c .if1 .taken))
-
-fits-requires : tie.Need-fits-requires
-fits-requires c κs = search needs
-
-returns-2 : tie.Need-returns-2
-returns-2 c = check-unfit _ _ _ (sym (c .before .fits2 .ensures) ∙ not-true _ (c .if2 .taken))
+returns c = check-unfit _ _ _ (sym (c .before .holds-book .ensures) ∙ not-true _ (c .if1 .taken))
 
 book-in-requires : tie.Need-book-in-requires
-book-in-requires c κs = search needs
+book-in-requires c κs = fits-room _ (fit c)
 
 check-lent-requires : tie.Need-check-lent-requires
-check-lent-requires c κs = ap sound (c .book-in .ensures) ∙ fits-tested _ (sym (c .before .before .fits2 .ensures) ∙ not-false _ (c .before .if2 .left))
+check-lent-requires c κs = ap sound (c .book-in .ensures) ∙ fits-tested _ (fit (c .before))
 
 answer-word-requires : tie.Need-answer-word-requires
 answer-word-requires c κs = search needs
 
-returns-3 : tie.Need-returns-3
-returns-3 c =
+returns-2 : tie.Need-returns-2
+returns-2 c =
     toZ-ofZ {w = w64} {z = c .answer-word .result} (sfits-of (c .answer-word .ok))
     ∙ c .answer-word .ensures
-    ∙ check-fit _ _ _ _ _ (sym (c .before .before .before .before .fits2 .ensures) ∙ not-false _ (c .before .before .before .if2 .left)) (c .before .before .book-in .ensures) (c .before .check-lent .ensures .0)
+    ∙ check-fit _ _ _ _ _ (fit (c .before .before .before)) (c .before .before .book-in .ensures) (c .before .check-lent .ensures .0)
 
 pub dombrelat-check-spec : {M : Type 1} → statement M
 dombrelat-check-spec =
     tie.close
-    (tie.spec returns fits-requires returns-2 book-in-requires check-lent-requires answer-word-requires returns-3)
+    (tie.spec holds-book-requires returns book-in-requires check-lent-requires answer-word-requires returns-2)

@@ -1,29 +1,31 @@
-use mathlib.Core.Path.{sym, ap, _∙_}
+use mathlib.Core.Path.{_≡_, sym, ap, _∙_}
+use mathlib.Core.Bool.{true}
+use denote.Ref.{now}
 use borrow.Author.Tests.{not-true, not-false}
 use mir.Syntax.{w64}
 use mir.Facts.{toZ-ofZ}
 use Rattle.book.specs.Book.{sound}
-use Rattle.layout.specs.CodecLaws.{fits-tested}
-use Rattle.dombrelat.proofs.Lent.{short-unfit}
+use Rattle.layout.specs.Bytes.{bytesFit}
+use Rattle.layout.specs.CodecLaws.{fits-room, fits-tested}
 use Rattle.dombrelat.proofs.Answers.{sheet-unfit, sheet-fit}
 use borrow.Author.Needs.{needs, sfits-of}
 use Rattle.dombrelat.proofs.checking.dombrelat_check_sheet.Statement.{statement}
 use Rattle.dombrelat.proofs.checking.dombrelat_check_sheet.Tie as tie
 
+fit : (e : tie.Else1) → bytesFit (now (e .before .before .before .before .before .before .args .book)) ≡ true
+fit e = sym (e .before .holds-book .ensures) ∙ not-false _ (e .if1 .left)
+
+holds-book-requires : tie.Need-holds-book-requires
+holds-book-requires c κs = search needs
+
 returns : tie.Need-returns
-returns c = sheet-unfit _ _ _ _ (short-unfit _ (c .if1 .taken))
-
-fits-requires : tie.Need-fits-requires
-fits-requires c κs = search needs
-
-returns-2 : tie.Need-returns-2
-returns-2 c = sheet-unfit _ _ _ _ (sym (c .before .fits2 .ensures) ∙ not-true _ (c .if2 .taken))
+returns c = sheet-unfit _ _ _ _ (sym (c .before .holds-book .ensures) ∙ not-true _ (c .if1 .taken))
 
 book-in-requires : tie.Need-book-in-requires
-book-in-requires c κs = search needs
+book-in-requires c κs = fits-room _ (fit c)
 
 check-sheet-lent-requires : tie.Need-check-sheet-lent-requires
-check-sheet-lent-requires c κs = ap sound (c .before .book-in .ensures) ∙ fits-tested _ (sym (c .before .before .before .fits2 .ensures) ∙ not-false _ (c .before .before .if2 .left))
+check-sheet-lent-requires c κs = ap sound (c .before .book-in .ensures) ∙ fits-tested _ (fit (c .before .before))
 
 answer-word-requires : tie.Need-answer-word-requires
 answer-word-requires c κs = search needs
@@ -31,21 +33,20 @@ answer-word-requires c κs = search needs
 same-length : tie.Need-same-length
 same-length c = search needs
 
-returns-3 : tie.Need-returns-3
-returns-3 c =
+returns-2 : tie.Need-returns-2
+returns-2 c =
     let p = c .before .before .before .check-sheet-lent in
-    let e = sheet-fit _ _ _ _ _ _ _ (sym (c .before .before .before .before .before .before .before .fits2 .ensures) ∙ not-false _ (c .before .before .before .before .before .before .if2 .left)) (c .before .before .before .before .before .book-in .ensures) (p .ensures .0 .0) (p .ensures .1) in
+    let e = sheet-fit _ _ _ _ _ _ _ (fit (c .before .before .before .before .before .before)) (c .before .before .before .before .before .book-in .ensures) (p .ensures .0 .0) (p .ensures .1) in
     (toZ-ofZ {w = w64} {z = c .answer-word .result} (sfits-of (c .answer-word .ok)) ∙ c .answer-word .ensures ∙ e .0, e .1)
 
 pub dombrelat-check-sheet-spec : {M : Type 1} → statement M
 dombrelat-check-sheet-spec =
     tie.close
     (tie.spec
+    holds-book-requires
     returns
-    fits-requires
-    returns-2
     book-in-requires
     check-sheet-lent-requires
     answer-word-requires
     same-length
-    returns-3)
+    returns-2)

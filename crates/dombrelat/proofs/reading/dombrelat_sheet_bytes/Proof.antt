@@ -7,7 +7,7 @@ use denote.Ref.{now}
 use mir.Syntax.{w64}
 use mir.Facts.{toZ-ofZ}
 use Rattle.layout.specs.Bytes.{bytesFit}
-use Rattle.dombrelat.proofs.Lent.{short-unfit}
+use Rattle.layout.specs.CodecLaws.{fits-room}
 use Rattle.lent_checks.specs.CheckLaws.{room-small}
 use Rattle.dombrelat.proofs.Changed.{network-ready}
 use Rattle.dombrelat.proofs.Readings.{sheet-bytes-unfit, sheet-bytes-fit}
@@ -15,8 +15,8 @@ use borrow.Author.Needs.{needs, sfits-of}
 use Rattle.dombrelat.proofs.reading.dombrelat_sheet_bytes.Statement.{statement}
 use Rattle.dombrelat.proofs.reading.dombrelat_sheet_bytes.Tie as tie
 
-fit : (e : tie.Else2) → bytesFit (now (e .before .before .before .before .args .book)) ≡ true
-fit e = sym (e .before .fits2 .ensures) ∙ not-false _ (e .if2 .left)
+fit : (e : tie.Else1) → bytesFit (now (e .before .before .before .args .book)) ≡ true
+fit e = sym (e .before .holds-book .ensures) ∙ not-false _ (e .if1 .left)
 
 few : (a : tie.After-network-in) → a .network-in .result .count ≤ 32
 few a = network-ready _ (fit (a .before)) _ (a .network-in .ensures) .0
@@ -24,20 +24,17 @@ few a = network-ready _ (fit (a .before)) _ (a .network-in .ensures) .0
 words : (a : tie.After-room-of) → a .room-of .result ≤ 2021
 words a = omega (arith, a .room-of .ensures, room-small (a .before .before .network-in .result) (a .before .places-in .result) (few (a .before .before)))
 
+holds-book-requires : tie.Need-holds-book-requires
+holds-book-requires c κs = search needs
+
 returns : tie.Need-returns
-returns c = sheet-bytes-unfit _ (short-unfit _ (c .if1 .taken))
-
-fits-requires : tie.Need-fits-requires
-fits-requires c κs = search needs
-
-returns-2 : tie.Need-returns-2
-returns-2 c = sheet-bytes-unfit _ (sym (c .before .fits2 .ensures) ∙ not-true _ (c .if2 .taken))
+returns c = sheet-bytes-unfit _ (sym (c .before .holds-book .ensures) ∙ not-true _ (c .if1 .taken))
 
 network-in-requires : tie.Need-network-in-requires
-network-in-requires c κs = search needs
+network-in-requires c κs = fits-room _ (fit c)
 
 places-in-requires : tie.Need-places-in-requires
-places-in-requires c κs = search needs
+places-in-requires c κs = fits-room _ (fit (c .before))
 
 room-of-requires : tie.Need-room-of-requires
 room-of-requires c κs = few (c .before)
@@ -48,8 +45,8 @@ mul-numbered-word c = omega (arith, words c)
 numbered-word-requires : tie.Need-numbered-word-requires
 numbered-word-requires c κs = omega (arith, words c)
 
-returns-3 : tie.Need-returns-3
-returns-3 c =
+returns-2 : tie.Need-returns-2
+returns-2 c =
     let n = c .numbered-word in
     toZ-ofZ {w = w64} {z = n .result} (sfits-of (n .ok)) ∙ n .ensures
     ∙ sheet-bytes-fit _ _ _ _ (fit (c .before .before .before .before)) (c .before .before .before .network-in .ensures) (c .before .before .places-in .ensures) (c .before .room-of .ensures)
@@ -58,12 +55,11 @@ pub dombrelat-sheet-bytes-spec : {M : Type 1} → statement M
 dombrelat-sheet-bytes-spec =
     tie.close
     (tie.spec
+    holds-book-requires
     returns
-    fits-requires
-    returns-2
     network-in-requires
     places-in-requires
     room-of-requires
     mul-numbered-word
     numbered-word-requires
-    returns-3)
+    returns-2)

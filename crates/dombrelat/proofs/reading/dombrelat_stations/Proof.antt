@@ -7,33 +7,30 @@ use denote.Ref.{now}
 use mir.Syntax.{w64}
 use mir.Facts.{toZ-ofZ}
 use Rattle.layout.specs.Bytes.{bytesFit}
-use Rattle.dombrelat.proofs.Lent.{short-unfit}
+use Rattle.layout.specs.CodecLaws.{fits-room}
 use Rattle.dombrelat.proofs.Changed.{network-ready}
 use Rattle.dombrelat.proofs.Readings.{both, stations-unfit, stations-fit}
 use borrow.Author.Needs.{needs, sfits-of}
 use Rattle.dombrelat.proofs.reading.dombrelat_stations.Statement.{statement}
 use Rattle.dombrelat.proofs.reading.dombrelat_stations.Tie as tie
 
-fit : (e : tie.Else2) → bytesFit (now (e .before .before .before .before .before .args .book)) ≡ true
-fit e = sym (e .before .fits2 .ensures) ∙ not-false _ (e .if2 .left)
+fit : (e : tie.Else1) → bytesFit (now (e .before .before .before .before .args .book)) ≡ true
+fit e = sym (e .before .holds-book .ensures) ∙ not-false _ (e .if1 .left)
 
 few : (a : tie.After-network-in) → a .network-in .result .count ≤ 32
 few a = network-ready _ (fit (a .before)) _ (a .network-in .ensures) .0
 
+holds-book-requires : tie.Need-holds-book-requires
+holds-book-requires c κs = search needs
+
 returns : tie.Need-returns
-returns c = both _ _ _ _ (stations-unfit _ _ (short-unfit _ (c .if1 .taken))) (refl, refl)
-
-fits-requires : tie.Need-fits-requires
-fits-requires c κs = search needs
-
-returns-2 : tie.Need-returns-2
-returns-2 c = both _ _ _ _ (stations-unfit _ _ (sym (c .before .fits2 .ensures) ∙ not-true _ (c .if2 .taken))) (refl, refl)
+returns c = both _ _ _ _ (stations-unfit _ _ (sym (c .before .holds-book .ensures) ∙ not-true _ (c .if1 .taken))) (refl, refl)
 
 network-in-requires : tie.Need-network-in-requires
-network-in-requires c κs = search needs
+network-in-requires c κs = fits-room _ (fit c)
 
 stations-at-requires : tie.Need-stations-at-requires
-stations-at-requires c κs = search needs
+stations-at-requires c κs = fits-room _ (fit (c .before))
 
 mul-e : tie.Need-mul-e
 mul-e c = omega (arith, few (c .before))
@@ -53,8 +50,8 @@ give-requires c κs = omega (arith, few (c .before .before .before .before))
 same-length : tie.Need-same-length
 same-length c = search needs
 
-returns-3 : tie.Need-returns-3
-returns-3 c =
+returns-2 : tie.Need-returns-2
+returns-2 c =
     let g = c .before .before .give in
     let a = c .before .before .before .before .before .before in
     both _ _ _ _ (stations-fit _ _ _ _ (fit (a .before .before)) (a .before .network-in .ensures) (a .stations-at .ensures))
@@ -64,9 +61,8 @@ pub dombrelat-stations-spec : {M : Type 1} → statement M
 dombrelat-stations-spec =
     tie.close
     (tie.spec
+    holds-book-requires
     returns
-    fits-requires
-    returns-2
     network-in-requires
     stations-at-requires
     mul-e
@@ -75,4 +71,4 @@ dombrelat-stations-spec =
     part-give-end
     give-requires
     same-length
-    returns-3)
+    returns-2)

@@ -6,27 +6,24 @@ use denote.Ref.{now}
 use mir.Syntax.{w64}
 use mir.Facts.{toZ-ofZ}
 use Rattle.layout.specs.Bytes.{bytesFit}
-use Rattle.dombrelat.proofs.Lent.{short-unfit}
+use Rattle.layout.specs.CodecLaws.{fits-room}
 use Rattle.network.specs.StationLaws.{number-small}
 use Rattle.dombrelat.proofs.Readings.{unknowns-unfit, unknowns-fit}
 use borrow.Author.Needs.{needs, sfits-of}
 use Rattle.dombrelat.proofs.reading.dombrelat_unknowns.Statement.{statement}
 use Rattle.dombrelat.proofs.reading.dombrelat_unknowns.Tie as tie
 
-fit : (e : tie.Else2) → bytesFit (now (e .before .before .before .before .args .book)) ≡ true
-fit e = sym (e .before .fits2 .ensures) ∙ not-false _ (e .if2 .left)
+fit : (e : tie.Else1) → bytesFit (now (e .before .before .before .args .book)) ≡ true
+fit e = sym (e .before .holds-book .ensures) ∙ not-false _ (e .if1 .left)
+
+holds-book-requires : tie.Need-holds-book-requires
+holds-book-requires c κs = search needs
 
 returns : tie.Need-returns
-returns c = unknowns-unfit _ (short-unfit _ (c .if1 .taken))
-
-fits-requires : tie.Need-fits-requires
-fits-requires c κs = search needs
-
-returns-2 : tie.Need-returns-2
-returns-2 c = unknowns-unfit _ (sym (c .before .fits2 .ensures) ∙ not-true _ (c .if2 .taken))
+returns c = unknowns-unfit _ (sym (c .before .holds-book .ensures) ∙ not-true _ (c .if1 .taken))
 
 network-in-requires : tie.Need-network-in-requires
-network-in-requires c κs = search needs
+network-in-requires c κs = fits-room _ (fit c)
 
 number-of-requires : tie.Need-number-of-requires
 number-of-requires c κs = search needs
@@ -34,8 +31,8 @@ number-of-requires c κs = search needs
 numbered-word-requires : tie.Need-numbered-word-requires
 numbered-word-requires c κs = omega (arith, c .number-of .ensures, number-small (c .before .before .network-in .result .stations) 96)
 
-returns-3 : tie.Need-returns-3
-returns-3 c =
+returns-2 : tie.Need-returns-2
+returns-2 c =
     let n = c .numbered-word in
     toZ-ofZ {w = w64} {z = n .result} (sfits-of (n .ok)) ∙ n .ensures
     ∙ unknowns-fit _ _ _ (fit (c .before .before .before .before)) (c .before .before .before .network-in .ensures) (c .before .number-of .ensures)
@@ -44,10 +41,9 @@ pub dombrelat-unknowns-spec : {M : Type 1} → statement M
 dombrelat-unknowns-spec =
     tie.close
     (tie.spec
+    holds-book-requires
     returns
-    fits-requires
-    returns-2
     network-in-requires
     number-of-requires
     numbered-word-requires
-    returns-3)
+    returns-2)
