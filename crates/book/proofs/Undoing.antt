@@ -8,8 +8,8 @@ use borrow.Author.Tests.{lt-ltb, le-ltb}
 use lib.Dec.{ltb}
 use lib.ListN.{length, getD, set}
 use Rattle.words.specs.Bools.{and-left, and-right}
-use Rattle.network.specs.Records.{recordAt}
-use Rattle.network.specs.Rules.{isEmpty, recordFits}
+use Rattle.network.specs.Records.{recordAt, isEmpty}
+use Rattle.network.specs.Rules.{recordFits}
 use Rattle.network.specs.declared.Network.{Network}
 use Rattle.network.specs.declared.Place.{Place}
 use Rattle.network.specs.declared.Record.{Record}

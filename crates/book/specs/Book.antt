@@ -7,8 +7,8 @@ use lib.ListN.{set, replicate}
 use lib.IntN.{ℤ, pos}
 use Rattle.lists.specs.All.{allBelow}
 use Rattle.network.specs.Stations.{networkOf, networkFits, opens}
-use Rattle.network.specs.Records.{vacant, recordAt}
-use Rattle.network.specs.Rules.{isEmpty, recordFits}
+use Rattle.network.specs.Records.{vacant, recordAt, isEmpty}
+use Rattle.network.specs.Rules.{recordFits}
 use Rattle.network.specs.declared.Network.{Network}
 use Rattle.network.specs.declared.Record.{Record}
 use Rattle.network.specs.declared.Record.the-variants.{Empty}

@@ -8,7 +8,8 @@ use native.Mathlib.Omega.{arith}
 use borrow.Author.Tests.{ltb-true}
 use lib.IntN.{ℤ}
 use Rattle.words.specs.SignedLaws.{index-test}
-use Rattle.network.specs.Rules.{inList, isEmpty, recordNo}
+use Rattle.network.specs.Records.{isEmpty}
+use Rattle.network.specs.Rules.{inList, recordNo}
 use Rattle.network.specs.declared.Network.{Network}
 use Rattle.network.specs.declared.Place.{Place}
 use Rattle.network.specs.declared.Record.{Record}

@@ -7,7 +7,8 @@ use lib.Dec.{eqb}
 use lib.IntN.{ℤ}
 use Rattle.integers.specs.Tables.{tabulate}
 use Rattle.words.specs.Signed.{indexIn}
-use Rattle.network.specs.Rules.{inList, isEmpty, recordNo}
+use Rattle.network.specs.Records.{isEmpty}
+use Rattle.network.specs.Rules.{inList, recordNo}
 use Rattle.network.specs.declared.Network.{Network}
 use Rattle.network.specs.declared.Place.{Place}
 use Rattle.network.specs.declared.Record.{Record}

@@ -5,7 +5,7 @@ use mathlib.Core.List.{List, [], _∷_}
 use lib.Dec.{eqb, leb, ltb}
 use lib.ListN.{getD, set, replicate}
 use Rattle.lists.specs.All.{allBelow}
-use Rattle.network.specs.Rules.{isEmpty}
+use Rattle.network.specs.Records.{isEmpty}
 use Rattle.network.specs.declared.Record.the-variants.{Empty}
 use Rattle.book.specs.declared.Reversal.{Reversal}
 use Rattle.book.specs.declared.Journal.{Journal}

@@ -11,7 +11,7 @@ use lib.ListN.{take, length, set, getD}
 use lib.Seq.{getD-set-same, getD-set-other}
 use Rattle.words.specs.Bools.{clash, and-left, and-right, and-both}
 use Rattle.lists.specs.All.{all-at, all-by}
-use Rattle.network.specs.Rules.{isEmpty}
+use Rattle.network.specs.Records.{isEmpty, observations}
 use Rattle.book.specs.declared.Reversal.{Reversal}
 use Rattle.book.specs.declared.Journal.{Journal}
 use Rattle.book.specs.Journal.{free, before, entriesBefore, reversals, pushed, popped, latest, isFree, isHeld, journalFits}
@@ -108,7 +108,7 @@ reversals-pop j some t =
     (sym (untouched l (before (j .next)) free 0 (j .held - 1) (before (j .next)) (omega arith) (omega arith) (omega arith)))
 
 pub tidy-popped : (j : Journal) → length (j .entries) ≡ 64 → 0 < j .held → Tidy j → Tidy (popped j)
-unfolding isFree isEmpty
+unfolding isFree isEmpty observations
 tidy-popped j len some t =
     let p : j .next < 64 = t .next in
     let q : j .held ≤ 64 = t .held in

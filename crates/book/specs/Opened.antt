@@ -5,8 +5,8 @@ use mathlib.Core.Bool.{true}
 use native.Mathlib.Omega.{arith}
 use lib.ListN.{replicate, length-replicate, getD-replicate}
 use Rattle.network.specs.Stations.{networkFits}
-use Rattle.network.specs.Records.{vacant, recordAt}
-use Rattle.network.specs.Rules.{isEmpty, recordFits}
+use Rattle.network.specs.Records.{vacant, recordAt, isEmpty, observations}
+use Rattle.network.specs.Rules.{recordFits}
 use Rattle.network.specs.declared.Network.{Network}
 use Rattle.network.specs.declared.Record.{Record}
 use Rattle.network.specs.declared.Record.the-variants.{Empty}
@@ -29,7 +29,7 @@ unfolding blankNormals
 normals-none net = blank-is (net .stations) (replicate 256 vacant) (λ p h. empty-at 256 p)
 
 pub sound-opened : (net : Network) → networkFits net ≡ true → Sound (openedBook net)
-unfolding entriesBefore isFree isEmpty
+unfolding entriesBefore isFree isEmpty observations
 sound-opened net g =
     record {
       network = g;

@@ -12,8 +12,8 @@ use Rattle.integers.specs.Tables.{length-tabulate}
 use Rattle.words.specs.Bools.{clash, and-left, and-right, and-both}
 use Rattle.lists.specs.All.{allBelow, all-at, all-by}
 use Rattle.network.specs.Stations.{networkFits}
-use Rattle.network.specs.Records.{recordAt}
-use Rattle.network.specs.Rules.{isEmpty, recordFits}
+use Rattle.network.specs.Records.{recordAt, isEmpty}
+use Rattle.network.specs.Rules.{recordFits}
 use Rattle.network.specs.declared.Network.{Network}
 use Rattle.network.specs.declared.Place.{Place}
 use Rattle.network.specs.declared.Record.{Record}

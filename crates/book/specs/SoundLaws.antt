@@ -8,8 +8,8 @@ use lib.Dec.{ltb}
 use lib.IntN.{ℤ}
 use lib.ListN.{length, take, set, length-set}
 use Rattle.words.specs.Bools.{and-no-left, and-no-right}
-use Rattle.network.specs.Records.{recordAt}
-use Rattle.network.specs.Rules.{isEmpty, recordNo, recordFits}
+use Rattle.network.specs.Records.{recordAt, isEmpty}
+use Rattle.network.specs.Rules.{recordNo, recordFits}
 use Rattle.network.specs.declared.Network.{Network}
 use Rattle.network.specs.declared.Place.{Place}
 use Rattle.network.specs.declared.Record.{Record}

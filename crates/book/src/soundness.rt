@@ -14,8 +14,8 @@ ghost use lib.Dec.{ltb};
 ghost use lib.ListN.{getD};
 ghost use Rattle.lists.specs.All.{allBelow};
 ghost use Rattle.network.specs.Stations.{coordinates, networkFits};
-ghost use Rattle.network.specs.Records.{recordAt};
-ghost use Rattle.network.specs.Rules.{isEmpty, recordFits};
+ghost use Rattle.network.specs.Records.{recordAt, isEmpty};
+ghost use Rattle.network.specs.Rules.{recordFits};
 ghost use Rattle.book.specs.Journal.{free, isFree, isHeld, journalFits, reversals};
 ghost use Rattle.book.specs.Book.{undoable, sound};
 

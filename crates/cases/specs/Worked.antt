@@ -12,8 +12,8 @@ use Rattle.words.specs.Signed.{indexIn}
 use Rattle.lists.specs.All.{allBelow}
 use Rattle.weights.specs.Rules.{weightsInRange, minorsPositive, adjugateFits, matrixFits, adjugate}
 use Rattle.network.specs.Stations.{blank, networkOf, stationIn, kindAt, opens, wholeStations, kindsFit, coordinatesFit, unknownsFit, unknown, unknownIn, number, coordinate, coordinateIn}
-use Rattle.network.specs.Records.{acts, fromOf, toOf, joins, weights, misclosures, misclosureAt}
-use Rattle.network.specs.Rules.{endsFit, baselineInRange, heightInRange, misclosureFits, recordNoOver, recordNo, isEmpty}
+use Rattle.network.specs.Records.{acts, fromOf, toOf, joins, weights, misclosures, misclosureAt, isEmpty, observations, actsOf}
+use Rattle.network.specs.Rules.{endsFit, baselineInRange, heightInRange, misclosureFits, recordNoOver, recordNo}
 use Rattle.network.specs.declared.Kind.the-variants.{Known, Height}
 use Rattle.network.specs.declared.Network.{Network}
 use Rattle.network.specs.declared.Place.{Place}
@@ -87,9 +87,9 @@ unfolding opens stationList wholeStations kindsFit coordinatesFit unknownsFit al
 list-opens = refl
 
 pub all-places : map (placesIn network) table ≡ map (λ c. filled (c .records)) table
-unfolding filled network table final rowNext briefNo first placeNo filledNo emptyNo undoNo recordNo recordNoOver endsFit baselineInRange weightsInRange heightInRange minorsPositive adjugateFits matrixFits misclosureFits misclosures misclosureAt fromOf toOf indexIn tabulate coordinate coordinateIn allBelow standing accepted unless isEmpty
+unfolding filled network table final rowNext briefNo first placeNo filledNo emptyNo undoNo recordNo recordNoOver endsFit baselineInRange weightsInRange heightInRange minorsPositive adjugateFits matrixFits misclosureFits misclosures misclosureAt fromOf toOf indexIn tabulate coordinate coordinateIn allBelow standing accepted unless isEmpty observations
 all-places = refl
 
 pub all-worked : map (λ c. workedOn network (filled (c .records)) c) table ≡ map expected table
-unfolding workedOn filled expected network table final answers rowNext rowSays briefNo first placeNo filledNo emptyNo undoNo recordNo recordNoOver endsFit baselineInRange weightsInRange heightInRange minorsPositive adjugateFits matrixFits misclosureFits misclosures misclosureAt fromOf toOf indexIn tabulate coordinate coordinateIn allBelow standing accepted unless isEmpty answer sum sumN entryN shareN entryU shareU A isUnknown unknown unknownIn number joins weights judge judgeNumbers lengthsFit correctionsSmall inverseSmall defectSmall residualSmall refinementSmall allTied isTied tiedSet edge acts firstUntied firstFailing search pass join setOf setBit digit workedOut onAcceptance room wordsOf stationWords verdictAt recordWords stationLines recordLines globalWords sheetWords verdictWord localVerdict globalVerdict chiSquare correction adjusted covariance residual unknownAtEnd inAdjustment weightedSquares shareT T observations shareD isRecord recordCount D observationVariance differenceVariance residualVariance adjugate
+unfolding workedOn filled expected network table final answers rowNext rowSays briefNo first placeNo filledNo emptyNo undoNo recordNo recordNoOver endsFit baselineInRange weightsInRange heightInRange minorsPositive adjugateFits matrixFits misclosureFits misclosures misclosureAt fromOf toOf indexIn tabulate coordinate coordinateIn allBelow standing accepted unless isEmpty answer sum sumN entryN shareN entryU shareU A isUnknown unknown unknownIn number joins weights judge judgeNumbers lengthsFit correctionsSmall inverseSmall defectSmall residualSmall refinementSmall allTied isTied tiedSet edge acts firstUntied firstFailing search pass join setOf setBit digit workedOut onAcceptance room wordsOf stationWords verdictAt recordWords stationLines recordLines globalWords sheetWords verdictWord localVerdict globalVerdict chiSquare correction adjusted covariance residual unknownAtEnd inAdjustment weightedSquares shareT T observations shareD isRecord recordCount D observationVariance differenceVariance residualVariance adjugate actsOf
 all-worked = refl

@@ -15,7 +15,7 @@ use Rattle.integers.specs.Sums.{sum, sumN, sum-ext, sum-0, sum-*r, sum-swap, ma
 use Rattle.integers.specs.Dependence.{Dependent, dependent-within}
 use Rattle.words.specs.Bools.{true-or-false}
 use Rattle.network.specs.Stations.{unknownCount}
-use Rattle.network.specs.Records.{acts, recordAt}
+use Rattle.network.specs.Records.{acts, recordAt, observations, actsOf}
 use Rattle.network.specs.declared.Station.{Station}
 use Rattle.network.specs.declared.Place.{Place}
 use Rattle.network.specs.declared.Record.{Record}
@@ -33,7 +33,7 @@ abbrev observes : Record → ℕ → ℕ
 observes r a = cond (acts a r) 1 0
 
 observed : (r : Record) → sumN 3 (observes r) ≡ observations r
-unfolding acts observations sumN
+unfolding acts observations sumN actsOf
 observed Empty = refl
 observed (baseline b) = refl
 observed (height h) = refl

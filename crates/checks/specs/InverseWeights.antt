@@ -15,7 +15,7 @@ use Rattle.words.specs.Bools.{clash, true-or-false}
 use Rattle.weights.specs.Rules.{adjugate, determinant}
 use Rattle.weights.specs.Quotients.{divisor, divisor-some}
 use Rattle.weights.specs.Inverse.{adjugateAt, adjugate-inverse}
-use Rattle.network.specs.Records.{acts, weights}
+use Rattle.network.specs.Records.{acts, weights, observations, actsOf}
 use Rattle.network.specs.Rules.{matrixOf, recordFits}
 use Rattle.network.specs.declared.Network.{Network}
 use Rattle.network.specs.declared.Level.{Level}
@@ -48,7 +48,7 @@ unfolding sum weights weightAdjugate
 height-inverse x a b p q = rw (p, q) (ring (x .weight ∷ []) (search shapes depth 12) tt)
 
 pub inverse-weights : (net : Network) (r : Record) → recordFits net r ≡ true → InverseWeights r (weightAdjugate r) (weightDeterminant r)
-unfolding weightAdjugate weightDeterminant weights acts
+unfolding weightAdjugate weightDeterminant weights acts observations actsOf
 inverse-weights net Empty e = record { positive = lit< tt; inverse = λ a b p q d d′. clash d refl }
 inverse-weights net (baseline x) e =
     let w = weights-by-rules net (baseline x) e .east in
@@ -62,7 +62,7 @@ inverse-weights net (height x) e =
 
 -- q's quotient, floor(S·adj/det), is of its diagonal
 pub observation-quotient : (r : Record) (a : ℕ) → a < 3 → acts a r ≡ true → observationVariance r a ≡ floorDiv (S *ℤ weightAdjugate r a a) (weightDeterminant r)
-unfolding acts observationVariance adjugate adjugateAt weightAdjugate weightDeterminant
+unfolding acts observationVariance adjugate adjugateAt weightAdjugate weightDeterminant observations actsOf
 observation-quotient Empty a h e = clash e refl
 observation-quotient (baseline b) zero h e = refl
 observation-quotient (baseline b) (suc zero) h e = refl

@@ -12,7 +12,7 @@ use lib.IntN.{ℤ, pos, _-ℤ_}
 use Rattle.integers.specs.Sums.{sum, sum-ext, sumN-ext}
 use Rattle.words.specs.Bools.{clash, same-test}
 use Rattle.network.specs.Stations.{unknown, unknownCount}
-use Rattle.network.specs.Records.{acts, fromOf, toOf, recordAt}
+use Rattle.network.specs.Records.{acts, fromOf, toOf, recordAt, observations, actsOf}
 use Rattle.network.specs.Rules.{recordFits}
 use Rattle.network.specs.RuleLaws.{network-few, in-list, ends, baseline-fits, height-fits}
 use Rattle.network.specs.declared.Network.{Network}
@@ -48,7 +48,7 @@ flipped net (inr e) = inr (e .1, e .0)
 
 -- the ends of an acting record are in the list
 ends-listed : (net : Network) (few : net .count ≤ 32) (r : Record) (c : ℕ) → recordFits net r ≡ true → acts c r ≡ true → (fromOf r < net .count) × (toOf r < net .count)
-unfolding acts fromOf toOf
+unfolding acts fromOf toOf observations actsOf
 ends-listed net few Empty c e a = clash a refl
 ends-listed net few (baseline b) c e a =
     let i = ends (net .count) (b .from) (b .to) few (baseline-fits net b e .ends) in (in-list (net .count) (b .from) few (i .0), in-list (net .count) (b .to) few (i .1 .0))

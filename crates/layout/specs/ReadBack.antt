@@ -17,9 +17,9 @@ use Rattle.words.specs.Signed.{indexIn, signed, unsigned, eqZ}
 use Rattle.words.specs.SignedLaws.{eqZ-true, unsigned-signed}
 use Rattle.lists.specs.All.{all-at}
 use Rattle.network.specs.Stations.{blank, stationAt, kindAt, kindOf, stationIn, countFits, coordinatesFit, unknownsFit, isKnown, isBlank, blankBeyond, networkFits}
-use Rattle.network.specs.Records.{vacant, recordAt}
+use Rattle.network.specs.Records.{vacant, recordAt, isEmpty}
 use Rattle.network.specs.RecordWords.{recordIn, recordLength}
-use Rattle.network.specs.Rules.{isEmpty, recordFits}
+use Rattle.network.specs.Rules.{recordFits}
 use Rattle.network.specs.RuleLaws.{network-few, empty-is, fits-empty}
 use Rattle.network.specs.declared.Kind.{Kind}
 use Rattle.network.specs.declared.Kind.the-variants.{Known, Free, Height}

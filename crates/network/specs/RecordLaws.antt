@@ -1,5 +1,6 @@
 -- What the code of a record's misclosures asks of it, and their size.
 use Prim.Native.Nat.{ℕ, _+_, _*_, _<_, _≤_, zero-le}
+use mathlib.Core.Bool.{Bool, true, false, cond}
 use mathlib.Core.List.{List}
 use native.Mathlib.Omega.{arith}
 use lib.ListN.{getD}
@@ -7,9 +8,8 @@ use lib.IntN.{ℤ, pos, natAbs, _-ℤ_}
 use Rattle.integers.specs.Bounds.{bounds, absle}
 use Rattle.integers.specs.Tables.{Within}
 use Rattle.network.specs.declared.Record.{Record}
-use Rattle.network.specs.declared.Record.the-variants.{Empty, Baseline as baseline, Height as height}
 use Rattle.lists.specs.Sizes.{small-at}
-use Rattle.network.specs.Records.{fromOf, toOf, observed, misclosureAt, misclosures}
+use Rattle.network.specs.Records.{acts, fromOf, toOf, observed, misclosureAt, misclosureIn, misclosures}
 
 -- a record whose ends are stations and whose observed values are in range, over provisional coordinates in range
 pub record Observed (coordinate : List ℤ) (r : Record) : Type 0 where
@@ -26,14 +26,14 @@ misclosure-size c f t a o h w =
     absle (o -ℤ (getD c (t * 3 + a) (pos 0) -ℤ getD c (f * 3 + a) (pos 0))) (search bounds) (omega arith)
 
 -- before they are judged, the misclosures fit 64 bits by far
+pub misclosure-small : (c : List ℤ) (r : Record) → Observed c r → (a : ℕ) → natAbs (misclosureIn c r a) ≤ 2000000000
+unfolding misclosureIn
+misclosure-small c r o a = go (acts a r)
+  where
+    go : (t : Bool) → natAbs (cond t (misclosureAt c (fromOf r) (toOf r) a (getD (observed r) a (pos 0))) (pos 0)) ≤ 2000000000
+    go true = misclosure-size c (fromOf r) (toOf r) a (getD (observed r) a (pos 0)) (o .values a) (o .provisional)
+    go false = zero-le
+
 pub misclosures-small : (c : List ℤ) (r : Record) → Observed c r → (a : ℕ) → natAbs (getD (misclosures c r) a (pos 0)) ≤ 2000000000
-unfolding misclosures observed
-misclosures-small c Empty o = small-at 2000000000 (misclosures c Empty) (zero-le, (zero-le, (zero-le, tt)))
-misclosures-small c (baseline b) o =
-    let f = fromOf (baseline b) in
-    let t = toOf (baseline b) in
-    small-at 2000000000 (misclosures c (baseline b))
-    (misclosure-size c f t 0 (b .east) (o .values 0) (o .provisional), (misclosure-size c f t 1 (b .north) (o .values 1) (o .provisional), (misclosure-size c f t 2 (b .up) (o .values 2) (o .provisional), tt)))
-misclosures-small c (height h) o =
-    small-at 2000000000 (misclosures c (height h))
-    (zero-le, (zero-le, (misclosure-size c (fromOf (height h)) (toOf (height h)) 2 (h .up) (o .values 2) (o .provisional), tt)))
+unfolding misclosures
+misclosures-small c r o = small-at 2000000000 (misclosures c r) (misclosure-small c r o 0, (misclosure-small c r o 1, (misclosure-small c r o 2, tt)))

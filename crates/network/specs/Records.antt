@@ -1,6 +1,6 @@
--- Records: what a place holds, with the components it acts in, its ends, weights, observed values and misclosures. Assumes nothing.
-use Prim.Native.Nat.{ℕ, _+_, _*_, _≤_}
-use mathlib.Core.Bool.{Bool, true, false}
+-- Records: what a place holds, with its shape, ends, weights, observed values and misclosures. Assumes nothing.
+use Prim.Native.Nat.{ℕ, zero, suc, _+_, _*_, _≤_}
+use mathlib.Core.Bool.{Bool, true, false, cond}
 use mathlib.Core.List.{List, [], _∷_}
 use native.Mathlib.Omega.{arith}
 use lib.Dec.{eqb}
@@ -20,11 +20,25 @@ vacant = record { entry = Empty }
 abbrev pub recordAt : List Place → ℕ → Record
 recordAt places p = getD places p vacant .entry
 
--- ════ the components a record acts in: "baselines act in E, N, U; height differences in U only". Components are 0 E, 1 N, 2 U
+-- ════ the shape of a record: how many components it observes, and in which it acts. What counts records, or takes or prints a line of one, follows from it
+-- "3 per baseline + 1 per height difference"; an empty place observes nothing
+unfoldable pub observations : Record → ℕ
+observations Empty = 0
+observations (baseline b) = 3
+observations (height h) = 1
+
+-- one that observes so many acts in none, in U alone, or in all three. Components are 0 E, 1 N, 2 U
+unfoldable pub actsOf : ℕ → ℕ → Bool
+actsOf zero c = false
+actsOf (suc zero) c = eqb c 2
+actsOf (suc (suc n)) c = true
+
+-- "baselines act in E, N, U; height differences in U only"
 unfoldable pub acts : ℕ → Record → Bool
-acts c Empty = false
-acts c (baseline b) = true
-acts c (height h) = eqb c 2
+acts c r = actsOf (observations r) c
+
+unfoldable pub isEmpty : Record → Bool
+isEmpty r = eqb (observations r) 0
 
 -- ════ the stations a record joins, counted from 0; 32 where the number is none of 1 to 32
 unfoldable pub fromOf : Record → ℕ
@@ -65,15 +79,13 @@ observed (height h) = pos 0 ∷ pos 0 ∷ h .up ∷ []
 unfoldable pub misclosureAt : List ℤ → ℕ → ℕ → ℕ → ℤ → ℤ
 misclosureAt c f t a o = o -ℤ (getD c (t * 3 + a) (pos 0) -ℤ getD c (f * 3 + a) (pos 0))
 
--- the misclosures of a record, 0 in a component that it does not observe
+-- the misclosure of a record in component a, 0 in one that it does not observe
+unfoldable pub misclosureIn : List ℤ → Record → ℕ → ℤ
+misclosureIn c r a = cond (acts a r) (misclosureAt c (fromOf r) (toOf r) a (getD (observed r) a (pos 0))) (pos 0)
+
+-- in E, N, U
 unfoldable pub misclosures : List ℤ → Record → List ℤ
-misclosures c Empty = pos 0 ∷ pos 0 ∷ pos 0 ∷ []
-misclosures c (baseline b) =
-    misclosureAt c (fromOf (baseline b)) (toOf (baseline b)) 0 (b .east)
-    ∷ misclosureAt c (fromOf (baseline b)) (toOf (baseline b)) 1 (b .north)
-    ∷ misclosureAt c (fromOf (baseline b)) (toOf (baseline b)) 2 (b .up)
-    ∷ []
-misclosures c (height h) = pos 0 ∷ pos 0 ∷ misclosureAt c (fromOf (height h)) (toOf (height h)) 2 (h .up) ∷ []
+misclosures c r = misclosureIn c r 0 ∷ misclosureIn c r 1 ∷ misclosureIn c r 2 ∷ []
 
 -- l of a record
 abbrev pub l : List Station → Record → ℕ → ℤ

@@ -22,9 +22,9 @@ use Rattle.weights.specs.Positive.{PositiveMatrix, positive-matrix}
 use Rattle.weights.specs.Determinants.{weight-some}
 use Rattle.network.specs.Ranges.{baseline-range, height-range}
 use Rattle.network.specs.Stations.{coordinates, coordinate, unknownCount, countFits, coordinatesFit, unknownsFit, blankBeyond, networkFits}
-use Rattle.network.specs.Records.{fromOf, toOf, joins, weights, observed, misclosures, l}
+use Rattle.network.specs.Records.{fromOf, toOf, joins, weights, observed, misclosureIn, misclosures, l, observations, actsOf, acts, isEmpty}
 use Rattle.network.specs.RecordLaws.{Observed}
-use Rattle.network.specs.Rules.{inList, endsFit, matrixOf, baselineInRange, heightInRange, misclosureFits, recordNoOver, recordNo, isEmpty, recordFitsOver, recordFits}
+use Rattle.network.specs.Rules.{inList, endsFit, matrixOf, baselineInRange, heightInRange, misclosureFits, recordNoOver, recordNo, recordFitsOver, recordFits}
 use Rattle.network.specs.declared.Station.{Station}
 use Rattle.network.specs.declared.Network.{Network}
 use Rattle.network.specs.declared.Baseline.{Baseline}
@@ -159,9 +159,7 @@ module _ (count : ℕ) (c : List ℤ) (few : count ≤ 32) (w : Within 96 500000
 
 misclosures-length : (c : List ℤ) (r : Record) → length (misclosures c r) ≡ 3
 unfolding misclosures
-misclosures-length c Empty = refl
-misclosures-length c (baseline b) = refl
-misclosures-length c (height h) = refl
+misclosures-length c r = refl
 
 closes-within : (c : List ℤ) (r : Record) → misclosureFits c r ≡ true → Within 3 100000 (misclosures c r)
 unfolding misclosureFits
@@ -171,7 +169,7 @@ closes-within c r e =
 
 module _ (net : Network) (few : net .count ≤ 32) where
   sound-empty : SoundRecord (net .stations) Empty
-  unfolding fromOf toOf joins observed weights misclosures
+  unfolding fromOf toOf joins observed weights misclosures misclosureIn acts actsOf observations
   sound-empty =
       record {
         from = lit< tt;
@@ -218,7 +216,7 @@ module _ (net : Network) (few : net .count ≤ 32) where
 
 -- ════ the facade
 pub fits-empty : (net : Network) → recordFits net Empty ≡ true
-unfolding recordFits recordFitsOver isEmpty
+unfolding recordFits recordFitsOver isEmpty observations
 fits-empty net = refl
 
 pub accepted-fits : (net : Network) (r : Record) → recordNo net r ≡ 0 → recordFits net r ≡ true
@@ -230,7 +228,7 @@ accepted-fits net r e = go (isEmpty r)
     go false = eq-eqb (recordNo net r) 0 e
 
 pub accepted-filled : (net : Network) (r : Record) → recordNo net r ≡ 0 → isEmpty r ≡ false
-unfolding recordNo recordNoOver isEmpty
+unfolding recordNo recordNoOver isEmpty observations
 accepted-filled net Empty e = absurd (let z : _≡_ {A = ℕ} 3 0 = e in omega arith)
 accepted-filled net (baseline b) e = refl
 accepted-filled net (height h) e = refl
@@ -244,7 +242,7 @@ filled-accepted net r e f = eqb-true (recordNo net r) 0 (go (isEmpty r) f e)
     go false p q = q
 
 pub empty-is : (r : Record) → isEmpty r ≡ true → r ≡ Empty
-unfolding isEmpty
+unfolding isEmpty observations
 empty-is Empty e = refl
 empty-is (baseline b) e = clash refl (sym e)
 empty-is (height h) e = clash refl (sym e)
@@ -267,11 +265,11 @@ record-no-small net (height h) =
     (lit≤ tt)
 
 pub baseline-fits : (net : Network) (b : Baseline) → recordFits net (baseline b) ≡ true → BaselineFits (net .count) (coordinates (net .stations)) b
-unfolding recordNo isEmpty
+unfolding recordNo isEmpty observations
 baseline-fits net b e = baseline-passed (net .count) (coordinates (net .stations)) b (filled-accepted net (baseline b) e refl)
 
 pub height-fits : (net : Network) (h : Level) → recordFits net (height h) ≡ true → HeightFits (net .count) (coordinates (net .stations)) h
-unfolding recordNo isEmpty
+unfolding recordNo isEmpty observations
 height-fits net h e = height-passed (net .count) (coordinates (net .stations)) h (filled-accepted net (height h) e refl)
 
 pub sound-record : (net : Network) (r : Record) → networkFits net ≡ true → recordFits net r ≡ true → SoundRecord (net .stations) r

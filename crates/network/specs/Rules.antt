@@ -11,7 +11,7 @@ use Rattle.lists.specs.All.{allBelow}
 use Rattle.weights.specs.Rules.{weightFits, weightsInRange, matrixFits}
 use Rattle.weights.specs.declared.WeightMatrix.{WeightMatrix}
 use Rattle.network.specs.Stations.{coordinates}
-use Rattle.network.specs.Records.{misclosures}
+use Rattle.network.specs.Records.{misclosures, isEmpty}
 use Rattle.network.specs.declared.Network.{Network}
 use Rattle.network.specs.declared.Baseline.{Baseline}
 use Rattle.network.specs.declared.Level.{Level}
@@ -57,11 +57,6 @@ recordNoOver count c (height h) =
 
 unfoldable pub recordNo : Network → Record → ℕ
 recordNo net r = recordNoOver (net .count) (coordinates (net .stations)) r
-
-unfoldable pub isEmpty : Record → Bool
-isEmpty Empty = true
-isEmpty (baseline b) = false
-isEmpty (height h) = false
 
 -- what a place may hold: nothing, or a record that is not refused
 unfoldable pub recordFitsOver : ℕ → List ℤ → Record → Bool

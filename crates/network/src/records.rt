@@ -1,14 +1,41 @@
-// A record's ends, weights and misclosures: what its observation equations are made of.
-use super::Baseline;
-use super::Level;
+// A record's shape, ends, weights and misclosures: what its observation equations are made of.
 use super::Record;
 use super::Unit;
 ghost use mathlib.Core.Path.{_≡_};
+ghost use mathlib.Core.Bool.{cond};
 ghost use Prim.Native.Nat.{_≤_, _<_};
-ghost use lib.IntN.{natAbs};
+ghost use lib.IntN.{pos, natAbs};
 ghost use Rattle.integers.specs.Tables.{Within};
-ghost use Rattle.network.specs.Records.{fromOf, toOf, joins, weights, misclosureAt, misclosures};
+ghost use Rattle.network.specs.Records.{observations, acts, isEmpty, fromOf, toOf, joins, weights, observed, misclosureAt, misclosures};
 ghost use Rattle.network.specs.RecordLaws.{Observed};
+
+// How many components a record observes.
+pub fn observations_of(r: Record) -> usize
+    ensures { λ n. ⌜ n ≡ observations r ⌝ }
+{
+    match r {
+        Record::Empty => 0,
+        Record::Baseline(_) => 3,
+        Record::Height(_) => 1,
+    }
+}
+
+// Whether it acts in component c.
+pub fn acts_in(r: Record, c: usize) -> bool
+    ensures { λ t. ⌜ t ≡ acts c r ⌝ }
+{
+    match observations_of(r) {
+        0 => false,
+        1 => c == 2,
+        _ => true,
+    }
+}
+
+pub fn is_empty(r: Record) -> bool
+    ensures { λ t. ⌜ t ≡ isEmpty r ⌝ }
+{
+    observations_of(r) == 0
+}
 
 // The index of the station at the from end, 32 where the record's number is no station's.
 pub fn from_of(r: Record) -> usize
@@ -54,42 +81,35 @@ pub fn weights_of(r: Record) -> [i64; 9]
     }
 }
 
-// Observed minus the provisional difference, in component a.
+// The observed differences in E, N, U.
+fn observed_of(r: Record) -> [i64; 3]
+    ensures { λ s. ⌜ s ≡ observed r ⌝ }
+{
+    match r {
+        Record::Empty => [0, 0, 0],
+        Record::Baseline(b) => [b.east, b.north, b.up],
+        Record::Height(h) => [0, 0, h.up],
+    }
+}
+
+// Observed minus the provisional difference in component a between the stations f and t; 0 of a record that does not act there.
 fn misclosure(
     coordinate: &[i64; Unit::COMPONENTS],
     f: usize,
     t: usize,
     a: usize,
+    acts: bool,
     observed: i64,
 ) -> i64
     requires { ⌜ (f < 32) × (t < 32) × (a < 3) × (natAbs observed ≤ 1000000000) × Within 96 500000000 (now coordinate) ⌝ }
-    ensures { λ r. ⌜ r ≡ misclosureAt (now (coordinate .entry)) f t a observed ⌝ }
+    ensures { λ r. ⌜ r ≡ cond acts (misclosureAt (now (coordinate .entry)) f t a observed) (pos 0) ⌝ }
 {
+    if !acts {
+        return 0;
+    }
     let i = f * 3 + a;
     let j = t * 3 + a;
     observed - (coordinate[j] - coordinate[i])
-}
-
-fn baseline_misclosures(coordinate: &[i64; Unit::COMPONENTS], b: Baseline) -> [i64; 3]
-    requires { ⌜ Observed (now coordinate) (Record.Baseline b) ⌝ }
-    ensures { λ r. ⌜ r ≡ misclosures (now (coordinate .entry)) (Record.Baseline b) ⌝ }
-{
-    let f = words::index_in(b.from, Unit::STATIONS);
-    let t = words::index_in(b.to, Unit::STATIONS);
-    let x = misclosure(coordinate, f, t, 0, b.east);
-    let y = misclosure(coordinate, f, t, 1, b.north);
-    let z = misclosure(coordinate, f, t, 2, b.up);
-    [x, y, z]
-}
-
-fn height_misclosures(coordinate: &[i64; Unit::COMPONENTS], h: Level) -> [i64; 3]
-    requires { ⌜ Observed (now coordinate) (Record.Height h) ⌝ }
-    ensures { λ r. ⌜ r ≡ misclosures (now (coordinate .entry)) (Record.Height h) ⌝ }
-{
-    let f = words::index_in(h.from, Unit::STATIONS);
-    let t = words::index_in(h.to, Unit::STATIONS);
-    let z = misclosure(coordinate, f, t, 2, h.up);
-    [0, 0, z]
 }
 
 // Observed minus the provisional differences, in E, N, U; 0 where the record observes nothing.
@@ -97,9 +117,14 @@ pub fn misclosures_of(coordinate: &[i64; Unit::COMPONENTS], r: Record) -> [i64; 
     requires { ⌜ Observed (now coordinate) r ⌝ }
     ensures { λ s. ⌜ s ≡ misclosures (now (coordinate .entry)) r ⌝ }
 {
-    match r {
-        Record::Empty => [0, 0, 0],
-        Record::Baseline(b) => baseline_misclosures(coordinate, b),
-        Record::Height(h) => height_misclosures(coordinate, h),
-    }
+    let f = from_of(r);
+    let t = to_of(r);
+    let o = observed_of(r);
+    let e = acts_in(r, 0);
+    let n = acts_in(r, 1);
+    let u = acts_in(r, 2);
+    let x = misclosure(coordinate, f, t, 0, e, o[0]);
+    let y = misclosure(coordinate, f, t, 1, n, o[1]);
+    let z = misclosure(coordinate, f, t, 2, u, o[2]);
+    [x, y, z]
 }

@@ -4,6 +4,7 @@ use super::Level;
 use super::Network;
 use super::Record;
 use super::Unit;
+use super::records::is_empty;
 use super::records::misclosures_of;
 use super::stations::coordinates_of;
 use weights::WeightMatrix;
@@ -12,7 +13,7 @@ ghost use mathlib.Core.Bool.{true};
 ghost use Prim.Native.Nat.{_≤_};
 ghost use Rattle.integers.specs.Tables.{Within};
 ghost use Rattle.network.specs.Stations.{coordinatesFit};
-ghost use Rattle.network.specs.Rules.{inList, endsFit, matrixOf, baselineInRange, heightInRange, misclosureFits, recordNoOver, recordNo, isEmpty, recordFitsOver, recordFits};
+ghost use Rattle.network.specs.Rules.{inList, endsFit, matrixOf, baselineInRange, heightInRange, misclosureFits, recordNoOver, recordNo, recordFitsOver, recordFits};
 ghost use Rattle.network.specs.RecordLaws.{Observed};
 
 // v is the number of a station.
@@ -123,16 +124,6 @@ pub fn record_no(net: Network, r: Record) -> u64
     let stations = net.stations;
     let coordinate = coordinates_of(stations);
     record_no_over(count, &coordinate, r)
-}
-
-pub fn is_empty(r: Record) -> bool
-    ensures { λ t. ⌜ t ≡ isEmpty r ⌝ }
-{
-    match r {
-        Record::Empty => true,
-        Record::Baseline(_) => false,
-        Record::Height(_) => false,
-    }
 }
 
 // A place may hold it.

@@ -12,7 +12,7 @@ use Rattle.integers.specs.Solvers.{ring, shapes}
 use Rattle.integers.specs.Sums.{sum, sum-ext}
 use Rattle.words.specs.Bools.{clash, true-or-false}
 use Rattle.network.specs.Stations.{coordinates}
-use Rattle.network.specs.Records.{acts, fromOf, toOf, joins, weights, misclosures, l}
+use Rattle.network.specs.Records.{acts, fromOf, toOf, joins, weights, misclosures, l, observations, actsOf}
 use Rattle.network.specs.declared.Station.{Station}
 use Rattle.network.specs.declared.Record.{Record}
 use Rattle.network.specs.declared.Record.the-variants.{Empty, Baseline as baseline, Height as height}
@@ -29,7 +29,7 @@ module _ (st : List Station) (r : Record) (a i : ℕ) where
   A-not-acting e = rw e
 
 pub P-not-acting : (r : Record) (a b : ℕ) → a < 3 → b < 3 → acts a r ≡ false → P r a b ≡ pos 0
-unfolding acts weights
+unfolding acts weights observations actsOf
 P-not-acting Empty a b p q e = getD-replicate 9 (a * 3 + b) (pos 0) (pos 0) (omega arith)
 P-not-acting (baseline x) a b p q e = clash refl e
 P-not-acting (height x) a b p q e =
@@ -37,7 +37,7 @@ P-not-acting (height x) a b p q e =
     List·getD-append (replicate 8 (pos 0)) (x .weight ∷ []) (pos 0) (a * 3 + b) k ∙ getD-replicate 8 (a * 3 + b) (pos 0) (pos 0) k
 
 pub l-not-acting : (st : List Station) (r : Record) (a : ℕ) → a < 3 → acts a r ≡ false → l st r a ≡ pos 0
-unfolding acts misclosures
+unfolding acts misclosures observations actsOf
 l-not-acting st Empty a p e = getD-replicate 3 a (pos 0) (pos 0) p
 l-not-acting st (baseline x) a p e = clash refl e
 l-not-acting st (height x) a p e =

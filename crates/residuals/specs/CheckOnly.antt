@@ -15,7 +15,7 @@ use Rattle.words.specs.Bools.{clash, true-or-false, and-no-left, and-no-right, 
 use Rattle.words.specs.SignedLaws.{eqZ-false}
 use Rattle.network.specs.Stations.{unknown, number, unknownCount}
 use Rattle.network.specs.StationLaws.{bit-cases, number-below, number-apart}
-use Rattle.network.specs.Records.{acts, fromOf, toOf, joins, l}
+use Rattle.network.specs.Records.{acts, fromOf, toOf, joins, l, observations, actsOf}
 use Rattle.network.specs.RuleLaws.{SoundRecord}
 use Rattle.network.specs.declared.Station.{Station}
 use Rattle.network.specs.declared.Record.{Record}
@@ -39,7 +39,7 @@ pub record CheckOnly (st : List Station) (r : Record) : Type 0 where
 
 -- a record that acts has two ends
 joins-acting : (r : Record) (a : ℕ) → acts a r ≡ true → joins r ≡ pos 1
-unfolding acts joins
+unfolding acts joins observations actsOf
 joins-acting Empty a e = clash e refl
 joins-acting (baseline b) a e = refl
 joins-acting (height h) a e = refl

@@ -16,7 +16,7 @@ use Rattle.words.specs.SignedLaws.{eqZ-false}
 use Rattle.lists.specs.All.{passed}
 use Rattle.weights.specs.Rules.{adjugateE, adjugateN, adjugateU, adjugate, determinant}
 use Rattle.weights.specs.Determinants.{weight-some, weight-most, determinant-E, determinant-N, determinant-U}
-use Rattle.network.specs.Records.{acts}
+use Rattle.network.specs.Records.{acts, observations, actsOf}
 use Rattle.network.specs.Rules.{matrixOf, recordFits}
 use Rattle.network.specs.RuleLaws.{baseline-weights, height-weight}
 use Rattle.network.specs.declared.Network.{Network}
@@ -37,7 +37,7 @@ quotient-least a d p h k =
     (subst (λ (y : ℤ). (pos (2 ^ 14) *ℤ y) ≤ℤ (S *ℤ a)) (sym e) (zle ρ (search shapes) (omega (zarith, lez ρ (search shapes) h, lez ρ (search shapes) k))))
 
 variance-least : (net : Network) (r : Record) (a : ℕ) → a < 3 → recordFits net r ≡ true → acts a r ≡ true → pos (2 ^ 14) ≤ℤ observationVariance r a
-unfolding acts observationVariance adjugate
+unfolding acts observationVariance adjugate observations actsOf
 variance-least net Empty a l e h = clash h refl
 variance-least net (baseline b) zero l e h =
     let w = baseline-weights net b e in let m = w .1 in quotient-least (adjugateE (matrixOf b)) (determinant (matrixOf b)) (m .third) (<ℤ→≤ℤ (m .positiveE)) (determinant-E (matrixOf b) (w .0) m)

@@ -9,7 +9,7 @@ use lib.IntN.{ℤ, pos, _-ℤ_}
 use Rattle.integers.specs.Sums.{sumN, sumN-suc, sumN-ext, sumN-first}
 use Rattle.words.specs.Concat.{concatBelow, concatBelow-none, concatBelow-+1, length-concatBelow, concatBelow-ext}
 use Rattle.network.specs.Stations.{unknownCount, coordinate, coordinates}
-use Rattle.network.specs.Records.{acts, fromOf, toOf, joins, recordAt}
+use Rattle.network.specs.Records.{acts, fromOf, toOf, joins, recordAt, observations, actsOf}
 use Rattle.network.specs.declared.Station.{Station}
 use Rattle.network.specs.declared.Place.{Place}
 use Rattle.network.specs.declared.Record.{Record}
@@ -146,7 +146,7 @@ module _ (stations : List Station) (x m : List ℤ) where
   record-in : (p : ℕ) (r : Record) → fromOf r < 32 → toOf r < 32
       → recordWordsIn (numbersOf stations) (unknownsOf stations) m (unknownCount stations) p r (residualsIn (coordinates stations) (correctionsOf stations x) r)
       ≡ recordWords stations x m p r
-  unfolding recordWordsIn recordWords acts
+  unfolding recordWordsIn recordWords acts observations actsOf
   record-in p Empty f t = refl
   record-in p (baseline b) f t =
       rw (

@@ -1,11 +1,12 @@
 -- The sheet (document 01's word for what an accepted solution becomes): "The lent sheet takes the night print's numbers in order as 64-bit words …:
 -- 5 words, 7 per station, 7 per baseline, 3 per height difference." Assumes nothing.
 use Prim.Native.Nat.{ℕ, zero, suc, _+_, _*_}
+use mathlib.Core.Bool.{cond}
 use mathlib.Core.List.{List, [], _∷_, _++_}
 use lib.IntN.{ℤ, pos}
 use Rattle.integers.specs.Sums.{sumN}
 use Rattle.network.specs.Stations.{unknownCount}
-use Rattle.network.specs.Records.{recordAt}
+use Rattle.network.specs.Records.{observations, isEmpty, recordAt}
 use Rattle.network.specs.declared.Station.{Station}
 use Rattle.network.specs.declared.Network.{Network}
 use Rattle.network.specs.declared.Place.{Place}
@@ -58,11 +59,9 @@ sheetWords net places x m =
     ++ recordLines (net .stations) x m places 256
     ++ globalWords (net .stations) places x
 
--- the room that it takes
+-- the room that it takes: a record's line has the place, and a residual and a verdict for each component that it observes
 unfoldable pub wordsOf : Record → ℕ
-wordsOf Empty = 0
-wordsOf (baseline b) = 7
-wordsOf (height h) = 3
+wordsOf r = cond (isEmpty r) 0 (1 + 2 * observations r)
 
 unfoldable pub room : Network → List Place → ℕ
 room net places = 5 + 7 * net .count + sumN 256 (λ p. wordsOf (recordAt places p))

@@ -16,7 +16,7 @@ use Rattle.integers.specs.Tables.{getD-tabulate, Within}
 use Rattle.words.specs.Signed.{eqZ}
 use Rattle.network.specs.Stations.{unknownIn, unknown, unknownCount, stationAt, coordinates}
 use Rattle.network.specs.StationLaws.{unknown-at}
-use Rattle.network.specs.Records.{recordAt, acts, fromOf, toOf, weights}
+use Rattle.network.specs.Records.{recordAt, acts, fromOf, toOf, weights, observations, actsOf}
 use Rattle.lists.specs.Stored.{stored, back, fits-by}
 use Rattle.network.specs.declared.Kind.{Kind}
 use Rattle.network.specs.declared.Kind.the-variants.{Known, Free, Height}
@@ -105,7 +105,7 @@ inAdjustmentIn unknowns r = eqb (isRecord r) 1 && (eqZ (getD unknowns (fromOf r 
 by-kinds : (r : Record) (f t : Kind)
     → (acts 0 r && (eqb (unknownIn f 0) 1 || eqb (unknownIn t 0) 1)) || (acts 1 r && (eqb (unknownIn f 1) 1 || eqb (unknownIn t 1) 1)) || (acts 2 r && (eqb (unknownIn f 2) 1 || eqb (unknownIn t 2) 1))
     ≡ eqb (isRecord r) 1 && (eqb (unknownIn f 2) 1 || eqb (unknownIn t 2) 1)
-unfolding acts unknownIn isRecord
+unfolding acts unknownIn isRecord observations actsOf
 by-kinds Empty f t = refl
 by-kinds (baseline b) Known Known = refl
 by-kinds (baseline b) Known Free = refl

@@ -1,6 +1,6 @@
 -- `acts_in` is `acts`, case by case. Assumes nothing.
 use borrow.Author.Needs.{needs}
-use Rattle.network.specs.Records.{acts}
+use Rattle.network.specs.Records.{acts, observations, actsOf}
 use Rattle.chains.proofs.records.acts_in.Statement.{statement}
 use Rattle.chains.proofs.records.acts_in.Tie as tie
 
@@ -14,15 +14,15 @@ enum-told-3 : tie.Need-enum-told-3
 enum-told-3 c = search needs
 
 returns : tie.Need-returns
-unfolding acts
+unfolding acts observations actsOf
 returns c = rw (c .enum-told .given .1)
 
 returns-2 : tie.Need-returns-2
-unfolding acts
+unfolding acts observations actsOf
 returns-2 c = rw (c .enum-told2 .given .1)
 
 returns-3 : tie.Need-returns-3
-unfolding acts
+unfolding acts observations actsOf
 returns-3 c = rw (c .enum-told3 .given .1)
 
 pub acts-in-spec : {M : Type 1} → statement M

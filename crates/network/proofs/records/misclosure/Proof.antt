@@ -1,5 +1,7 @@
 -- `network::records::misclosure` meets its contract. Assumes nothing.
 use borrow.Author.Needs.{needs}
+use borrow.Author.Tests.{not-true, not-false}
+use mathlib.Core.Path.{refl}
 use Prim.Native.Nat.{_+_, _*_}
 use lib.ListN.{getD}
 use lib.IntN.{pos}
@@ -36,24 +38,29 @@ element-copy-out-result-2 c = search needs
 
 sub-result : tie.Need-sub-result
 sub-result c =
-    let s = c .before .before in let o = s .pre .3 in let x = s .pre .4 .bound (s .args .f * 3 + s .args .a) in let y = s .pre .4 .bound (s .args .t * 3 + s .args .a) in
+    let s = c .before .before .before in let o = s .pre .3 in let x = s .pre .4 .bound (s .args .f * 3 + s .args .a) in let y = s .pre .4 .bound (s .args .t * 3 + s .args .a) in
     fit (search code-bounds depth 8) tt
 
 sub-result-2 : tie.Need-sub-result-2
 sub-result-2 c =
-    let s = c .before .before in let o = s .pre .3 in let x = s .pre .4 .bound (s .args .f * 3 + s .args .a) in let y = s .pre .4 .bound (s .args .t * 3 + s .args .a) in
+    let s = c .before .before .before in let o = s .pre .3 in let x = s .pre .4 .bound (s .args .f * 3 + s .args .a) in let y = s .pre .4 .bound (s .args .t * 3 + s .args .a) in
     fit (search code-bounds depth 8) tt
 
 returns : tie.Need-returns
+returns c = rw (not-true (c .before .args .acts) (c .if1 .taken)) refl
+
+returns-2 : tie.Need-returns-2
 unfolding misclosureAt
-returns c =
-    let s = c .before .before in let o = s .pre .3 in let x = s .pre .4 .bound (s .args .f * 3 + s .args .a) in let y = s .pre .4 .bound (s .args .t * 3 + s .args .a) in
-    difference (s .args .observed) (getD (s .args .coordinate .now) (s .args .t * 3 + s .args .a) (pos 0)) (getD (s .args .coordinate .now) (s .args .f * 3 + s .args .a) (pos 0)) o y x
+returns-2 c =
+    let s = c .before .before .before in let o = s .pre .3 in let x = s .pre .4 .bound (s .args .f * 3 + s .args .a) in let y = s .pre .4 .bound (s .args .t * 3 + s .args .a) in
+    rw (not-false (s .args .acts) (c .before .before .if1 .left))
+    (difference (s .args .observed) (getD (s .args .coordinate .now) (s .args .t * 3 + s .args .a) (pos 0)) (getD (s .args .coordinate .now) (s .args .f * 3 + s .args .a) (pos 0)) o y x)
 
 pub misclosure-spec : {M : Type 1} → statement M
 misclosure-spec =
     tie.close
     (tie.spec
+    returns
     mul-i
     add-i
     mul-j
@@ -64,4 +71,4 @@ misclosure-spec =
     element-copy-out-result-2
     sub-result
     sub-result-2
-    returns)
+    returns-2)

@@ -1,49 +1,107 @@
--- `network::records::misclosures_of` meets its contract. Assumes nothing.
+-- `misclosures_of`: each misclosure is `misclosureIn` of the record's ends and observed value in its component. Assumes nothing.
 use borrow.Author.Needs.{needs}
-use mathlib.Core.Path.{sym, ap, _∙_, subst}
-use Rattle.network.specs.Records.{misclosures}
-use Rattle.network.specs.RecordLaws.{Observed}
+use Prim.Native.Nat.{ℕ, _<_, _≤_}
+use mathlib.Core.Path.{_≡_, refl, sym, ap, ap₂, _∙_, subst}
+use mathlib.Core.List.{List, _∷_}
+use lib.Dec.{lit<}
+use lib.IntN.{ℤ, pos, natAbs}
+use lib.ListN.{getD}
+use Rattle.lists.specs.Stored.{stored, kept}
+use Rattle.network.specs.Records.{fromOf, toOf, observed, misclosures}
+use Rattle.network.proofs.Differences.{told}
 use Rattle.network.proofs.records.misclosures_of.Statement.{statement}
 use Rattle.network.proofs.records.misclosures_of.Tie as tie
 
-enum-told : tie.Need-enum-told
-enum-told c = search needs
+abbrev start : tie.After-acts-in3 → tie.Start
+start c = c .before .before .before .before .before .before
 
-enum-known-r : tie.Need-enum-known-r
-enum-known-r c = search needs
+from-of-requires : tie.Need-from-of-requires
+from-of-requires c κs = search needs
 
-baseline-misclosures-requires : tie.Need-baseline-misclosures-requires
-baseline-misclosures-requires c κs =
-    subst (Observed _) (c .before .r .given .1) (c .before .before .before .pre)
+to-of-requires : tie.Need-to-of-requires
+to-of-requires c κs = search needs
 
-enum-known-r-2 : tie.Need-enum-known-r-2
-enum-known-r-2 c = search needs
+observed-of-requires : tie.Need-observed-of-requires
+observed-of-requires c κs = search needs
 
-height-misclosures-requires : tie.Need-height-misclosures-requires
-height-misclosures-requires c κs =
-    subst (Observed _) (c .before .r2 .given .1) (c .before .before .before .pre)
+acts-in-requires : tie.Need-acts-in-requires
+acts-in-requires c κs = search needs
+
+acts-in-requires-2 : tie.Need-acts-in-requires-2
+acts-in-requires-2 c κs = search needs
+
+acts-in-requires-3 : tie.Need-acts-in-requires-3
+acts-in-requires-3 c κs = search needs
+
+-- what the calls before gave: the ends, and the observed values
+from-is : (c : tie.After-acts-in3) → c .before .before .before .before .before .from-of .result ≡ fromOf (start c .args .r)
+from-is c = c .before .before .before .before .before .from-of .ensures
+
+to-is : (c : tie.After-acts-in3) → c .before .before .before .before .to-of .result ≡ toOf (start c .args .r)
+to-is c = c .before .before .before .before .to-of .ensures
+
+value-is : (c : tie.After-acts-in3) (a : ℕ) → getD (c .before .before .before .observed-of .result) a (pos 0) ≡ getD (observed (start c .args .r)) a (pos 0)
+value-is c a = ap (λ (l : List ℤ). getD l a (pos 0)) (c .before .before .before .observed-of .ensures)
+
+value-small : (c : tie.After-acts-in3) (a : ℕ) → natAbs (stored (getD (c .before .before .before .observed-of .result) a (pos 0))) ≤ 1000000000
+value-small c a =
+    kept (getD (c .before .before .before .observed-of .result) a (pos 0)) (subst (λ (z : ℤ). natAbs z ≤ 1000000000) (sym (value-is c a)) (start c .pre .values a)) tt
+
+from-low : (c : tie.After-acts-in3) → c .before .before .before .before .before .from-of .result < 32
+from-low c = subst (λ (k : ℕ). k < 32) (sym (from-is c)) (start c .pre .from)
+
+to-low : (c : tie.After-acts-in3) → c .before .before .before .before .to-of .result < 32
+to-low c = subst (λ (k : ℕ). k < 32) (sym (to-is c)) (start c .pre .to)
+
+array-copy-out-misclosure : tie.Need-array-copy-out-misclosure
+array-copy-out-misclosure c = search needs
+
+misclosure-requires : tie.Need-misclosure-requires
+misclosure-requires c κs =
+    let e = c .before in
+    (from-low e, to-low e, lit< tt, value-small e 0, start e .pre .provisional)
+
+array-copy-out-misclosure-2 : tie.Need-array-copy-out-misclosure-2
+array-copy-out-misclosure-2 c = search needs
+
+misclosure-requires-2 : tie.Need-misclosure-requires-2
+misclosure-requires-2 c κs =
+    let e = c .before .before .before in
+    (from-low e, to-low e, lit< tt, value-small e 1, start e .pre .provisional)
+
+array-copy-out-misclosure-3 : tie.Need-array-copy-out-misclosure-3
+array-copy-out-misclosure-3 c = search needs
+
+misclosure-requires-3 : tie.Need-misclosure-requires-3
+misclosure-requires-3 c κs =
+    let e = c .before .before .before .before .before in
+    (from-low e, to-low e, lit< tt, value-small e 2, start e .pre .provisional)
 
 returns : tie.Need-returns
 unfolding misclosures
-returns c = rw (c .enum-told .given .1)
-
-returns-2 : tie.Need-returns-2
-returns-2 c =
-    c .baseline-misclosures .ensures ∙ sym (ap (misclosures _) (c .before .before .r .given .1))
-
-returns-3 : tie.Need-returns-3
-returns-3 c =
-    c .height-misclosures .ensures ∙ sym (ap (misclosures _) (c .before .before .r2 .given .1))
+returns c =
+    let e = c .before .before .before .before .before .before in
+    let s = start e in
+    let k = s .args .coordinate .now in
+    let r = s .args .r in
+    ap₂ _∷_ (told k r (s .pre) 0 _ _ _ _ _ (c .before .before .before .before .misclosure .ensures) (from-is e) (to-is e) (e .before .before .acts-in .ensures) (value-is e 0))
+    (ap₂ _∷_ (told k r (s .pre) 1 _ _ _ _ _ (c .before .before .misclosure2 .ensures) (from-is e) (to-is e) (e .before .acts-in2 .ensures) (value-is e 1))
+    (ap₂ _∷_ (told k r (s .pre) 2 _ _ _ _ _ (c .misclosure3 .ensures) (from-is e) (to-is e) (e .acts-in3 .ensures) (value-is e 2)) refl))
 
 pub misclosures-of-spec : {M : Type 1} → statement M
 misclosures-of-spec =
     tie.close
     (tie.spec
-    enum-told
-    enum-known-r
-    baseline-misclosures-requires
-    enum-known-r-2
-    height-misclosures-requires
-    returns
-    returns-2
-    returns-3)
+    from-of-requires
+    to-of-requires
+    observed-of-requires
+    acts-in-requires
+    acts-in-requires-2
+    acts-in-requires-3
+    array-copy-out-misclosure
+    misclosure-requires
+    array-copy-out-misclosure-2
+    misclosure-requires-2
+    array-copy-out-misclosure-3
+    misclosure-requires-3
+    returns)
