@@ -20,6 +20,29 @@ vacant = record { entry = Empty }
 abbrev pub recordAt : List Place → ℕ → Record
 recordAt places p = getD places p vacant .entry
 
+-- ════ a record by its numbers
+-- a baseline: from, to, the observed differences E, N, U, the weights EE, EN, EU, NN, NU, UU
+abbrev pub baselineOf : ℤ → ℤ → List ℤ → List ℤ → Record
+baselineOf from to o w =
+    baseline
+    (record {
+      from = from;
+      to = to;
+      east = getD o 0 (pos 0);
+      north = getD o 1 (pos 0);
+      up = getD o 2 (pos 0);
+      ee = getD w 0 (pos 0);
+      en = getD w 1 (pos 0);
+      eu = getD w 2 (pos 0);
+      nn = getD w 3 (pos 0);
+      nu = getD w 4 (pos 0);
+      uu = getD w 5 (pos 0);
+    })
+
+-- a height difference: from, to, the observed difference, the weight
+abbrev pub heightOf : ℤ → ℤ → ℤ → ℤ → Record
+heightOf from to up weight = height (record { from = from; to = to; up = up; weight = weight })
+
 -- ════ the shape of a record: how many components it observes, and in which it acts. What counts records, or takes or prints a line of one, follows from it
 -- "3 per baseline + 1 per height difference"; an empty place observes nothing
 unfoldable pub observations : Record → ℕ

@@ -1,6 +1,7 @@
 // Stations, records and their rules: document 01's "Units and stations" and "Records".
 
 mod as_words;
+mod constructors;
 mod opening;
 mod record_codec;
 mod records;
@@ -10,6 +11,8 @@ mod unit;
 
 pub use as_words::kind_word;
 pub use as_words::station_words;
+pub use constructors::baseline_of;
+pub use constructors::height_of;
 pub use opening::coordinates_fit;
 pub use opening::network_fits;
 pub use opening::network_of;
