@@ -13,29 +13,18 @@ ghost use mathlib.Core.Bool.{true, cond};
 ghost use Prim.Native.Nat.{_<_, _≤_};
 ghost use lib.Dec.{eqb};
 ghost use Rattle.network.specs.Stations.{unknownIn};
-ghost use Rattle.network.specs.Records.{acts, fromOf, toOf};
+ghost use Rattle.network.specs.Records.{fromOf, toOf};
 ghost use Rattle.chains.specs.Bits.{bit, setBit, setOf};
 ghost use Rattle.chains.specs.Scans.{firstFailing};
 ghost use Rattle.chains.specs.Chains.{edge, edges, isHeld, isTied};
 ghost use Rattle.chains.specs.ChainLaws.{EndsLow, Ends, SameSet, heldOrIn};
-
-// Whether a record acts in component c: baselines in all three, height differences in U only.
-fn acts_in(r: Record, c: usize) -> bool
-    ensures { λ a. ⌜ a ≡ acts c r ⌝ }
-{
-    match r {
-        Record::Empty => false,
-        Record::Baseline(_) => true,
-        Record::Height(_) => c == 2,
-    }
-}
 
 // A record's ends in one number, those of station 0 twice where it does not act.
 fn edge_of(r: Record, c: usize) -> usize
     requires { ⌜ (fromOf r < 32) × (toOf r < 32) ⌝ }
     ensures { λ e. ⌜ e ≡ edge c r ⌝ }
 {
-    if acts_in(r, c) {
+    if network::acts_in(r, c) {
         return network::from_of(r) * 32 + network::to_of(r);
     }
     0

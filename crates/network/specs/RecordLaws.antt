@@ -1,15 +1,25 @@
--- What the code of a record's misclosures asks of it, and their size.
-use Prim.Native.Nat.{ℕ, _+_, _*_, _<_, _≤_, zero-le}
+-- Laws of a record's shape and misclosures: what their code asks of it, and their sizes. Assumes nothing.
+use Prim.Native.Nat.{ℕ, zero, suc, _+_, _*_, _<_, _≤_, zero-le}
+use mathlib.Core.Path.{_≡_, refl}
 use mathlib.Core.Bool.{Bool, true, false, cond}
 use mathlib.Core.List.{List}
 use native.Mathlib.Omega.{arith}
+use lib.Dec.{lit≤}
 use lib.ListN.{getD}
 use lib.IntN.{ℤ, pos, natAbs, _-ℤ_}
 use Rattle.integers.specs.Bounds.{bounds, absle}
 use Rattle.integers.specs.Tables.{Within}
 use Rattle.network.specs.declared.Record.{Record}
+use Rattle.network.specs.declared.Record.the-variants.{Empty, Baseline as baseline, Height as height}
 use Rattle.lists.specs.Sizes.{small-at}
-use Rattle.network.specs.Records.{acts, fromOf, toOf, observed, misclosureAt, misclosureIn, misclosures}
+use Rattle.network.specs.Records.{observations, acts, fromOf, toOf, observed, misclosureAt, misclosureIn, misclosures}
+
+-- a record observes at most three components
+pub observations-few : (r : Record) → observations r ≤ 3
+unfolding observations
+observations-few Empty = lit≤ tt
+observations-few (baseline b) = lit≤ tt
+observations-few (height h) = lit≤ tt
 
 -- a record whose ends are stations and whose observed values are in range, over provisional coordinates in range
 pub record Observed (coordinate : List ℤ) (r : Record) : Type 0 where
@@ -37,3 +47,16 @@ misclosure-small c r o a = go (acts a r)
 pub misclosures-small : (c : List ℤ) (r : Record) → Observed c r → (a : ℕ) → natAbs (getD (misclosures c r) a (pos 0)) ≤ 2000000000
 unfolding misclosures
 misclosures-small c r o = small-at 2000000000 (misclosures c r) (misclosure-small c r o 0, (misclosure-small c r o 1, (misclosure-small c r o 2, tt)))
+
+-- each by its component
+pub misclosure-at : (c : List ℤ) (r : Record) (a : ℕ) → a < 3 → getD (misclosures c r) a (pos 0) ≡ misclosureIn c r a
+unfolding misclosures
+misclosure-at c r zero h = refl
+misclosure-at c r (suc zero) h = refl
+misclosure-at c r (suc (suc zero)) h = refl
+misclosure-at c r (suc (suc (suc a))) h = absurd (omega arith)
+
+-- where the record does not act it is 0
+pub misclosure-not-acting : (c : List ℤ) (r : Record) (a : ℕ) → acts a r ≡ false → misclosureIn c r a ≡ pos 0
+unfolding misclosureIn
+misclosure-not-acting c r a e = rw e refl

@@ -12,7 +12,8 @@ use Rattle.integers.specs.Solvers.{ring, shapes}
 use Rattle.integers.specs.Sums.{sum, sum-ext}
 use Rattle.words.specs.Bools.{clash, true-or-false}
 use Rattle.network.specs.Stations.{coordinates}
-use Rattle.network.specs.Records.{acts, fromOf, toOf, joins, weights, misclosures, l, observations, actsOf}
+use Rattle.network.specs.Records.{acts, fromOf, toOf, joins, weights, l, observations, actsOf}
+use Rattle.network.specs.RecordLaws.{misclosure-at, misclosure-not-acting}
 use Rattle.network.specs.declared.Station.{Station}
 use Rattle.network.specs.declared.Record.{Record}
 use Rattle.network.specs.declared.Record.the-variants.{Empty, Baseline as baseline, Height as height}
@@ -37,12 +38,7 @@ P-not-acting (height x) a b p q e =
     List·getD-append (replicate 8 (pos 0)) (x .weight ∷ []) (pos 0) (a * 3 + b) k ∙ getD-replicate 8 (a * 3 + b) (pos 0) (pos 0) k
 
 pub l-not-acting : (st : List Station) (r : Record) (a : ℕ) → a < 3 → acts a r ≡ false → l st r a ≡ pos 0
-unfolding acts misclosures observations actsOf
-l-not-acting st Empty a p e = getD-replicate 3 a (pos 0) (pos 0) p
-l-not-acting st (baseline x) a p e = clash refl e
-l-not-acting st (height x) a p e =
-    let k : a < 2 = omega (arith, eqb-false a 2 e) in
-    List·getD-append (replicate 2 (pos 0)) (getD (misclosures (coordinates st) (height x)) 2 (pos 0) ∷ []) (pos 0) a k ∙ getD-replicate 2 a (pos 0) (pos 0) k
+l-not-acting st r a h e = misclosure-at (coordinates st) r a h ∙ misclosure-not-acting (coordinates st) r a e
 
 -- what stands beside the weights counts only where the record acts
 pub acting-only : (r : Record) (f g h k : ℕ → ℤ) → ((a : ℕ) → a < 3 → acts a r ≡ true → f a ≡ g a) → ((b : ℕ) → b < 3 → acts b r ≡ true → h b ≡ k b)

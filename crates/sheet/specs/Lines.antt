@@ -9,7 +9,7 @@ use lib.IntN.{ℤ, pos, _-ℤ_}
 use Rattle.integers.specs.Sums.{sumN, sumN-suc, sumN-ext, sumN-first}
 use Rattle.words.specs.Concat.{concatBelow, concatBelow-none, concatBelow-+1, length-concatBelow, concatBelow-ext}
 use Rattle.network.specs.Stations.{unknownCount, coordinate, coordinates}
-use Rattle.network.specs.Records.{acts, fromOf, toOf, joins, recordAt, observations, actsOf}
+use Rattle.network.specs.Records.{acts, fromOf, toOf, joins, recordAt, observations, actsOf, isEmpty}
 use Rattle.network.specs.declared.Station.{Station}
 use Rattle.network.specs.declared.Place.{Place}
 use Rattle.network.specs.declared.Record.{Record}
@@ -70,7 +70,7 @@ module _ (numbers : List ℕ) (unknowns m : List ℤ) (n : ℕ) where
   recordWordsIn p (height h) v = pos (p + 1) ∷ getD v 2 (pos 0) ∷ verdictIn (height h) 2 (getD v 2 (pos 0)) ∷ []
 
   pub record-length : (p : ℕ) (r : Record) (v : List ℤ) → length (recordWordsIn p r v) ≡ wordsOf r
-  unfolding recordWordsIn wordsOf
+  unfolding recordWordsIn wordsOf isEmpty observations
   record-length p Empty v = refl
   record-length p (baseline b) v = refl
   record-length p (height h) v = refl

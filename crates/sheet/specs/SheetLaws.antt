@@ -7,7 +7,7 @@ use lib.ListN.{length, drop, length-append}
 use lib.IntN.{ℤ, pos}
 use Rattle.integers.specs.Sums.{sumN, sumN-suc}
 use Rattle.network.specs.Stations.{unknownCount}
-use Rattle.network.specs.Records.{recordAt}
+use Rattle.network.specs.Records.{recordAt, isEmpty, observations}
 use Rattle.network.specs.declared.Station.{Station}
 use Rattle.network.specs.declared.Network.{Network}
 use Rattle.network.specs.declared.Place.{Place}
@@ -24,7 +24,7 @@ unfolding stationWords
 station-length stations x m s = refl
 
 record-length : (stations : List Station) (x m : List ℤ) (p : ℕ) (r : Record) → length (recordWords stations x m p r) ≡ wordsOf r
-unfolding recordWords wordsOf
+unfolding recordWords wordsOf isEmpty observations
 record-length stations x m p Empty = refl
 record-length stations x m p (baseline b) = refl
 record-length stations x m p (height h) = refl

@@ -16,7 +16,8 @@ use Rattle.integers.specs.Tables.{getD-tabulate, Within}
 use Rattle.words.specs.Signed.{eqZ}
 use Rattle.network.specs.Stations.{unknownIn, unknown, unknownCount, stationAt, coordinates}
 use Rattle.network.specs.StationLaws.{unknown-at}
-use Rattle.network.specs.Records.{recordAt, acts, fromOf, toOf, weights, observations, actsOf}
+use Rattle.network.specs.Records.{recordAt, acts, fromOf, toOf, weights, observations, actsOf, isEmpty}
+use Rattle.network.specs.RecordLaws.{observations-few}
 use Rattle.lists.specs.Stored.{stored, back, fits-by}
 use Rattle.network.specs.declared.Kind.{Kind}
 use Rattle.network.specs.declared.Kind.the-variants.{Known, Free, Height}
@@ -29,7 +30,7 @@ use Rattle.normals.specs.Formulas.{P}
 use Rattle.normals.specs.Acting.{acting-only}
 use Rattle.normals.specs.Sound.{Sound, record-sound}
 use Rattle.sheet.specs.declared.totals.Counts.{Counts}
-use Rattle.residuals.specs.Residuals.{residual, unknownAtEnd, inAdjustment, weightedSquares, shareT, T, observations, shareD, D, isRecord, recordCount}
+use Rattle.residuals.specs.Residuals.{residual, unknownAtEnd, inAdjustment, weightedSquares, shareT, T, shareD, D, isRecord, recordCount}
 use Rattle.sheet.specs.Sheet.{wordsOf}
 use Rattle.residuals.specs.Components.{residualIn, residualsIn, residual-in, residual-size, unknownsOf, correctionsOf, Closes}
 use Rattle.residuals.specs.Ranges.{Solved, closes-at, sound-at}
@@ -43,15 +44,19 @@ countsOf places = record { records = recordCount places; words = wordCount place
 
 pub record-one : (r : Record) → isRecord r ≤ 1
 unfolding isRecord
-record-one Empty = lit≤ tt
-record-one (baseline b) = lit≤ tt
-record-one (height h) = lit≤ tt
+record-one r = go (isEmpty r)
+  where
+    go : (t : Bool) → cond t 0 1 ≤ 1
+    go true = lit≤ tt
+    go false = lit≤ tt
 
 pub words-few : (r : Record) → wordsOf r ≤ 7
 unfolding wordsOf
-words-few Empty = lit≤ tt
-words-few (baseline b) = lit≤ tt
-words-few (height h) = lit≤ tt
+words-few r = go (isEmpty r)
+  where
+    go : (t : Bool) → cond t 0 (1 + 2 * observations r) ≤ 7
+    go true = lit≤ tt
+    go false = omega (arith, observations-few r)
 
 -- what the loop has counted of the first n places
 pub record Counted (places : List Place) (records words n : ℕ) : Type 0 where
@@ -99,13 +104,13 @@ counts-few places =
 
 -- ════ in the adjustment, from the table of unknowns: an end is unknown in U
 unfoldable pub inAdjustmentIn : List ℤ → Record → Bool
-inAdjustmentIn unknowns r = eqb (isRecord r) 1 && (eqZ (getD unknowns (fromOf r * 3 + 2) (pos 0)) (pos 1) || eqZ (getD unknowns (toOf r * 3 + 2) (pos 0)) (pos 1))
+inAdjustmentIn unknowns r = acts 2 r && (eqZ (getD unknowns (fromOf r * 3 + 2) (pos 0)) (pos 1) || eqZ (getD unknowns (toOf r * 3 + 2) (pos 0)) (pos 1))
 
 -- every record acts in U, and every kind of station that has an unknown has one in U
 by-kinds : (r : Record) (f t : Kind)
     → (acts 0 r && (eqb (unknownIn f 0) 1 || eqb (unknownIn t 0) 1)) || (acts 1 r && (eqb (unknownIn f 1) 1 || eqb (unknownIn t 1) 1)) || (acts 2 r && (eqb (unknownIn f 2) 1 || eqb (unknownIn t 2) 1))
-    ≡ eqb (isRecord r) 1 && (eqb (unknownIn f 2) 1 || eqb (unknownIn t 2) 1)
-unfolding acts unknownIn isRecord observations actsOf
+    ≡ acts 2 r && (eqb (unknownIn f 2) 1 || eqb (unknownIn t 2) 1)
+unfolding acts unknownIn observations actsOf
 by-kinds Empty f t = refl
 by-kinds (baseline b) Known Known = refl
 by-kinds (baseline b) Known Free = refl
@@ -137,12 +142,6 @@ shareDIn unknowns r = cond (inAdjustmentIn unknowns r) (observations r) 0
 
 abbrev pub freedom : ℕ → ℕ → ℤ
 freedom observed n = pos observed -ℤ pos n
-
-observations-few : (r : Record) → observations r ≤ 3
-unfolding observations
-observations-few Empty = lit≤ tt
-observations-few (baseline b) = lit≤ tt
-observations-few (height h) = lit≤ tt
 
 pub shareD-few : (unknowns : List ℤ) (r : Record) → shareDIn unknowns r ≤ 3
 shareD-few unknowns r = go (inAdjustmentIn unknowns r)

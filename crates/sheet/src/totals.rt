@@ -10,7 +10,7 @@ ghost use Rattle.integers.specs.Sums.{sum};
 ghost use Rattle.integers.specs.Tables.{Within};
 ghost use Rattle.network.specs.Records.{fromOf, toOf};
 ghost use Rattle.normals.specs.Sound.{Sound};
-ghost use Rattle.residuals.specs.Residuals.{isRecord, observations, T, D};
+ghost use Rattle.residuals.specs.Residuals.{isRecord, T, D};
 ghost use Rattle.residuals.specs.Ranges.{Solved};
 ghost use Rattle.sheet.specs.Sheet.{wordsOf};
 ghost use Rattle.sheet.specs.Totals.{countsOf, freedom, inAdjustmentIn, shareDIn, shareTIn, Weighed};
@@ -24,21 +24,15 @@ pub struct Counts {
 fn is_record(r: Record) -> usize
     ensures { λ n. ⌜ n ≡ isRecord r ⌝ }
 {
-    match r {
-        Record::Empty => 0,
-        Record::Baseline(_) => 1,
-        Record::Height(_) => 1,
-    }
+    if network::is_empty(r) { 0 } else { 1 }
 }
 
+// The place, and a residual and a verdict for each component that the record observes.
 fn words_in(r: Record) -> usize
     ensures { λ n. ⌜ n ≡ wordsOf r ⌝ }
 {
-    match r {
-        Record::Empty => 0,
-        Record::Baseline(_) => 7,
-        Record::Height(_) => 3,
-    }
+    let n = network::observations_of(r);
+    if network::is_empty(r) { 0 } else { 1 + 2 * n }
 }
 
 pub fn counts_of(places: [Place; 256]) -> Counts
@@ -65,17 +59,7 @@ fn in_adjustment(unknown: &[i64; 96], r: Record) -> bool
 {
     let from = network::from_of(r) * 3 + 2;
     let to = network::to_of(r) * 3 + 2;
-    (is_record(r) == 1) & (words::same(unknown[from], 1) | words::same(unknown[to], 1))
-}
-
-fn observations_in(r: Record) -> usize
-    ensures { λ n. ⌜ n ≡ observations r ⌝ }
-{
-    match r {
-        Record::Empty => 0,
-        Record::Baseline(_) => 3,
-        Record::Height(_) => 1,
-    }
+    network::acts_in(r, 2) & (words::same(unknown[from], 1) | words::same(unknown[to], 1))
 }
 
 // What a record adds to D.
@@ -84,7 +68,7 @@ fn share_of_d(unknown: &[i64; 96], r: Record) -> usize
     ensures { λ n. ⌜ n ≡ shareDIn (now (unknown .entry)) r ⌝ }
 {
     if in_adjustment(unknown, r) {
-        return observations_in(r);
+        return network::observations_of(r);
     }
     0
 }

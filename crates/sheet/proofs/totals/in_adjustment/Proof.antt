@@ -2,7 +2,6 @@ use borrow.Author.Needs.{needs}
 use Prim.Native.Nat.{ℕ, _+_, _*_}
 use mathlib.Core.Path.{ap, ap₂, _∙_}
 use mathlib.Core.Bool.{_&&_, _||_}
-use lib.Dec.{eqb}
 use lib.ListN.{getD}
 use lib.IntN.{ℤ, pos}
 use mir.Syntax.{w64}
@@ -30,8 +29,8 @@ mul-to c = search needs
 add-to : tie.Need-add-to
 add-to c = search needs
 
-is-record-requires : tie.Need-is-record-requires
-is-record-requires c κs = search needs
+acts-in-requires : tie.Need-acts-in-requires
+acts-in-requires c κs = search needs
 
 mul-same : tie.Need-mul-same
 mul-same c = search needs
@@ -58,7 +57,7 @@ returns c =
     let t = k .before in
     let f = t .before in
     let u = f .before .args .unknown .now in
-    ap₂ _&&_ (ap (λ (n : ℕ). eqb n 1) (k .is-record .ensures))
+    ap₂ _&&_ (k .acts-in .ensures)
     (ap₂ _||_
     (c .before .before .same .ensures ∙ ap (λ (z : ℤ). eqZ z (pos 1)) (toZ-ofZ w64 (getD u (f .from-of .result * 3 + 2) (pos 0)) (search needs) ∙ ap (λ (s : ℕ). getD u (s * 3 + 2) (pos 0)) (f .from-of .ensures)))
     (c .same2 .ensures ∙ ap (λ (z : ℤ). eqZ z (pos 1)) (toZ-ofZ w64 (getD u (t .to-of .result * 3 + 2) (pos 0)) (search needs) ∙ ap (λ (s : ℕ). getD u (s * 3 + 2) (pos 0)) (t .to-of .ensures))))
@@ -73,7 +72,7 @@ in-adjustment-spec =
     to-of-requires
     mul-to
     add-to
-    is-record-requires
+    acts-in-requires
     mul-same
     element-copy-out-same
     same-requires

@@ -1,28 +1,20 @@
+-- `is_record`, by whether the record is empty. Assumes nothing.
 use borrow.Author.Needs.{needs}
+use mathlib.Core.Path.{sym, _∙_}
 use Rattle.residuals.specs.Residuals.{isRecord}
 use Rattle.sheet.proofs.totals.is_record.Statement.{statement}
 use Rattle.sheet.proofs.totals.is_record.Tie as tie
 
-enum-told : tie.Need-enum-told
-enum-told c = search needs
-
-enum-told-2 : tie.Need-enum-told-2
-enum-told-2 c = search needs
-
-enum-told-3 : tie.Need-enum-told-3
-enum-told-3 c = search needs
+is-empty-requires : tie.Need-is-empty-requires
+is-empty-requires c κs = search needs
 
 returns : tie.Need-returns
 unfolding isRecord
-returns c = rw (c .enum-told .given .1)
+returns c = rw (sym (c .before .is-empty .ensures) ∙ c .if1 .taken)
 
 returns-2 : tie.Need-returns-2
 unfolding isRecord
-returns-2 c = rw (c .enum-told2 .given .1)
-
-returns-3 : tie.Need-returns-3
-unfolding isRecord
-returns-3 c = rw (c .enum-told3 .given .1)
+returns-2 c = rw (sym (c .before .is-empty .ensures) ∙ c .if1 .left)
 
 pub is-record-spec : {M : Type 1} → statement M
-is-record-spec = tie.close (tie.spec enum-told enum-told-2 enum-told-3 returns returns-2 returns-3)
+is-record-spec = tie.close (tie.spec is-empty-requires returns returns-2)
