@@ -30,7 +30,7 @@ use Rattle.book.specs.Calls.{placesOf, first, placeNo, filledNo, emptyNo, undoN
 use Rattle.book.specs.Run.{final, answers}
 use Rattle.book.specs.Rows.{rowNext, rowSays}
 use Rattle.book.specs.Ledger.{standing, accepted}
-use Rattle.residuals.specs.Residuals.{correction, adjusted, covariance, residual, unknownAtEnd, inAdjustment, weightedSquares, shareT, T, observations, shareD, isRecord, recordCount, D, observationVariance, differenceVariance, residualVariance}
+use Rattle.residuals.specs.Residuals.{correction, adjusted, covariance, residual, unknownAtEnd, inAdjustment, weightedSquares, shareT, T, shareD, isRecord, recordCount, D, observationVariance, differenceVariance, residualVariance}
 use Rattle.residuals.specs.Verdicts.{verdictWord, localVerdict, globalVerdict, chiSquare}
 use Rattle.sheet.specs.Sheet.{stationWords, verdictAt, recordWords, stationLines, recordLines, globalWords, sheetWords, wordsOf, room}
 use Rattle.checks.specs.Checks.{onAcceptance}

@@ -25,7 +25,7 @@ use Rattle.normals.specs.Acting.{A-not-acting}
 use Rattle.normals.specs.WholeMatrices.{rowA, blockP, N-whole}
 use Rattle.acceptance.specs.Tests.{defectSmall}
 use Rattle.acceptance.specs.Kernel.{kernel}
-use Rattle.residuals.specs.Residuals.{inAdjustment, observations, shareD, D}
+use Rattle.residuals.specs.Residuals.{inAdjustment, shareD, D}
 use Rattle.residuals.specs.CheckOnly.{check-only}
 
 -- ════ a record's observations are the components it acts in

@@ -70,28 +70,28 @@ unfoldable pub stationLines : List ℤ → ℕ → List ℕ
 stationLines w zero = []
 stationLines w (suc n) = stationLines w n ++ stationLine w (2 + n * 7)
 
--- the kind of a record: 1 a baseline, else a height difference
+-- the shape of a record is how many components it observes: 3 a baseline, else a height difference
 unfoldable pub recordLine : List ℤ → ℕ → ℕ → List ℕ
-recordLine w o kind = cond (eqb kind 1) (baselineLine w o) (heightLine w o)
+recordLine w o shape = cond (eqb shape 3) (baselineLine w o) (heightLine w o)
 
 unfoldable pub recordWords : ℕ → ℕ
-recordWords kind = cond (eqb kind 1) 7 3
+recordWords shape = cond (eqb shape 3) 7 3
 
 -- where the words of record k start, the first at o
 unfoldable pub recordStart : ℕ → List ℕ → ℕ → ℕ
-recordStart o kinds zero = o
-recordStart o kinds (suc k) = recordStart o kinds k + recordWords (getD kinds k 0)
+recordStart o shapes zero = o
+recordStart o shapes (suc k) = recordStart o shapes k + recordWords (getD shapes k 0)
 
 -- the lines of the first k records
 unfoldable pub recordLines : List ℤ → ℕ → List ℕ → ℕ → List ℕ
-recordLines w o kinds zero = []
-recordLines w o kinds (suc k) = recordLines w o kinds k ++ recordLine w (recordStart o kinds k) (getD kinds k 0)
+recordLines w o shapes zero = []
+recordLines w o shapes (suc k) = recordLines w o shapes k ++ recordLine w (recordStart o shapes k) (getD shapes k 0)
 
--- where the words of the global test start, after n stations and the records of those kinds
+-- where the words of the global test start, after n stations and the records of those shapes
 unfoldable pub globalStart : ℕ → List ℕ → ℕ
-globalStart n kinds = recordStart (2 + n * 7) kinds (length kinds)
+globalStart n shapes = recordStart (2 + n * 7) shapes (length shapes)
 
 -- the printed sheet
 unfoldable pub sheetText : List ℤ → ℕ → List ℕ → List ℕ
-sheetText w n kinds =
-    headLine w ++ stationLines w n ++ recordLines w (2 + n * 7) kinds (length kinds) ++ globalLine w (globalStart n kinds)
+sheetText w n shapes =
+    headLine w ++ stationLines w n ++ recordLines w (2 + n * 7) shapes (length shapes) ++ globalLine w (globalStart n shapes)

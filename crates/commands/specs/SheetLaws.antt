@@ -88,55 +88,55 @@ pub stations-more : (w : List ℤ) (n : ℕ) → stationLines w n ++ stationLine
 unfolding stationLines
 stations-more w n = rw add-one
 
-pub a-baseline : (w : List ℤ) (o kind : ℕ) → kind ≡ 1 → baselineLine w o ≡ recordLine w o kind
+pub a-baseline : (w : List ℤ) (o shape : ℕ) → shape ≡ 3 → baselineLine w o ≡ recordLine w o shape
 unfolding recordLine
-a-baseline w o kind e = rw (eq-eqb kind 1 e)
+a-baseline w o shape e = rw (eq-eqb shape 3 e)
 
-pub a-height : (w : List ℤ) (o kind : ℕ) → (kind ≡ 1 → ⊥) → heightLine w o ≡ recordLine w o kind
+pub a-height : (w : List ℤ) (o shape : ℕ) → (shape ≡ 3 → ⊥) → heightLine w o ≡ recordLine w o shape
 unfolding recordLine
-a-height w o kind q = rw (ne-eqb kind 1 q)
+a-height w o shape q = rw (ne-eqb shape 3 q)
 
-pub seven-words : (kind : ℕ) → kind ≡ 1 → recordWords kind ≡ 7
+pub seven-words : (shape : ℕ) → shape ≡ 3 → recordWords shape ≡ 7
 unfolding recordWords
-seven-words kind e = rw (eq-eqb kind 1 e)
+seven-words shape e = rw (eq-eqb shape 3 e)
 
-pub three-words : (kind : ℕ) → (kind ≡ 1 → ⊥) → recordWords kind ≡ 3
+pub three-words : (shape : ℕ) → (shape ≡ 3 → ⊥) → recordWords shape ≡ 3
 unfolding recordWords
-three-words kind q = rw (ne-eqb kind 1 q)
+three-words shape q = rw (ne-eqb shape 3 q)
 
-module _ (o : ℕ) (kinds : List ℕ) where
-  pub records-start : (l : List ℕ) (at : ℕ) (w : List ℤ) → Written l at (recordLines w o kinds 0) at l
+module _ (o : ℕ) (shapes : List ℕ) where
+  pub records-start : (l : List ℕ) (at : ℕ) (w : List ℤ) → Written l at (recordLines w o shapes 0) at l
   unfolding recordLines
   records-start l at w = nothing l at
 
-  pub start-zero : recordStart o kinds 0 ≡ o
+  pub start-zero : recordStart o shapes 0 ≡ o
   unfolding recordStart
   start-zero = refl
 
-  pub start-more : (i : ℕ) → recordStart o kinds i + recordWords (getD kinds i 0) ≡ recordStart o kinds (i + 1)
+  pub start-more : (i : ℕ) → recordStart o shapes i + recordWords (getD shapes i 0) ≡ recordStart o shapes (i + 1)
   unfolding recordStart
   start-more i = rw add-one
 
   pub records-more :
-      (w : List ℤ) (i : ℕ) → recordLines w o kinds i ++ recordLine w (recordStart o kinds i) (getD kinds i 0) ≡ recordLines w o kinds (i + 1)
+      (w : List ℤ) (i : ℕ) → recordLines w o shapes i ++ recordLine w (recordStart o shapes i) (getD shapes i 0) ≡ recordLines w o shapes (i + 1)
   unfolding recordLines
   records-more w i = rw add-one
 
   -- the words of a record end where those of the last do, at most
-  start-adds : (i d : ℕ) → recordStart o kinds i ≤ recordStart o kinds (i + d)
+  start-adds : (i d : ℕ) → recordStart o shapes i ≤ recordStart o shapes (i + d)
   unfolding recordStart
   start-adds i zero = rw add-zero (omega arith)
   start-adds i (suc d) = rw add-suc (omega (arith, start-adds i d))
 
-  pub start-rises : (i n : ℕ) → i ≤ n → recordStart o kinds i ≤ recordStart o kinds n
+  pub start-rises : (i n : ℕ) → i ≤ n → recordStart o shapes i ≤ recordStart o shapes n
   start-rises i n h = let e : i + (n - i) ≡ n = omega arith in rw e at (start-adds i (n - i))
 
-pub global-after : (n : ℕ) (kinds : List ℕ) → 2 + n * 7 ≤ globalStart n kinds
+pub global-after : (n : ℕ) (shapes : List ℕ) → 2 + n * 7 ≤ globalStart n shapes
 unfolding globalStart
-global-after n kinds =
-    let h = start-rises (2 + n * 7) kinds 0 (length kinds) (omega arith) in
-    omega (arith, h, start-zero (2 + n * 7) kinds)
+global-after n shapes =
+    let h = start-rises (2 + n * 7) shapes 0 (length shapes) (omega arith) in
+    omega (arith, h, start-zero (2 + n * 7) shapes)
 
-pub global-is : (n : ℕ) (kinds : List ℕ) → globalStart n kinds ≡ recordStart (2 + n * 7) kinds (length kinds)
+pub global-is : (n : ℕ) (shapes : List ℕ) → globalStart n shapes ≡ recordStart (2 + n * 7) shapes (length shapes)
 unfolding globalStart
-global-is n kinds = refl
+global-is n shapes = refl

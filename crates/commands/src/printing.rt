@@ -135,51 +135,51 @@ fn write_stations(out: &mut [u8], at: usize, w: &[i64], n: usize) -> usize
     p
 }
 
-// A record's line, by its kind.
-fn write_record(out: &mut [u8], at: usize, w: &[i64], o: usize, kind: u8) -> usize
-    requires { ⌜ (o + recordWords kind ≤ length (now w)) × (at + 106 ≤ length (now out)) ⌝ }
-    ensures { λ r. ⌜ Written (now (out .entry)) at (recordLine (now (w .entry)) o kind) r (now (out .exit)) ⌝ }
+// A record's line, by its shape.
+fn write_record(out: &mut [u8], at: usize, w: &[i64], o: usize, shape: u8) -> usize
+    requires { ⌜ (o + recordWords shape ≤ length (now w)) × (at + 106 ≤ length (now out)) ⌝ }
+    ensures { λ r. ⌜ Written (now (out .entry)) at (recordLine (now (w .entry)) o shape) r (now (out .exit)) ⌝ }
     ensures { λ r. ⌜ r ≤ at + 106 ⌝ }
 {
-    if kind == 1 {
+    if shape == 3 {
         return write_baseline(out, at, w, o);
     }
     write_height(out, at, w, o)
 }
 
-fn record_words(kind: u8) -> usize
-    ensures { λ r. ⌜ r ≡ recordWords kind ⌝ }
+fn record_words(shape: u8) -> usize
+    ensures { λ r. ⌜ r ≡ recordWords shape ⌝ }
 {
-    if kind == 1 { 7 } else { 3 }
+    if shape == 3 { 7 } else { 3 }
 }
 
-// The lines of the records of those kinds, whose words start at o, and where the words after them start.
-fn write_records(out: &mut [u8], at: usize, w: &[i64], o: usize, kinds: &[u8]) -> Printed
-    requires { ⌜ (recordStart o (now kinds) (length (now kinds)) ≤ length (now w)) × (at + length (now kinds) * 106 ≤ length (now out)) ⌝ }
-    ensures { λ r. ⌜ Written (now (out .entry)) at (recordLines (now (w .entry)) o (now (kinds .entry)) (length (now (kinds .entry)))) (r .next) (now (out .exit)) ⌝ }
-    ensures { λ r. ⌜ (r .next ≤ at + length (now (kinds .entry)) * 106) × (r .word ≡ recordStart o (now (kinds .entry)) (length (now (kinds .entry)))) ⌝ }
+// The lines of the records of those shapes, whose words start at o, and where the words after them start.
+fn write_records(out: &mut [u8], at: usize, w: &[i64], o: usize, shapes: &[u8]) -> Printed
+    requires { ⌜ (recordStart o (now shapes) (length (now shapes)) ≤ length (now w)) × (at + length (now shapes) * 106 ≤ length (now out)) ⌝ }
+    ensures { λ r. ⌜ Written (now (out .entry)) at (recordLines (now (w .entry)) o (now (shapes .entry)) (length (now (shapes .entry)))) (r .next) (now (out .exit)) ⌝ }
+    ensures { λ r. ⌜ (r .next ≤ at + length (now (shapes .entry)) * 106) × (r .word ≡ recordStart o (now (shapes .entry)) (length (now (shapes .entry)))) ⌝ }
 {
     let mut p = at;
     let mut q = o;
     let mut i = 0;
-    while i < kinds.len() {
-        let kind = kinds[i];
-        p = write_record(out, p, w, q, kind);
-        q += record_words(kind);
+    while i < shapes.len() {
+        let shape = shapes[i];
+        p = write_record(out, p, w, q, shape);
+        q += record_words(shape);
         i += 1;
     }
     Printed { next: p, word: q }
 }
 
-// The printed sheet of n stations and the records of those kinds (1 a baseline, 2 a height difference), from its words.
-pub fn write_sheet(out: &mut [u8], w: &[i64], n: usize, kinds: &[u8]) -> usize
-    requires { ⌜ globalStart n (now kinds) + 3 ≤ length (now w) ⌝ }
-    requires { ⌜ 124 + n * 154 + length (now kinds) * 106 ≤ length (now out) ⌝ }
-    ensures { λ r. ⌜ Written (now (out .entry)) 0 (sheetText (now (w .entry)) n (now (kinds .entry))) r (now (out .exit)) ⌝ }
-    ensures { λ r. ⌜ r ≤ 124 + n * 154 + length (now (kinds .entry)) * 106 ⌝ }
+// The printed sheet of n stations and the records of those shapes (3 a baseline, 1 a height difference), from its words.
+pub fn write_sheet(out: &mut [u8], w: &[i64], n: usize, shapes: &[u8]) -> usize
+    requires { ⌜ globalStart n (now shapes) + 3 ≤ length (now w) ⌝ }
+    requires { ⌜ 124 + n * 154 + length (now shapes) * 106 ≤ length (now out) ⌝ }
+    ensures { λ r. ⌜ Written (now (out .entry)) 0 (sheetText (now (w .entry)) n (now (shapes .entry))) r (now (out .exit)) ⌝ }
+    ensures { λ r. ⌜ r ≤ 124 + n * 154 + length (now (shapes .entry)) * 106 ⌝ }
 {
     let head = write_head(out, 0, w);
     let stations = write_stations(out, head, w, n);
-    let records = write_records(out, stations, w, 2 + n * 7, kinds);
+    let records = write_records(out, stations, w, 2 + n * 7, shapes);
     write_global(out, records.next, w, records.word)
 }

@@ -13,17 +13,11 @@ use lib.ListN.{length, drop}
 use lib.Seq.{drop-length}
 use lib.IntN.{ℤ}
 use Rattle.words.specs.Bools.{clash, true-or-false, and-left, and-right, and-both, and-no-right}
-use Rattle.integers.specs.Sums.{sumN-const}
 use Rattle.words.specs.Runs.{putWords}
 use Rattle.words.specs.RunLaws.{length-words}
 use Rattle.network.specs.StationLaws.{number-small}
 use Rattle.network.specs.RuleLaws.{sound-stations}
-use Rattle.network.specs.declared.Network.{Network}
-use Rattle.network.specs.Records.{recordAt}
-use Rattle.network.specs.declared.Place.{Place}
-use Rattle.network.specs.declared.Record.{Record}
-use Rattle.network.specs.declared.Record.the-variants.{Empty, Baseline as baseline, Height as height}
-use Rattle.sheet.specs.Sheet.{sheetWords, wordsOf, room}
+use Rattle.sheet.specs.Sheet.{sheetWords, room}
 use Rattle.acceptance.specs.Tests.{lengthsFit}
 use Rattle.acceptance.specs.Judge.{numberOf, unknownOf, judge}
 use Rattle.acceptance.specs.JudgeLaws.{lengths-of, number-most}
@@ -96,17 +90,6 @@ module _ (b : Book) (o : Sound b) (x m : List ℕ) (r : Bool) where
       go a j (no e) = omega (arith, number-most a, j .otherwise e)
 
 -- ════ a sheet
--- no sheet takes more than 2,021 words
-record-room : (r : Record) → wordsOf r ≤ 7
-unfolding wordsOf
-record-room Empty = let h : 0 ≤ 7 = omega arith in h
-record-room (baseline b) = let h : 7 ≤ 7 = omega arith in h
-record-room (height l) = let h : 3 ≤ 7 = omega arith in h
-
-pub room-small : (net : Network) (places : List Place) → net .count ≤ 32 → room net places ≤ 2021
-unfolding room
-room-small net places h = omega (arith, sumN-const 256 {f = λ p. wordsOf (recordAt places p)} 7 (λ p l. record-room (recordAt places p)))
-
 -- a sheet of just the words it takes: ws are the words before, r the answer, o the bytes afterwards
 module _ (b : Book) (x m ws : List ℤ) (long : length ws ≡ room (b .network) (b .places)) where
   pub has-room : hasRoom b ws ≡ true

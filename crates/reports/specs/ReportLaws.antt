@@ -1,17 +1,18 @@
 -- Laws of reports: the words of a sheet are as many as its lines take, and the cases of a check. Assumes nothing.
 use Prim.Native.Nat.{ℕ, zero, suc, _+_, _-_, _*_, _≤_}
 use mathlib.Core.Path.{_≡_, refl, sym, ap, _∙_}
-use mathlib.Core.Bool.{true}
+use mathlib.Core.Bool.{Bool, true, false, cond}
 use mathlib.Core.List.{List, [], _∷_, _++_, append-nil}
 use native.Mathlib.Omega.{arith}
 use native.Mathlib.Numerals.{add-one}
 use native.Mathlib.Nat.{add-zero}
 use borrow.Author.Tests.{le-leb}
+use lib.Dec.{lit≤}
 use lib.ListN.{length, getD, take, drop, length-append, List·getD-append}
 use lib.Seq.{sets-eq, take-at, getD-append-add, drop-length}
 use lib.IntN.{ℤ}
-use Rattle.integers.specs.Sums.{sumN, sumN-const}
-use Rattle.network.specs.Records.{recordAt}
+use Rattle.integers.specs.Sums.{sumN}
+use Rattle.network.specs.Records.{observations, isEmpty, recordAt}
 use Rattle.network.specs.declared.Network.{Network}
 use Rattle.network.specs.declared.Place.{Place}
 use Rattle.network.specs.declared.Record.{Record}
@@ -25,7 +26,7 @@ use Rattle.sheet.specs.Sheet.{wordsOf, room, sheetWords}
 use Rattle.checks.specs.Checks.{checked, hasRoom, onAcceptance, sheetAfter}
 use Rattle.text.specs.Writing.{Written}
 use Rattle.commands.specs.Sheet.{recordWords, recordStart, globalStart, sheetText}
-use Rattle.reports.specs.Reports.{kindsAt, kindsBelow, kindsOf, refusalSays, answerSays, checkSays, pair, offerSays}
+use Rattle.reports.specs.Reports.{shapesAt, shapesBelow, shapesOf, refusalSays, answerSays, checkSays, pair, offerSays}
 
 -- ════ what was written stands at the front
 pub front : {l : List ℕ} {t : List ℕ} {n : ℕ} {after : List ℕ} → Written l 0 t n after → length t ≤ length l → take n after ≡ t
@@ -33,28 +34,30 @@ front {l} {t} {n} w h =
     let e : n ≡ length t = let p = w .past in omega arith in
     rw (w .leaves, sets-eq t l 0 (omega arith), e) (take-at t (drop (0 + length t) l) (length t) refl)
 
--- ════ kinds
-pub kinds-none : (places : List Place) → kindsBelow places 0 ≡ []
-unfolding kindsBelow
-kinds-none places = refl
+-- ════ shapes
+pub shapes-none : (places : List Place) → shapesBelow places 0 ≡ []
+unfolding shapesBelow
+shapes-none places = refl
 
-pub kinds-more : (places : List Place) (k : ℕ) → kindsBelow places k ++ kindsAt (recordAt places k) ≡ kindsBelow places (k + 1)
-unfolding kindsBelow
-kinds-more places k = rw add-one
+pub shapes-more : (places : List Place) (k : ℕ) → shapesBelow places k ++ shapesAt (recordAt places k) ≡ shapesBelow places (k + 1)
+unfolding shapesBelow
+shapes-more places k = rw add-one
 
-at-most-one : (r : Record) → length (kindsAt r) ≤ 1
-unfolding kindsAt
-at-most-one Empty = let h : 0 ≤ 1 = omega arith in h
-at-most-one (baseline b) = let h : 1 ≤ 1 = omega arith in h
-at-most-one (height l) = let h : 1 ≤ 1 = omega arith in h
+at-most-one : (r : Record) → length (shapesAt r) ≤ 1
+unfolding shapesAt
+at-most-one r = go (isEmpty r)
+  where
+    go : (t : Bool) → length (cond t [] (observations r ∷ [])) ≤ 1
+    go true = lit≤ tt
+    go false = lit≤ tt
 
-pub kinds-few : (places : List Place) (k : ℕ) → length (kindsBelow places k) ≤ k
-unfolding kindsBelow
-kinds-few places zero = let h : 0 ≤ 0 = omega arith in h
-kinds-few places (suc k) = rw length-append (omega (arith, kinds-few places k, at-most-one (recordAt places k)))
+pub shapes-few : (places : List Place) (k : ℕ) → length (shapesBelow places k) ≤ k
+unfolding shapesBelow
+shapes-few places zero = let h : 0 ≤ 0 = omega arith in h
+shapes-few places (suc k) = rw length-append (omega (arith, shapes-few places k, at-most-one (recordAt places k)))
 
-pub kinds-front : (places : List Place) {l : List ℕ} {n : ℕ} {after : List ℕ} → Written l 0 (kindsOf places) n after → 256 ≤ length l → take (n - 0) after ≡ kindsOf places
-kinds-front places {l} {n} w h = let e : n - 0 ≡ n = omega arith in rw e (front w (omega (arith, kinds-few places 256)))
+pub shapes-front : (places : List Place) {l : List ℕ} {n : ℕ} {after : List ℕ} → Written l 0 (shapesOf places) n after → 256 ≤ length l → take (n - 0) after ≡ shapesOf places
+shapes-front places {l} {n} w h = let e : n - 0 ≡ n = omega arith in rw e (front w (omega (arith, shapes-few places 256)))
 
 -- ════ where the words of the records end
 module _ (o : ℕ) where
@@ -65,38 +68,28 @@ module _ (o : ℕ) where
       let e : getD (a ++ b) i 0 ≡ getD a i 0 = List·getD-append a b 0 i (omega arith) in
       rw (start-front a b i (omega arith), e)
 
-  start-last : (a : List ℕ) (kind : ℕ) → recordStart o (a ++ (kind ∷ [])) (length (a ++ (kind ∷ []))) ≡ recordStart o a (length a) + recordWords kind
+  start-last : (a : List ℕ) (shape : ℕ) → recordStart o (a ++ (shape ∷ [])) (length (a ++ (shape ∷ []))) ≡ recordStart o a (length a) + recordWords shape
   unfolding recordStart
-  start-last a kind =
-      let e : length (a ++ (kind ∷ [])) ≡ suc (length a) = rw length-append (omega arith) in
-      let g : getD (a ++ (kind ∷ [])) (length a) 0 ≡ kind = ap (λ (i : ℕ). getD (a ++ (kind ∷ [])) i 0) (sym (add-zero (length a))) ∙ getD-append-add a (kind ∷ []) 0 0 in
-      rw (e, start-front a (kind ∷ []) (length a) (omega arith), g)
+  start-last a shape =
+      let e : length (a ++ (shape ∷ [])) ≡ suc (length a) = rw length-append (omega arith) in
+      let g : getD (a ++ (shape ∷ [])) (length a) 0 ≡ shape = ap (λ (i : ℕ). getD (a ++ (shape ∷ [])) i 0) (sym (add-zero (length a))) ∙ getD-append-add a (shape ∷ []) 0 0 in
+      rw (e, start-front a (shape ∷ []) (length a) (omega arith), g)
 
-  start-record : (a : List ℕ) (r : Record) → recordStart o (a ++ kindsAt r) (length (a ++ kindsAt r)) ≡ recordStart o a (length a) + wordsOf r
-  unfolding kindsAt wordsOf recordWords
+  start-record : (a : List ℕ) (r : Record) → recordStart o (a ++ shapesAt r) (length (a ++ shapesAt r)) ≡ recordStart o a (length a) + wordsOf r
+  unfolding shapesAt wordsOf recordWords isEmpty observations
   start-record a Empty = rw append-nil (omega arith)
-  start-record a (baseline b) = start-last a 1
-  start-record a (height h) = start-last a 2
+  start-record a (baseline b) = start-last a 3
+  start-record a (height h) = start-last a 1
 
-  start-below : (places : List Place) (k : ℕ) → recordStart o (kindsBelow places k) (length (kindsBelow places k)) ≡ o + sumN k (λ p. wordsOf (recordAt places p))
-  unfolding kindsBelow recordStart sumN
+  start-below : (places : List Place) (k : ℕ) → recordStart o (shapesBelow places k) (length (shapesBelow places k)) ≡ o + sumN k (λ p. wordsOf (recordAt places p))
+  unfolding shapesBelow recordStart sumN
   start-below places zero = omega arith
-  start-below places (suc k) = start-record (kindsBelow places k) (recordAt places k) ∙ rw (start-below places k) (omega arith)
+  start-below places (suc k) = start-record (shapesBelow places k) (recordAt places k) ∙ rw (start-below places k) (omega arith)
 
 -- the words of the global test end the sheet's
-pub kinds-room : (net : Network) (places : List Place) → globalStart (net .count) (kindsOf places) + 3 ≡ room net places
+pub shapes-room : (net : Network) (places : List Place) → globalStart (net .count) (shapesOf places) + 3 ≡ room net places
 unfolding globalStart room
-kinds-room net places = let e = start-below (2 + net .count * 7) places 256 in omega arith
-
-record-room : (r : Record) → wordsOf r ≤ 7
-unfolding wordsOf
-record-room Empty = let h : 0 ≤ 7 = omega arith in h
-record-room (baseline b) = let h : 7 ≤ 7 = omega arith in h
-record-room (height l) = let h : 3 ≤ 7 = omega arith in h
-
-pub room-small : (net : Network) (places : List Place) → net .count ≤ 32 → room net places ≤ 2021
-unfolding room
-room-small net places h = omega (arith, sumN-const 256 {f = λ p. wordsOf (recordAt places p)} 7 (λ p l. record-room (recordAt places p)))
+shapes-room net places = let e = start-below (2 + net .count * 7) places 256 in omega arith
 
 -- ════ a check with a sheet of just the words it takes: w are the words before, r the answer
 module _ (b : Book) (x m w : List ℤ) (long : length w ≡ room (b .network) (b .places)) (r : Answer) (is : r ≡ checked b x m (hasRoom b w)) where
@@ -111,7 +104,7 @@ module _ (b : Book) (x m w : List ℤ) (long : length w ≡ room (b .network) (b
       let s = sheetWords (b .network) (b .places) x m in
       rw (← is, e) (ap (λ (n : ℕ). s ++ drop n w) (sym long) ∙ ap (λ (l : List ℤ). s ++ l) (drop-length w) ∙ append-nil s)
 
-  pub says-sheet : (v : List ℤ) → r ≡ Accepted → v ≡ sheetAfter b x m w → sheetText v (b .network .count) (kindsOf (b .places)) ≡ checkSays b x m
+  pub says-sheet : (v : List ℤ) → r ≡ Accepted → v ≡ sheetAfter b x m w → sheetText v (b .network .count) (shapesOf (b .places)) ≡ checkSays b x m
   unfolding checkSays answerSays
   says-sheet v e q = rw (answered, e, q, words-are e)
 

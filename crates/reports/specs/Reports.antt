@@ -5,10 +5,9 @@ use mathlib.Core.Bool.{true, cond}
 use mathlib.Core.List.{List, [], _∷_, _++_}
 use lib.Dec.{eqb}
 use lib.IntN.{ℤ}
-use Rattle.network.specs.Records.{recordAt}
+use Rattle.network.specs.Records.{observations, isEmpty, recordAt}
 use Rattle.network.specs.declared.Place.{Place}
 use Rattle.network.specs.declared.Record.{Record}
-use Rattle.network.specs.declared.Record.the-variants.{Empty, Baseline as baseline, Height as height}
 use Rattle.acceptance.specs.Judge.{refusalNumber, refusalUnknown}
 use Rattle.acceptance.specs.declared.Answer.{Answer}
 use Rattle.acceptance.specs.declared.Answer.the-variants.{Accepted, Refused}
@@ -20,22 +19,20 @@ use Rattle.commands.specs.Messages.{refused, refusedUnknown, noProposal}
 use Rattle.commands.specs.Sheet.{sheetText}
 
 -- ════ the sheet
--- the kinds of the records, by rising place: 1 a baseline, 2 a height difference
-unfoldable pub kindsAt : Record → List ℕ
-kindsAt Empty = []
-kindsAt (baseline b) = 1 ∷ []
-kindsAt (height h) = 2 ∷ []
+-- the shapes of the records, by rising place: how many components each observes
+unfoldable pub shapesAt : Record → List ℕ
+shapesAt r = cond (isEmpty r) [] (observations r ∷ [])
 
-unfoldable pub kindsBelow : List Place → ℕ → List ℕ
-kindsBelow places zero = []
-kindsBelow places (suc k) = kindsBelow places k ++ kindsAt (recordAt places k)
+unfoldable pub shapesBelow : List Place → ℕ → List ℕ
+shapesBelow places zero = []
+shapesBelow places (suc k) = shapesBelow places k ++ shapesAt (recordAt places k)
 
-abbrev pub kindsOf : List Place → List ℕ
-kindsOf places = kindsBelow places 256
+abbrev pub shapesOf : List Place → List ℕ
+shapesOf places = shapesBelow places 256
 
 -- the printed sheet of a pair
 abbrev pub sheetOf : Book → List ℤ → List ℤ → List ℕ
-sheetOf b x m = sheetText (sheetWords (b .network) (b .places) x m) (b .network .count) (kindsOf (b .places))
+sheetOf b x m = sheetText (sheetWords (b .network) (b .places) x m) (b .network .count) (shapesOf (b .places))
 
 -- ════ a check: "A refused … check prints `REFUSED no`, for 11 also the unknown, and ends"
 unfoldable pub refusalSays : ℕ → ℕ → List ℕ

@@ -11,25 +11,25 @@ ghost use Rattle.book.specs.Book.{sound};
 ghost use Rattle.sheet.specs.Sheet.{room};
 ghost use Rattle.text.specs.Writing.{Written};
 ghost use Rattle.commands.specs.Sheet.{globalStart, sheetText};
-ghost use Rattle.reports.specs.Reports.{kindsAt, kindsOf, refusalSays, checkSays};
+ghost use Rattle.reports.specs.Reports.{shapesAt, shapesOf, refusalSays, checkSays};
 
-// The kind of a record, after those in `kinds`: 1 a baseline, 2 a height difference; none for an empty place.
-fn put_kind(kinds: &mut [u8], at: usize, r: Record) -> usize
-    requires { ⌜ at + 1 ≤ length (now kinds) ⌝ }
-    ensures { λ n. ⌜ Written (now (kinds .entry)) at (kindsAt r) n (now (kinds .exit)) ⌝ }
+// How many components a record observes, after the shapes of those before it; nothing for an empty place.
+fn put_shape(shapes: &mut [u8], at: usize, r: Record) -> usize
+    requires { ⌜ at + 1 ≤ length (now shapes) ⌝ }
+    ensures { λ n. ⌜ Written (now (shapes .entry)) at (shapesAt r) n (now (shapes .exit)) ⌝ }
     ensures { λ n. ⌜ n ≤ at + 1 ⌝ }
 {
-    match r {
-        Record::Empty => at,
-        Record::Baseline(_) => text::write_byte(kinds, at, 1),
-        Record::Height(_) => text::write_byte(kinds, at, 2),
+    let n = network::observations_of(r);
+    if n == 0 {
+        return at;
     }
+    text::write_byte(shapes, at, n as u8)
 }
 
-// The kinds of the records, by rising place.
-fn put_kinds(places: [Place; 256], kinds: &mut [u8]) -> usize
-    requires { ⌜ 256 ≤ length (now kinds) ⌝ }
-    ensures { λ n. ⌜ Written (now (kinds .entry)) 0 (kindsOf places) n (now (kinds .exit)) ⌝ }
+// The shapes of the records, by rising place.
+fn put_shapes(places: [Place; 256], shapes: &mut [u8]) -> usize
+    requires { ⌜ 256 ≤ length (now shapes) ⌝ }
+    ensures { λ n. ⌜ Written (now (shapes .entry)) 0 (shapesOf places) n (now (shapes .exit)) ⌝ }
     ensures { λ n. ⌜ n ≤ 256 ⌝ }
 {
     let mut n: usize = 0;
@@ -37,13 +37,13 @@ fn put_kinds(places: [Place; 256], kinds: &mut [u8]) -> usize
     while p < 256 {
         let e = places[p];
         let r = e.entry;
-        n = put_kind(kinds, n, r);
+        n = put_shape(shapes, n, r);
         p += 1;
     }
     n
 }
 
-fn no_kinds() -> [u8; 256]
+fn no_shapes() -> [u8; 256]
     ensures { λ r. ⌜ 256 ≡ length r ⌝ }
 {
     [0; 256]
@@ -51,13 +51,13 @@ fn no_kinds() -> [u8; 256]
 
 // The sheet of n stations and these records, from its words.
 fn write_words(out: &mut [u8], n: usize, places: [Place; 256], words: &[i64]) -> usize
-    requires { ⌜ (n ≤ 32) × (globalStart n (kindsOf places) + 3 ≤ length (now words)) × (32188 ≤ length (now out)) ⌝ }
-    ensures { λ r. ⌜ Written (now (out .entry)) 0 (sheetText (now (words .entry)) n (kindsOf places)) r (now (out .exit)) ⌝ }
+    requires { ⌜ (n ≤ 32) × (globalStart n (shapesOf places) + 3 ≤ length (now words)) × (32188 ≤ length (now out)) ⌝ }
+    ensures { λ r. ⌜ Written (now (out .entry)) 0 (sheetText (now (words .entry)) n (shapesOf places)) r (now (out .exit)) ⌝ }
     ensures { λ r. ⌜ r ≤ 32188 ⌝ }
 {
-    let mut kinds = no_kinds();
-    let k = put_kinds(places, &mut kinds);
-    commands::write_sheet(out, words, n, &kinds[0..k])
+    let mut shapes = no_shapes();
+    let k = put_shapes(places, &mut shapes);
+    commands::write_sheet(out, words, n, &shapes[0..k])
 }
 
 // A refusal by its number, and for 11 the unknown.

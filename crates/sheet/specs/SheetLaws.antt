@@ -1,11 +1,11 @@
 -- The sheet as it is written part by part, and its length. Assumes nothing.
-use Prim.Native.Nat.{ℕ, zero, suc, _+_, _*_, _<_, _≤_}
+use Prim.Native.Nat.{ℕ, zero, suc, _+_, _*_, _≤_}
 use mathlib.Core.Path.{_≡_, refl, sym, ap, _∙_, subst}
 use mathlib.Core.List.{List, [], _∷_, _++_}
 use native.Mathlib.Omega.{arith}
 use lib.ListN.{length, drop, length-append}
 use lib.IntN.{ℤ, pos}
-use Rattle.integers.specs.Sums.{sumN, sumN-suc}
+use Rattle.integers.specs.Sums.{sumN}
 use Rattle.network.specs.Stations.{unknownCount}
 use Rattle.network.specs.Records.{recordAt, isEmpty, observations}
 use Rattle.network.specs.declared.Station.{Station}
@@ -13,8 +13,7 @@ use Rattle.network.specs.declared.Network.{Network}
 use Rattle.network.specs.declared.Place.{Place}
 use Rattle.network.specs.declared.Record.{Record}
 use Rattle.network.specs.declared.Record.the-variants.{Empty, Baseline as baseline, Height as height}
-use Rattle.residuals.specs.Residuals.{recordCount, T, D}
-use Rattle.residuals.specs.Verdicts.{verdictWord, globalVerdict}
+use Rattle.residuals.specs.Residuals.{recordCount}
 use Rattle.sheet.specs.Sheet.{stationWords, stationLines, recordWords, recordLines, globalWords, sheetWords, wordsOf, room}
 use Rattle.sheet.specs.Written.{written, written-then, written-front}
 

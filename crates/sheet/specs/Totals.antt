@@ -31,7 +31,7 @@ use Rattle.normals.specs.Acting.{acting-only}
 use Rattle.normals.specs.Sound.{Sound, record-sound}
 use Rattle.sheet.specs.declared.totals.Counts.{Counts}
 use Rattle.residuals.specs.Residuals.{residual, unknownAtEnd, inAdjustment, weightedSquares, shareT, T, shareD, D, isRecord, recordCount}
-use Rattle.sheet.specs.Sheet.{wordsOf}
+use Rattle.sheet.specs.Sheet.{wordsOf, room}
 use Rattle.residuals.specs.Components.{residualIn, residualsIn, residual-in, residual-size, unknownsOf, correctionsOf, Closes}
 use Rattle.residuals.specs.Ranges.{Solved, closes-at, sound-at}
 
@@ -57,6 +57,11 @@ words-few r = go (isEmpty r)
     go : (t : Bool) → cond t 0 (1 + 2 * observations r) ≤ 7
     go true = lit≤ tt
     go false = omega (arith, observations-few r)
+
+-- no sheet takes more than 2,021 words: those of 32 stations and 256 baselines
+pub room-small : (net : Network) (places : List Place) → net .count ≤ 32 → room net places ≤ 2021
+unfolding room
+room-small net places h = omega (arith, sumN-const 256 {f = λ p. wordsOf (recordAt places p)} 7 (λ p l. words-few (recordAt places p)))
 
 -- what the loop has counted of the first n places
 pub record Counted (places : List Place) (records words n : ℕ) : Type 0 where

@@ -12,31 +12,31 @@ use Rattle.commands.proofs.printing.write_records.Statement.{statement}
 use Rattle.commands.proofs.printing.write_records.Tie as tie
 
 abbrev Inv-loop : tie.InvT-loop
-Inv-loop out₀ at w o kinds p₀ q₀ i₀ out p q i = (i ≤ length kinds) × (length out ≡ length out₀) × (p ≤ at + i * 106) × (q ≡ recordStart o kinds i) × Written out₀ at (recordLines w o kinds i) p out
+Inv-loop out₀ at w o shapes p₀ q₀ i₀ out p q i = (i ≤ length shapes) × (length out ≡ length out₀) × (p ≤ at + i * 106) × (q ≡ recordStart o shapes i) × Written out₀ at (recordLines w o shapes i) p out
 
 abbrev μ-loop : tie.MeasureT-loop
-μ-loop out₀ at w o kinds p₀ q₀ i₀ out p q i = length kinds - i
+μ-loop out₀ at w o shapes p₀ q₀ i₀ out p q i = length shapes - i
 
 loop-holds : tie.Need-loop-holds Inv-loop μ-loop
 loop-holds c =
     let s = c .before .before in
-    (omega arith, refl, omega arith, sym (start-zero (s .args .o) (s .args .kinds .now)), records-start (s .args .o) (s .args .kinds .now) _ _ (s .args .w .now))
+    (omega arith, refl, omega arith, sym (start-zero (s .args .o) (s .args .shapes .now)), records-start (s .args .o) (s .args .shapes .now) _ _ (s .args .w .now))
 
-shared-slice-read-kind : tie.Need-shared-slice-read-kind Inv-loop μ-loop
-shared-slice-read-kind c = search needs
+shared-slice-read-shape : tie.Need-shared-slice-read-shape Inv-loop μ-loop
+shared-slice-read-shape c = search needs
 
-next-start : (l : tie.In-loop Inv-loop μ-loop) → l .before .loop .q + recordWords (getD (l .before .before .before .before .args .kinds .now) (l .before .loop .i) 0) ≡ recordStart (l .before .before .before .before .args .o) (l .before .before .before .before .args .kinds .now) (l .before .loop .i + 1)
+next-start : (l : tie.In-loop Inv-loop μ-loop) → l .before .loop .q + recordWords (getD (l .before .before .before .before .args .shapes .now) (l .before .loop .i) 0) ≡ recordStart (l .before .before .before .before .args .o) (l .before .before .before .before .args .shapes .now) (l .before .loop .i + 1)
 next-start l =
     let a = l .before in
     let s = a .before .before .before in
-    ap (λ (q : ℕ). q + recordWords (getD (s .args .kinds .now) (a .loop .i) 0)) (a .loop .inv .3) ∙ start-more (s .args .o) (s .args .kinds .now) (a .loop .i)
+    ap (λ (q : ℕ). q + recordWords (getD (s .args .shapes .now) (a .loop .i) 0)) (a .loop .inv .3) ∙ start-more (s .args .o) (s .args .shapes .now) (a .loop .i)
 
-next-fits : (l : tie.In-loop Inv-loop μ-loop) → l .before .loop .q + recordWords (getD (l .before .before .before .before .args .kinds .now) (l .before .loop .i) 0) ≤ length (l .before .before .before .before .args .w .now)
+next-fits : (l : tie.In-loop Inv-loop μ-loop) → l .before .loop .q + recordWords (getD (l .before .before .before .before .args .shapes .now) (l .before .loop .i) 0) ≤ length (l .before .before .before .before .args .w .now)
 next-fits l =
     let a = l .before in
     let s = a .before .before .before in
     let e = next-start l in
-    let h = start-rises (s .args .o) (s .args .kinds .now) (a .loop .i + 1) (length (s .args .kinds .now)) (omega (arith, l .loop-test .taken)) in
+    let h = start-rises (s .args .o) (s .args .shapes .now) (a .loop .i + 1) (length (s .args .shapes .now)) (omega (arith, l .loop-test .taken)) in
     omega (arith, e, h, s .pre .0)
 
 write-record-requires : tie.Need-write-record-requires Inv-loop μ-loop
@@ -68,8 +68,8 @@ loop-again c =
       omega (arith, a .loop .inv .2, w .write-record .ensures .1),
       ap (λ (r : ℕ). a .loop .q + r) (c .record-words .ensures) ∙ next-start l,
       written-as
-          (ap (λ (q : ℕ). recordLines (s .args .w .now) (s .args .o) (s .args .kinds .now) (a .loop .i) ++ recordLine (s .args .w .now) q (getD (s .args .kinds .now) (a .loop .i) 0)) (a .loop .inv .3)
-          ∙ records-more (s .args .o) (s .args .kinds .now) (s .args .w .now) (a .loop .i))
+          (ap (λ (q : ℕ). recordLines (s .args .w .now) (s .args .o) (s .args .shapes .now) (a .loop .i) ++ recordLine (s .args .w .now) q (getD (s .args .shapes .now) (a .loop .i) 0)) (a .loop .inv .3)
+          ∙ records-more (s .args .o) (s .args .shapes .now) (s .args .w .now) (a .loop .i))
           (a .loop .inv .4 then w .write-record .ensures .0),
     )
 
@@ -80,9 +80,9 @@ returns : tie.Need-returns Inv-loop μ-loop
 returns c =
     let a = c .before in
     let s = a .before .before .before in
-    let e : a .loop .i ≡ length (s .args .kinds .now) = omega (arith, c .loop-test .left, a .loop .inv .0) in (
-      written-as (ap (recordLines (s .args .w .now) (s .args .o) (s .args .kinds .now)) e) (a .loop .inv .4),
-      (omega (arith, e, a .loop .inv .2), a .loop .inv .3 ∙ ap (recordStart (s .args .o) (s .args .kinds .now)) e),
+    let e : a .loop .i ≡ length (s .args .shapes .now) = omega (arith, c .loop-test .left, a .loop .inv .0) in (
+      written-as (ap (recordLines (s .args .w .now) (s .args .o) (s .args .shapes .now)) e) (a .loop .inv .4),
+      (omega (arith, e, a .loop .inv .2), a .loop .inv .3 ∙ ap (recordStart (s .args .o) (s .args .shapes .now)) e),
     )
 
 pub write-records-spec : {M : Type 1} → statement M
@@ -92,7 +92,7 @@ write-records-spec =
     Inv-loop
     μ-loop
     loop-holds
-    shared-slice-read-kind
+    shared-slice-read-shape
     write-record-requires
     record-words-requires
     add-q

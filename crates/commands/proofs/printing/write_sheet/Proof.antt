@@ -15,7 +15,7 @@ write-stations-requires : tie.Need-write-stations-requires
 write-stations-requires c κs =
     let h = c .before .before .before in
     let a = h .before .before .before .before in
-    (omega (arith, global-after (a .args .n) (a .args .kinds .now), a .pre .0), omega (arith, h .write-head .ensures .1, h .write-head .kept .0, a .pre .1))
+    (omega (arith, global-after (a .args .n) (a .args .shapes .now), a .pre .0), omega (arith, h .write-head .ensures .1, h .write-head .kept .0, a .pre .1))
 
 mul-write-records : tie.Need-mul-write-records
 mul-write-records c = search needs
@@ -28,7 +28,7 @@ write-records-requires c κs =
     let s = c .before .before .before in
     let h = s .before .before .before .before in
     let a = h .before .before .before .before in (
-      omega (arith, global-is (a .args .n) (a .args .kinds .now), a .pre .0),
+      omega (arith, global-is (a .args .n) (a .args .shapes .now), a .pre .0),
       omega (arith, h .write-head .ensures .1, h .write-head .kept .0, s .write-stations .ensures .1, s .write-stations .kept .0, a .pre .1),
     )
 
@@ -38,7 +38,7 @@ write-global-requires c κs =
     let s = r .before .before .before .before in
     let h = s .before .before .before .before in
     let a = h .before .before .before .before in (
-      omega (arith, r .write-records .ensures .1 .1, global-is (a .args .n) (a .args .kinds .now), a .pre .0),
+      omega (arith, r .write-records .ensures .1 .1, global-is (a .args .n) (a .args .shapes .now), a .pre .0),
       omega (arith, h .write-head .ensures .1, h .write-head .kept .0, s .write-stations .ensures .1, s .write-stations .kept .0, r .write-records .ensures .1 .0, r .write-records .kept .0, a .pre .1),
     )
 
@@ -56,7 +56,7 @@ returns c =
       h .write-head .ensures .0
           then s .write-stations .ensures .0
           then r .write-records .ensures .0
-          then written-as (ap (globalLine (a .args .w .now)) (r .write-records .ensures .1 .1 ∙ sym (global-is (a .args .n) (a .args .kinds .now)))) (g .write-global .ensures .0),
+          then written-as (ap (globalLine (a .args .w .now)) (r .write-records .ensures .1 .1 ∙ sym (global-is (a .args .n) (a .args .shapes .now)))) (g .write-global .ensures .0),
       omega (arith, h .write-head .ensures .1, s .write-stations .ensures .1, r .write-records .ensures .1 .0, g .write-global .ensures .1),
     )
 

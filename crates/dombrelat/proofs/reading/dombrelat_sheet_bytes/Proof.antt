@@ -8,7 +8,7 @@ use mir.Syntax.{w64}
 use mir.Facts.{toZ-ofZ}
 use Rattle.layout.specs.Bytes.{bytesFit}
 use Rattle.layout.specs.CodecLaws.{fits-room}
-use Rattle.lent_checks.specs.CheckLaws.{room-small}
+use Rattle.sheet.specs.Totals.{room-small}
 use Rattle.dombrelat.proofs.Changed.{network-ready}
 use Rattle.dombrelat.proofs.Readings.{sheet-bytes-unfit, sheet-bytes-fit}
 use borrow.Author.Needs.{needs, sfits-of}

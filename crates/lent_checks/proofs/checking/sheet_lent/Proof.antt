@@ -12,7 +12,8 @@ use denote.Ref.{now}
 use Rattle.lists.specs.Filling.{length-mapped}
 use Rattle.network.specs.RuleLaws.{network-few}
 use Rattle.book.specs.Sound.{Sound, sound-parts}
-use Rattle.lent_checks.specs.CheckLaws.{room-small, sheet-done}
+use Rattle.sheet.specs.Totals.{room-small}
+use Rattle.lent_checks.specs.CheckLaws.{sheet-done}
 use Rattle.lent_checks.proofs.Answers.{lengths-fit}
 use borrow.Author.Needs.{needs}
 use Rattle.lent_checks.proofs.checking.sheet_lent.Statement.{statement}

@@ -1,7 +1,7 @@
 -- `misclosures_of`: each misclosure is `misclosureIn` of the record's ends and observed value in its component. Assumes nothing.
 use borrow.Author.Needs.{needs}
 use Prim.Native.Nat.{ℕ, _<_, _≤_}
-use mathlib.Core.Path.{_≡_, refl, sym, ap, ap₂, _∙_, subst}
+use mathlib.Core.Path.{_≡_, refl, sym, ap, ap₂, subst}
 use mathlib.Core.List.{List, _∷_}
 use lib.Dec.{lit<}
 use lib.IntN.{ℤ, pos, natAbs}

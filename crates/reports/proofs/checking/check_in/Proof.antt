@@ -5,7 +5,7 @@ use Rattle.lists.specs.Filling.{length-mapped}
 use Rattle.network.specs.RuleLaws.{network-few}
 use Rattle.book.specs.Sound.{Sound, sound-parts}
 use Rattle.commands.specs.SheetLaws.{written-as}
-use Rattle.reports.specs.ReportLaws.{kinds-room, says-sheet, says-refused}
+use Rattle.reports.specs.ReportLaws.{shapes-room, says-sheet, says-refused}
 use borrow.Author.Needs.{needs}
 use Rattle.reports.proofs.checking.check_in.Statement.{statement}
 use Rattle.reports.proofs.checking.check_in.Tie as tie
@@ -23,7 +23,7 @@ write-words-requires : tie.Need-write-words-requires
 write-words-requires c κs =
     let s = c .before .before .before .before .before .before .before .before .before .before in
     let b = s .args .book in
-    let r = kinds-room (b .network) (b .places) in
+    let r = shapes-room (b .network) (b .places) in
     (network-few (b .network) (sound-book s .network), omega (arith, r, s .pre .1, c .before .before .before .before .before .before .before .check-sheet .kept .1 .1 .1 .0), s .pre .2)
 
 enum-told-2 : tie.Need-enum-told-2

@@ -3,7 +3,7 @@ use native.Mathlib.Omega.{arith}
 use Rattle.lists.specs.Filling.{length-mapped}
 use Rattle.network.specs.RuleLaws.{network-few}
 use Rattle.book.specs.Sound.{Sound, sound-parts}
-use Rattle.reports.specs.ReportLaws.{room-small}
+use Rattle.sheet.specs.Totals.{room-small}
 use borrow.Author.Needs.{needs}
 use Rattle.reports.proofs.checking.write_check.Statement.{statement}
 use Rattle.reports.proofs.checking.write_check.Tie as tie

@@ -1,8 +1,7 @@
 -- `words_in`, by whether the record is empty. Assumes nothing.
 use borrow.Author.Needs.{needs}
 use Prim.Native.Nat.{_≤_}
-use mathlib.Core.Path.{sym, _∙_, subst}
-use native.Mathlib.Omega.{arith}
+use mathlib.Core.Path.{sym, _∙_}
 use Rattle.network.specs.RecordLaws.{observations-few}
 use Rattle.sheet.specs.Sheet.{wordsOf}
 use Rattle.sheet.proofs.totals.words_in.Statement.{statement}

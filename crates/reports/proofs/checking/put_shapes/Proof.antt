@@ -1,24 +1,24 @@
--- `checking::put_kinds` meets its contract. Assumes nothing.
+-- `checking::put_shapes` meets its contract. Assumes nothing.
 use Prim.Native.Nat.{_-_, _≤_}
 use mathlib.Core.Path.{_≡_, refl, sym, ap}
 use native.Mathlib.Omega.{arith}
 use lib.ListN.{length}
 use Rattle.text.specs.Writing.{Written, nothing, _then_}
-use Rattle.reports.specs.Reports.{kindsBelow}
-use Rattle.reports.specs.ReportLaws.{kinds-none, kinds-more}
+use Rattle.reports.specs.Reports.{shapesBelow}
+use Rattle.reports.specs.ReportLaws.{shapes-none, shapes-more}
 use Rattle.commands.specs.SheetLaws.{written-as}
 use borrow.Author.Needs.{needs}
-use Rattle.reports.proofs.checking.put_kinds.Statement.{statement}
-use Rattle.reports.proofs.checking.put_kinds.Tie as tie
+use Rattle.reports.proofs.checking.put_shapes.Statement.{statement}
+use Rattle.reports.proofs.checking.put_shapes.Tie as tie
 
 abbrev Inv-loop : tie.InvT-loop
-Inv-loop kinds₀ places n₀ p₀ kinds n p = (p ≤ 256) × (length kinds ≡ length kinds₀) × (n ≤ p) × Written kinds₀ 0 (kindsBelow places p) n kinds
+Inv-loop shapes₀ places n₀ p₀ shapes n p = (p ≤ 256) × (length shapes ≡ length shapes₀) × (n ≤ p) × Written shapes₀ 0 (shapesBelow places p) n shapes
 
 abbrev μ-loop : tie.MeasureT-loop
-μ-loop kinds₀ places n₀ p₀ kinds n p = 256 - p
+μ-loop shapes₀ places n₀ p₀ shapes n p = 256 - p
 
 loop-holds : tie.Need-loop-holds Inv-loop μ-loop
-loop-holds c = (omega arith, refl, omega arith, written-as (sym (kinds-none (c .before .args .t1))) (nothing (c .before .args .kinds .now) 0))
+loop-holds c = (omega arith, refl, omega arith, written-as (sym (shapes-none (c .before .args .t1))) (nothing (c .before .args .shapes .now) 0))
 
 mul-e : tie.Need-mul-e Inv-loop μ-loop
 mul-e c = search needs
@@ -26,8 +26,8 @@ mul-e c = search needs
 array-copy-out-e : tie.Need-array-copy-out-e Inv-loop μ-loop
 array-copy-out-e c = search needs
 
-put-kind-requires : tie.Need-put-kind-requires Inv-loop μ-loop
-put-kind-requires c κs = search needs
+put-shape-requires : tie.Need-put-shape-requires Inv-loop μ-loop
+put-shape-requires c κs = search needs
 
 add-p : tie.Need-add-p Inv-loop μ-loop
 add-p c = search needs
@@ -39,8 +39,8 @@ loop-again : tie.Need-loop-again Inv-loop μ-loop
 loop-again c =
     let t = c .before .before .before .before .before .before in
     let s = t .before .before in
-    let k = c .before .before .put-kind in
-    (omega arith, search needs, omega (arith, k .ensures .1, t .loop .inv .2), written-as (kinds-more (s .args .t1) (t .loop .p)) (t .loop .inv .3 then k .ensures .0))
+    let k = c .before .before .put-shape in
+    (omega arith, search needs, omega (arith, k .ensures .1, t .loop .inv .2), written-as (shapes-more (s .args .t1) (t .loop .p)) (t .loop .inv .3 then k .ensures .0))
 
 same-length : tie.Need-same-length Inv-loop μ-loop
 same-length c = search needs
@@ -49,10 +49,10 @@ returns : tie.Need-returns Inv-loop μ-loop
 returns c =
     let t = c .before in
     let e : t .loop .p ≡ 256 = omega (arith, c .loop-test .left, t .loop .inv .0) in
-    (written-as (ap (kindsBelow (t .before .before .args .t1)) e) (t .loop .inv .3), omega (arith, t .loop .inv .2))
+    (written-as (ap (shapesBelow (t .before .before .args .t1)) e) (t .loop .inv .3), omega (arith, t .loop .inv .2))
 
-pub put-kinds-spec : {M : Type 1} → statement M
-put-kinds-spec =
+pub put-shapes-spec : {M : Type 1} → statement M
+put-shapes-spec =
     tie.close
     (tie.spec
     Inv-loop
@@ -60,7 +60,7 @@ put-kinds-spec =
     loop-holds
     mul-e
     array-copy-out-e
-    put-kind-requires
+    put-shape-requires
     add-p
     loop-less
     loop-again
