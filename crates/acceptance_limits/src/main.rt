@@ -2,8 +2,6 @@
 // extremes of 64 bits. A line gives the case, then the answer's number and for 11 the unknown; document 01 decides what stands in `stdout`. Every book here is
 // by the rules, and N and u are those of its records.
 use acceptance::Answer;
-use network::Baseline;
-use network::Level;
 use network::Network;
 use network::Place;
 use network::Record;
@@ -88,35 +86,19 @@ fn print_pair(net: Network, places: [Place; Unit::PLACES], x: &[i64], m: &[i64])
 }
 
 fn height(from: i64, to: i64, up: i64, weight: i64) -> Place {
-    let h = Level {
-        from: from,
-        to: to,
-        up: up,
-        weight: weight,
-    };
-    Place {
-        entry: Record::Height(h),
-    }
+    let h = network::height_of(from, to, up, weight);
+    Place { entry: h }
 }
 
 // A baseline alike in E, N and U: its differences, its weights, and those between two components.
 fn baseline(from: i64, to: i64, difference: i64, weight: i64, between: i64) -> Place {
-    let b = Baseline {
-        from: from,
-        to: to,
-        east: difference,
-        north: difference,
-        up: difference,
-        ee: weight,
-        en: between,
-        eu: between,
-        nn: weight,
-        nu: between,
-        uu: weight,
-    };
-    Place {
-        entry: Record::Baseline(b),
-    }
+    let b = network::baseline_of(
+        from,
+        to,
+        [difference, difference, difference],
+        [weight, between, between, weight, between, weight],
+    );
+    Place { entry: b }
 }
 
 fn nothing() -> [Place; Unit::PLACES] {

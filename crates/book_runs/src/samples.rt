@@ -1,6 +1,4 @@
 // Random calls from a fixed seed, out of range now and then, so that every refusal comes up that can.
-use network::Baseline;
-use network::Level;
 use network::Record;
 ghost use Prim.Native.Nat.{_<_};
 
@@ -81,12 +79,7 @@ pub(crate) fn place(s: u64) -> i64 {
 }
 
 pub(crate) fn level() -> Record {
-    Record::Height(Level {
-        from: 1,
-        to: 2,
-        up: 1000,
-        weight: 100,
-    })
+    network::height_of(1, 2, 1000, 100)
 }
 
 fn height(s: u64) -> Record {
@@ -94,12 +87,7 @@ fn height(s: u64) -> Record {
     let to = above(s / 8, 7, 1);
     let up = around(s / 100, 104000, 1000);
     let weight = above(s / 3000, 10100, 0);
-    Record::Height(Level {
-        from,
-        to,
-        up,
-        weight,
-    })
+    network::height_of(from, to, up, weight)
 }
 
 fn baseline(s: u64) -> Record {
@@ -114,19 +102,7 @@ fn baseline(s: u64) -> Record {
     let nn = above(s / 110, 300, 80);
     let nu = around(s / 130, 80, 40);
     let uu = above(s / 170, 400, 70);
-    Record::Baseline(Baseline {
-        from,
-        to,
-        east,
-        north,
-        up,
-        ee,
-        en,
-        eu,
-        nn,
-        nu,
-        uu,
-    })
+    network::baseline_of(from, to, [east, north, up], [ee, en, eu, nn, nu, uu])
 }
 
 pub(crate) fn entry(s: u64) -> Record {

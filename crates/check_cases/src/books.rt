@@ -1,8 +1,6 @@
 // The books of the cases, and their edits. A refused edit prints its number.
 use super::shown::refused;
 use book::Book;
-use network::Baseline;
-use network::Level;
 use network::Record;
 use network::Unit;
 
@@ -28,12 +26,7 @@ fn added(book: Book, place: i64, r: Record) -> Book {
 }
 
 fn level_of(from: i64, to: i64, up: i64, weight: i64) -> Record {
-    Record::Height(Level {
-        from,
-        to,
-        up,
-        weight,
-    })
+    network::height_of(from, to, up, weight)
 }
 
 // The book with a height difference added.
@@ -63,20 +56,13 @@ pub(crate) fn baseline(
     up: i64,
 ) -> Book {
     let weight = Unit::WEIGHT_AT_MILLIMETRE;
-    let b = Baseline {
+    let b = network::baseline_of(
         from,
         to,
-        east,
-        north,
-        up,
-        ee: weight,
-        en: EN,
-        eu: 0,
-        nn: weight,
-        nu: 0,
-        uu: weight,
-    };
-    added(book, place, Record::Baseline(b))
+        [east, north, up],
+        [weight, EN, 0, weight, 0, weight],
+    );
+    added(book, place, b)
 }
 
 pub(crate) fn undone(book: Book) -> Book {

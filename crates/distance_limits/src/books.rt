@@ -2,8 +2,6 @@
 use super::shown::check;
 use super::shown::print_list;
 use book::Book;
-use network::Baseline;
-use network::Level;
 use network::Record;
 use network::Unit;
 
@@ -34,33 +32,16 @@ fn added(book: Book, place: i64, r: Record) -> Book {
 pub(crate) fn baseline(book: Book, place: i64, to: i64, east: i64, north: i64, up: i64) -> Book {
     print_list(b"baseline", &[1, to, east, north, up]);
     let weight = Unit::WEIGHT_AT_MILLIMETRE;
-    let b = Baseline {
-        from: 1,
-        to,
-        east,
-        north,
-        up,
-        ee: weight,
-        en: 0,
-        eu: 0,
-        nn: weight,
-        nu: 0,
-        uu: weight,
-    };
-    added(book, place, Record::Baseline(b))
+    let b = network::baseline_of(1, to, [east, north, up], [weight, 0, 0, weight, 0, weight]);
+    added(book, place, b)
 }
 
 // A height difference from station 1.
 pub(crate) fn height(book: Book, place: i64, to: i64, up: i64) -> Book {
     print_list(b"height", &[1, to, up]);
     let weight = Unit::WEIGHT_AT_MILLIMETRE;
-    let h = Level {
-        from: 1,
-        to,
-        up,
-        weight,
-    };
-    added(book, place, Record::Height(h))
+    let h = network::height_of(1, to, up, weight);
+    added(book, place, h)
 }
 
 // A known station at 0 and two free ones by their provisional coordinates.

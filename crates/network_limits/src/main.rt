@@ -1,8 +1,6 @@
 // Prints the refusal number at each limit of refusals 1 and 3 to 6: at it, one short of it and one beyond it, of both signs, and the extremes of 64 bits; then the weights of standard
 // deviations, about the largest and the smallest weight.
 // A line gives the case and then the number; document 01 decides what stands in `stdout`.
-use network::Baseline;
-use network::Level;
 use network::Network;
 use network::Record;
 use network::Unit;
@@ -211,20 +209,8 @@ fn baseline(
     print_field(nn);
     print_field(nu);
     print_field(uu);
-    let b = Baseline {
-        from,
-        to,
-        east,
-        north,
-        up,
-        ee,
-        en,
-        eu,
-        nn,
-        nu,
-        uu,
-    };
-    print_answer(judged(Record::Baseline(b)));
+    let b = network::baseline_of(from, to, [east, north, up], [ee, en, eu, nn, nu, uu]);
+    print_answer(judged(b));
 }
 
 // A baseline in range throughout but for its ends, its ends and observed components, or its weights.
@@ -460,13 +446,8 @@ fn height(from: i64, to: i64, up: i64, weight: i64) {
     print_field(to);
     print_field(up);
     print_field(weight);
-    let h = Level {
-        from,
-        to,
-        up,
-        weight,
-    };
-    print_answer(judged(Record::Height(h)));
+    let h = network::height_of(from, to, up, weight);
+    print_answer(judged(h));
 }
 
 // From and to: in the list, outside it, equal.

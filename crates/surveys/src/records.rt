@@ -3,8 +3,6 @@ use super::lines::line_end;
 use super::lines::numbers_of;
 use super::printing::text;
 use book::Book;
-use network::Baseline;
-use network::Level;
 use network::Record;
 use network::Unit;
 
@@ -28,28 +26,16 @@ fn opened(line: &[u8]) -> Book {
 }
 
 fn baseline(f: &[i64; 12]) -> Record {
-    Record::Baseline(Baseline {
-        from: f[1],
-        to: f[2],
-        east: f[3],
-        north: f[4],
-        up: f[5],
-        ee: f[6],
-        en: f[7],
-        eu: f[8],
-        nn: f[9],
-        nu: f[10],
-        uu: f[11],
-    })
+    network::baseline_of(
+        f[1],
+        f[2],
+        [f[3], f[4], f[5]],
+        [f[6], f[7], f[8], f[9], f[10], f[11]],
+    )
 }
 
 fn level(f: &[i64; 12]) -> Record {
-    Record::Height(Level {
-        from: f[1],
-        to: f[2],
-        up: f[3],
-        weight: Unit::weight_of(words::size(f[4])),
-    })
+    network::height_of(f[1], f[2], f[3], Unit::weight_of(words::size(f[4])))
 }
 
 // The record of as many numbers; Empty, which no book takes, where it is neither.
