@@ -5,6 +5,7 @@ use mathlib.Core.List.{List, [], _∷_}
 use lib.ListN.{getD}
 use lib.IntN.{ℤ, pos}
 use Rattle.words.specs.Signed.{indexIn}
+use Rattle.network.specs.Records.{baselineOf, heightOf}
 use Rattle.network.specs.declared.Record.{Record}
 use Rattle.network.specs.declared.Record.the-variants.{Empty, Baseline as baseline, Height as height}
 
@@ -24,22 +25,10 @@ recordWords (height h) =
 -- the record of kind k + 1 whose first word is at index at; words that it does not use are not looked at
 unfoldable pub recordOf : ℕ → List ℤ → ℕ → Record
 recordOf zero w at =
-    baseline
-    (record {
-      from = getD w (at + 1) (pos 0);
-      to = getD w (at + 2) (pos 0);
-      east = getD w (at + 3) (pos 0);
-      north = getD w (at + 4) (pos 0);
-      up = getD w (at + 5) (pos 0);
-      ee = getD w (at + 6) (pos 0);
-      en = getD w (at + 7) (pos 0);
-      eu = getD w (at + 8) (pos 0);
-      nn = getD w (at + 9) (pos 0);
-      nu = getD w (at + 10) (pos 0);
-      uu = getD w (at + 11) (pos 0);
-    })
-recordOf (suc zero) w at =
-    height (record { from = getD w (at + 1) (pos 0); to = getD w (at + 2) (pos 0); up = getD w (at + 5) (pos 0); weight = getD w (at + 11) (pos 0) })
+    baselineOf (getD w (at + 1) (pos 0)) (getD w (at + 2) (pos 0))
+    (getD w (at + 3) (pos 0) ∷ getD w (at + 4) (pos 0) ∷ getD w (at + 5) (pos 0) ∷ [])
+    (getD w (at + 6) (pos 0) ∷ getD w (at + 7) (pos 0) ∷ getD w (at + 8) (pos 0) ∷ getD w (at + 9) (pos 0) ∷ getD w (at + 10) (pos 0) ∷ getD w (at + 11) (pos 0) ∷ [])
+recordOf (suc zero) w at = heightOf (getD w (at + 1) (pos 0)) (getD w (at + 2) (pos 0)) (getD w (at + 5) (pos 0)) (getD w (at + 11) (pos 0))
 recordOf (suc (suc k)) w at = Empty
 
 -- the record whose first word is at index at: Empty where the kind is neither 1 nor 2

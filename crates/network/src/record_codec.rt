@@ -3,6 +3,8 @@
 use super::Baseline;
 use super::Level;
 use super::Record;
+use super::constructors::baseline_of;
+use super::constructors::height_of;
 ghost use mathlib.Core.Path.{_≡_};
 ghost use Prim.Native.Nat.{_+_, _≤_};
 ghost use lib.ListN.{length};
@@ -29,19 +31,7 @@ fn baseline_in(w: &[i64], at: usize) -> Record
     let nn = w[at + 9];
     let nu = w[at + 10];
     let uu = w[at + 11];
-    Record::Baseline(Baseline {
-        from,
-        to,
-        east,
-        north,
-        up,
-        ee,
-        en,
-        eu,
-        nn,
-        nu,
-        uu,
-    })
+    baseline_of(from, to, [east, north, up], [ee, en, eu, nn, nu, uu])
 }
 
 fn height_in(w: &[i64], at: usize) -> Record
@@ -52,12 +42,7 @@ fn height_in(w: &[i64], at: usize) -> Record
     let to = w[at + 2];
     let up = w[at + 5];
     let weight = w[at + 11];
-    Record::Height(Level {
-        from,
-        to,
-        up,
-        weight,
-    })
+    height_of(from, to, up, weight)
 }
 
 // The record whose first word is at index at.

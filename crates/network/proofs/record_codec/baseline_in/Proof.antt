@@ -2,6 +2,7 @@ use borrow.Author.Needs.{needs, sfits-of}
 use mir.Syntax.{w64}
 use mir.Facts.{toZ-ofZ}
 use Prim.Native.Nat.{_+_}
+use mathlib.Core.Path.{_∙_}
 use lib.IntN.{pos}
 use lib.ListN.{getD}
 use denote.Ref.{now}
@@ -111,25 +112,29 @@ mul-uu c = search needs
 shared-slice-copy-out-uu : tie.Need-shared-slice-copy-out-uu
 shared-slice-copy-out-uu c = search needs
 
+baseline-of-requires : tie.Need-baseline-of-requires
+baseline-of-requires c κs = search needs
+
 returns : tie.Need-returns
 unfolding recordOf
 returns c =
-    let w = now (c .before .before .before .before .before .before .before .before .before .before .before .args .w) in
-    let at = c .before .before .before .before .before .before .before .before .before .before .before .args .at in
-    λ i. baseline
+    let w = now (c .before .before .before .before .before .before .before .before .before .before .before .before .args .w) in
+    let at = c .before .before .before .before .before .before .before .before .before .before .before .before .args .at in
+    c .baseline-of .ensures
+    ∙ (λ i. baseline
     (record {
-      from = toZ-ofZ {w = w64} {z = getD w (at + 1) (pos 0)} (sfits-of (c .before .before .before .before .before .before .before .before .before .before .from .given)) i;
-      to = toZ-ofZ {w = w64} {z = getD w (at + 2) (pos 0)} (sfits-of (c .before .before .before .before .before .before .before .before .before .to .given)) i;
-      east = toZ-ofZ {w = w64} {z = getD w (at + 3) (pos 0)} (sfits-of (c .before .before .before .before .before .before .before .before .east .given)) i;
-      north = toZ-ofZ {w = w64} {z = getD w (at + 4) (pos 0)} (sfits-of (c .before .before .before .before .before .before .before .north .given)) i;
-      up = toZ-ofZ {w = w64} {z = getD w (at + 5) (pos 0)} (sfits-of (c .before .before .before .before .before .before .up .given)) i;
-      ee = toZ-ofZ {w = w64} {z = getD w (at + 6) (pos 0)} (sfits-of (c .before .before .before .before .before .ee .given)) i;
-      en = toZ-ofZ {w = w64} {z = getD w (at + 7) (pos 0)} (sfits-of (c .before .before .before .before .en .given)) i;
-      eu = toZ-ofZ {w = w64} {z = getD w (at + 8) (pos 0)} (sfits-of (c .before .before .before .eu .given)) i;
-      nn = toZ-ofZ {w = w64} {z = getD w (at + 9) (pos 0)} (sfits-of (c .before .before .nn .given)) i;
-      nu = toZ-ofZ {w = w64} {z = getD w (at + 10) (pos 0)} (sfits-of (c .before .nu .given)) i;
-      uu = toZ-ofZ {w = w64} {z = getD w (at + 11) (pos 0)} (sfits-of (c .uu .given)) i;
-    })
+      from = toZ-ofZ {w = w64} {z = getD w (at + 1) (pos 0)} (sfits-of (c .before .before .before .before .before .before .before .before .before .before .before .from .given)) i;
+      to = toZ-ofZ {w = w64} {z = getD w (at + 2) (pos 0)} (sfits-of (c .before .before .before .before .before .before .before .before .before .before .to .given)) i;
+      east = toZ-ofZ {w = w64} {z = getD w (at + 3) (pos 0)} (sfits-of (c .before .before .before .before .before .before .before .before .before .east .given)) i;
+      north = toZ-ofZ {w = w64} {z = getD w (at + 4) (pos 0)} (sfits-of (c .before .before .before .before .before .before .before .before .north .given)) i;
+      up = toZ-ofZ {w = w64} {z = getD w (at + 5) (pos 0)} (sfits-of (c .before .before .before .before .before .before .before .up .given)) i;
+      ee = toZ-ofZ {w = w64} {z = getD w (at + 6) (pos 0)} (sfits-of (c .before .before .before .before .before .before .ee .given)) i;
+      en = toZ-ofZ {w = w64} {z = getD w (at + 7) (pos 0)} (sfits-of (c .before .before .before .before .before .en .given)) i;
+      eu = toZ-ofZ {w = w64} {z = getD w (at + 8) (pos 0)} (sfits-of (c .before .before .before .before .eu .given)) i;
+      nn = toZ-ofZ {w = w64} {z = getD w (at + 9) (pos 0)} (sfits-of (c .before .before .before .nn .given)) i;
+      nu = toZ-ofZ {w = w64} {z = getD w (at + 10) (pos 0)} (sfits-of (c .before .before .nu .given)) i;
+      uu = toZ-ofZ {w = w64} {z = getD w (at + 11) (pos 0)} (sfits-of (c .before .uu .given)) i;
+    }))
 
 pub baseline-in-spec : {M : Type 1} → statement M
 baseline-in-spec =
@@ -168,4 +173,5 @@ baseline-in-spec =
     add-uu
     mul-uu
     shared-slice-copy-out-uu
+    baseline-of-requires
     returns)

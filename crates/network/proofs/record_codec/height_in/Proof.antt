@@ -2,6 +2,7 @@ use borrow.Author.Needs.{needs, sfits-of}
 use mir.Syntax.{w64}
 use mir.Facts.{toZ-ofZ}
 use Prim.Native.Nat.{_+_}
+use mathlib.Core.Path.{_∙_}
 use lib.IntN.{pos}
 use lib.ListN.{getD}
 use denote.Ref.{now}
@@ -48,18 +49,22 @@ mul-weight c = search needs
 shared-slice-copy-out-weight : tie.Need-shared-slice-copy-out-weight
 shared-slice-copy-out-weight c = search needs
 
+height-of-requires : tie.Need-height-of-requires
+height-of-requires c κs = search needs
+
 returns : tie.Need-returns
 unfolding recordOf
 returns c =
-    let w = now (c .before .before .before .before .args .w) in
-    let at = c .before .before .before .before .args .at in
-    λ i. height
+    let w = now (c .before .before .before .before .before .args .w) in
+    let at = c .before .before .before .before .before .args .at in
+    c .height-of .ensures
+    ∙ (λ i. height
     (record {
-      from = toZ-ofZ {w = w64} {z = getD w (at + 1) (pos 0)} (sfits-of (c .before .before .before .from .given)) i;
-      to = toZ-ofZ {w = w64} {z = getD w (at + 2) (pos 0)} (sfits-of (c .before .before .to .given)) i;
-      up = toZ-ofZ {w = w64} {z = getD w (at + 5) (pos 0)} (sfits-of (c .before .up .given)) i;
-      weight = toZ-ofZ {w = w64} {z = getD w (at + 11) (pos 0)} (sfits-of (c .weight .given)) i;
-    })
+      from = toZ-ofZ {w = w64} {z = getD w (at + 1) (pos 0)} (sfits-of (c .before .before .before .before .from .given)) i;
+      to = toZ-ofZ {w = w64} {z = getD w (at + 2) (pos 0)} (sfits-of (c .before .before .before .to .given)) i;
+      up = toZ-ofZ {w = w64} {z = getD w (at + 5) (pos 0)} (sfits-of (c .before .before .up .given)) i;
+      weight = toZ-ofZ {w = w64} {z = getD w (at + 11) (pos 0)} (sfits-of (c .before .weight .given)) i;
+    }))
 
 pub height-in-spec : {M : Type 1} → statement M
 height-in-spec =
@@ -77,4 +82,5 @@ height-in-spec =
     add-weight
     mul-weight
     shared-slice-copy-out-weight
+    height-of-requires
     returns)
