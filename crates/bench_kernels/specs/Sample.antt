@@ -13,7 +13,7 @@ use Rattle.integers.specs.Tables.{tabulate, getD-tabulate, Within, within-tabul
 use Rattle.words.specs.Bools.{and-left, and-right, and-both}
 use Rattle.lists.specs.All.{allBelow, all-at}
 use Rattle.network.specs.Stations.{networkFits, blankBeyond, coordinatesFit, unknownsFit, isBlank, isKnown, coordinate, coordinateIn, coordinates, unknown, unknownIn, number}
-use Rattle.network.specs.Records.{vacant, fromOf, toOf, misclosures, misclosureAt}
+use Rattle.network.specs.Records.{vacant, observations, actsOf, acts, fromOf, toOf, observed, misclosureAt, misclosureIn, misclosures}
 use Rattle.weights.specs.Rules.{weightsInRange, matrixFits, minorsPositive, adjugateFits}
 use Rattle.network.specs.Rules.{recordFits, recordNo, recordNoOver, endsFit, matrixOf, baselineInRange, misclosureFits}
 use Rattle.network.specs.RuleLaws.{accepted-fits}
@@ -22,6 +22,7 @@ use Rattle.network.specs.declared.Kind.the-variants.{Known, Free}
 use Rattle.network.specs.declared.Station.{Station}
 use Rattle.network.specs.declared.Network.{Network}
 use Rattle.network.specs.declared.Baseline.{Baseline}
+use Rattle.network.specs.declared.Record.{Record}
 use Rattle.network.specs.declared.Record.the-variants.{Baseline as baseline}
 use Rattle.network.specs.declared.Place.{Place}
 use Rattle.normals.specs.declared.Normals.{Normals}
@@ -50,8 +51,11 @@ sampleBaseline p =
       uu = pos 100;
     }
 
+abbrev pub sampleRecord : ℕ → Record
+sampleRecord p = baseline (sampleBaseline p)
+
 abbrev pub samplePlace : ℕ → Place
-samplePlace p = record { entry = baseline (sampleBaseline p) }
+samplePlace p = record { entry = sampleRecord p }
 
 abbrev pub samplePlaces : List Place
 samplePlaces = tabulate 256 samplePlace
@@ -97,7 +101,7 @@ module _ (p : ℕ) (h : p < 256) where
       le-leb _ _ (absle (pos p -ℤ (getD c (t * 3 + a) (pos 0) -ℤ getD c (f * 3 + a) (pos 0))) (search bounds) (omega arith))
 
   closes : misclosureFits (coordinates (sampleNetwork .stations)) (baseline (sampleBaseline p)) ≡ true
-  unfolding misclosureFits allBelow misclosures sampleBaseline
+  unfolding misclosureFits allBelow misclosures misclosureIn acts actsOf observations observed sampleBaseline
   closes =
       let c = coordinates (sampleNetwork .stations) in
       let f = fromOf (baseline (sampleBaseline p)) in

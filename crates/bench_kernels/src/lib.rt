@@ -1,5 +1,4 @@
 // Jobs that bench/ measures, each with a contract that settles its result. They are not part of the product.
-use network::Baseline;
 use network::Kind;
 use network::Network;
 use network::Place;
@@ -11,7 +10,7 @@ ghost use mathlib.Core.Path.{_≡_};
 ghost use Prim.Native.Nat.{_<_};
 ghost use Rattle.normals.specs.Formulas.{normalsOf};
 ghost use Rattle.bench_kernels.specs.Replays.{Replays};
-ghost use Rattle.bench_kernels.specs.Sample.{sampleNetwork, sampleBaseline, samplePlaces, entryAt};
+ghost use Rattle.bench_kernels.specs.Sample.{sampleNetwork, sampleRecord, samplePlaces, entryAt};
 
 fn sample_network() -> Network
     ensures { λ r. ⌜ r ≡ sampleNetwork ⌝ }
@@ -67,28 +66,16 @@ fn sample_network() -> Network
     }
 }
 
-fn sample_baseline(p: usize) -> Baseline
+fn sample_record(p: usize) -> Record
     requires { ⌜ p < 256 ⌝ }
-    ensures { λ r. ⌜ r ≡ sampleBaseline p ⌝ }
+    ensures { λ r. ⌜ r ≡ sampleRecord p ⌝ }
 {
     let f = p % 17 + 1;
     let t = (f + p / 17) % 17 + 1;
     let from = f as i64;
     let to = t as i64;
     let v = p as i64;
-    Baseline {
-        from: from,
-        to: to,
-        east: v,
-        north: v,
-        up: v,
-        ee: 100,
-        en: 10,
-        eu: -10,
-        nn: 100,
-        nu: 10,
-        uu: 100,
-    }
+    network::baseline_of(from, to, [v, v, v], [100, 10, -10, 100, 10, 100])
 }
 
 fn sample_places() -> [Place; Unit::PLACES]
@@ -99,10 +86,8 @@ fn sample_places() -> [Place; Unit::PLACES]
     }; Unit::PLACES];
     let mut p = 0;
     while p < Unit::PLACES {
-        let b = sample_baseline(p);
-        places[p] = Place {
-            entry: Record::Baseline(b),
-        };
+        let r = sample_record(p);
+        places[p] = Place { entry: r };
         p = p + 1;
     }
     places

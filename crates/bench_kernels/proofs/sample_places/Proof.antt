@@ -3,14 +3,13 @@ use borrow.Author.Needs.{needs}
 use Prim.Native.Nat.{_-_, _≤_}
 use native.Mathlib.Omega.{arith}
 use Rattle.network.specs.Records.{vacant}
-use Rattle.network.specs.declared.Record.the-variants.{Baseline as baseline}
 use Rattle.lists.specs.Filling.{Mapped, starts, goes-on, finish, length-mapped}
 use Rattle.bench_kernels.specs.Sample.{samplePlace}
 use Rattle.bench_kernels.proofs.sample_places.Statement.{statement}
 use Rattle.bench_kernels.proofs.sample_places.Tie as tie
 use Rattle.bench_kernels.proofs.sample_places.Reads as reads
 use Rattle.bench_kernels.proofs.sample_places.Lts as lts
-use Rattle.bench_kernels.proofs.sample_baseline.Reads as sample-baseline-reads
+use Rattle.bench_kernels.proofs.sample_record.Reads as sample-record-reads
 
 abbrev Inv-loop : tie.InvT-loop
 Inv-loop places₀ p₀ places p = (p ≤ 256) × Mapped vacant 256 samplePlace places₀ places p
@@ -21,8 +20,8 @@ abbrev μ-loop : tie.MeasureT-loop
 loop-holds : tie.Need-loop-holds Inv-loop μ-loop
 loop-holds c = (search needs, starts vacant 256 _ _ (search (needs, length-mapped)))
 
-sample-baseline-requires : tie.Need-sample-baseline-requires Inv-loop μ-loop
-sample-baseline-requires c κs = search needs
+sample-record-requires : tie.Need-sample-record-requires Inv-loop μ-loop
+sample-record-requires c κs = search needs
 
 mul-places : tie.Need-mul-places Inv-loop μ-loop
 mul-places c = search needs
@@ -39,7 +38,7 @@ loop-less c = search needs
 loop-again : tie.Need-loop-again Inv-loop μ-loop
 loop-again c =
     let l = c .before .before .loop in
-    (search needs, goes-on vacant 256 _ _ (l .places) (l .p) _ (omega arith) (l .inv .1) (λ i. record { entry = baseline (c .sample-baseline .ensures i) }))
+    (search needs, goes-on vacant 256 _ _ (l .places) (l .p) _ (omega arith) (l .inv .1) (λ i. record { entry = c .sample-record .ensures i }))
 
 returns : tie.Need-returns Inv-loop μ-loop
 returns c = finish vacant 256 _ _ (c .before .loop .places) (c .before .loop .p) (omega arith) (c .before .loop .inv .1)
@@ -51,7 +50,7 @@ sample-places-spec =
     Inv-loop
     μ-loop
     loop-holds
-    sample-baseline-requires
+    sample-record-requires
     mul-places
     array-set-from-places
     add-p
