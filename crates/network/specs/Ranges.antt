@@ -8,7 +8,7 @@ use lib.IntN.{natAbs}
 use Rattle.words.specs.Bools.{and-left, and-right}
 use Rattle.lists.specs.All.{each}
 use Rattle.weights.specs.Rules.{weightFits, weightsInRange}
-use Rattle.weights.specs.Ranges.{Weight, WeightsRange, weight-of, weights-range}
+use Rattle.weights.specs.Ranges.{Weight, WeightsRange, weight-range, weights-range}
 use Rattle.network.specs.Rules.{observedFits, matrixOf, baselineInRange, heightInRange}
 use Rattle.network.specs.declared.Baseline.{Baseline}
 use Rattle.network.specs.declared.Level.{Level}
@@ -39,5 +39,5 @@ unfolding heightInRange
 height-range h e =
     record {
       up = leb-true (natAbs (h .up)) 1000000000 (and-left (observedFits (h .up)) (weightFits (h .weight)) e);
-      weight = weight-of (h .weight) (and-right (observedFits (h .up)) (weightFits (h .weight)) e);
+      weight = weight-range (h .weight) (and-right (observedFits (h .up)) (weightFits (h .weight)) e);
     }

@@ -36,8 +36,8 @@ pub record SmallWeights (w : WeightMatrix) : Type 0 where
   pub nu : natAbs (w .nu) ≤ 10000
   pub uu : natAbs (w .uu) ≤ 10000
 
-pub weight-of : (v : ℤ) → weightFits v ≡ true → Weight v
-weight-of v e = record { least = record { le = passed (leZ (pos 1) v) (and-left (leZ (pos 1) v) (leZ v (pos 10000)) e) }; most = between-size 1 10000 v e }
+pub weight-range : (v : ℤ) → weightFits v ≡ true → Weight v
+weight-range v e = record { least = record { le = passed (leZ (pos 1) v) (and-left (leZ (pos 1) v) (leZ v (pos 10000)) e) }; most = between-size 1 10000 v e }
 
 pub weights-range : (w : WeightMatrix) → weightsInRange w ≡ true → WeightsRange w
 unfolding weightsInRange
@@ -46,9 +46,9 @@ weights-range w e =
     (weightFits (w .ee) ∷ weightFits (w .nn) ∷ weightFits (w .uu)
     ∷ offDiagonalFits (w .en) ∷ offDiagonalFits (w .eu) ∷ offDiagonalFits (w .nu) ∷ []) e in
     record {
-      ee = weight-of (w .ee) (t .0);
-      nn = weight-of (w .nn) (t .1 .0);
-      uu = weight-of (w .uu) (t .1 .1 .0);
+      ee = weight-range (w .ee) (t .0);
+      nn = weight-range (w .nn) (t .1 .0);
+      uu = weight-range (w .uu) (t .1 .1 .0);
       en = leb-true (natAbs (w .en)) 10000 (t .1 .1 .1 .0);
       eu = leb-true (natAbs (w .eu)) 10000 (t .1 .1 .1 .1 .0);
       nu = leb-true (natAbs (w .nu)) 10000 (t .1 .1 .1 .1 .1 .0);

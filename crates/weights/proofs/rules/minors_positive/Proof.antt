@@ -33,11 +33,11 @@ returns c =
     let d = c .before .before .before .before .determinant-of in
     let m = c .before .before .before .before .before in
     let s = m .before .before .before .before .before in
-    let b = s .args .w in
+    let w = s .args .w in
     let p = s .pre in
-    let e = minor-is (b .ee) (b .nn) (b .en) (b .en) _ (m .minor .ensures) (p .ee) (p .nn) (p .en) (p .en) in
+    let e = minor-is (w .ee) (w .nn) (w .en) (w .en) _ (m .minor .ensures) (p .ee) (p .nn) (p .en) (p .en) in
     ap₂ _&&_ (ap₂ _&&_
-    (c .before .before .less .ensures ∙ ap (λ (z : ℤ). ltZ (pos 0) z) (back (b .ee) (p .ee) tt))
+    (c .before .before .less .ensures ∙ ap (λ (z : ℤ). ltZ (pos 0) z) (back (w .ee) (p .ee) tt))
     (c .before .less2 .ensures ∙ ap (λ (z : ℤ). ltZ (pos 0) z) (toZ-ofZ w64 (m .minor .result) (sfits-of (m .minor .ok)) ∙ e)))
     (c .less3 .ensures ∙ ap (λ (z : ℤ). ltZ (pos 0) z) (toZ-ofZ w64 (d .result) (sfits-of (d .ok)) ∙ d .ensures))
 
