@@ -15,7 +15,10 @@ use Rattle.book.specs.declared.Edited.{Edited}
 use Rattle.book.specs.declared.Journal.{Journal}
 use Rattle.book.specs.declared.Reversal.{Reversal}
 use Rattle.book.specs.Journal.{pushed, popped, latest}
-use Rattle.book.specs.Calls.{Call, undoNo, unless}
+use Rattle.book.specs.declared.Change.{Change}
+use Rattle.book.specs.declared.Call.{Call}
+use Rattle.book.specs.declared.Call.the-variants.{Edit}
+use Rattle.book.specs.Calls.{placeOf, puts, undoNo, unless}
 use Rattle.book.specs.Book.{openedBook, opening, withEntry, edited, undone, bookSays, bookAccepts, settled, outcome, sound}
 use Rattle.book.specs.Sound.{Sound, parts-sound}
 use Rattle.book.specs.SoundLaws.{sound-next}
@@ -50,11 +53,10 @@ settled-refused (suc n) b c e p q = q
 pub call-done : (b : Book) (c : Call) (e : Edited) → Sound b → e ≡ outcome b c → (e ≡ outcome b c) × (sound (e .book) ≡ true)
 call-done b c e o w = (w, ap (λ (x : Edited). sound (x .book)) w ∙ parts-sound _ (sound-next b o c))
 
-pub edit-done : (b : Book) (c : Call) (n i j : ℕ) (r : Record) (e : Edited) → Sound b → n ≡ bookSays b c → i ≡ j → edited b j r ≡ bookAccepts b c → e ≡ settled n b (edited b i r)
-    → (e ≡ outcome b c) × (sound (e .book) ≡ true)
-edit-done b c n i j r e o p q a w =
-    call-done b c e o
-    (w ∙ ap (λ (k : ℕ). settled n b (edited b k r)) q ∙ ap (settled n b) a ∙ ap (λ (m : ℕ). settled m b (bookAccepts b c)) p)
+pub edit-done : (b : Book) (p : ℤ) (c : Change) (n i : ℕ) (r : Record) (e : Edited) → Sound b → n ≡ bookSays b (Edit p c) → i ≡ placeOf p → r ≡ puts c → e ≡ settled n b (edited b i r)
+    → (e ≡ outcome b (Edit p c)) × (sound (e .book) ≡ true)
+unfolding bookAccepts
+edit-done b p c n i r e o q at w s = call-done b (Edit p c) e o (s ∙ (λ k. settled (q k) b (edited b (at k) (w k))))
 
 -- ════ undo
 pub undo-refused : (n : ℕ) (b c : Book) → n ≡ 0 → record { refusal = 8; book = b } ≡ settled (undoNo n) b c

@@ -11,7 +11,6 @@ use Rattle.network.specs.Records.{vacant, recordAt, isEmpty}
 use Rattle.network.specs.Rules.{recordFits}
 use Rattle.network.specs.declared.Network.{Network}
 use Rattle.network.specs.declared.Record.{Record}
-use Rattle.network.specs.declared.Record.the-variants.{Empty}
 use Rattle.normals.specs.declared.Normals.{Normals}
 use Rattle.normals.specs.Formulas.{normalsOf}
 use Rattle.normals.specs.Same.{sameNormals}
@@ -19,7 +18,9 @@ use Rattle.book.specs.declared.Reversal.{Reversal}
 use Rattle.book.specs.declared.Journal.{Journal}
 use Rattle.book.specs.declared.Book.{Book}
 use Rattle.book.specs.declared.Edited.{Edited}
-use Rattle.book.specs.Calls.{Call, add, replace, strike, undo, placeOf, changed, callNo, unless}
+use Rattle.book.specs.declared.Call.{Call}
+use Rattle.book.specs.declared.Call.the-variants.{Edit, Undo}
+use Rattle.book.specs.Calls.{placeOf, changed, callNo, puts, unless}
 use Rattle.book.specs.Journal.{emptyJournal, reversals, pushed, latest, popped, journalFits}
 
 -- ════ opening: "no records, history empty, N and u 0"
@@ -53,10 +54,8 @@ undone b = withEntry b (latest (b .journal) .place) (latest (b .journal) .prior)
 
 -- "Add fills an empty place. Replace changes a filled one. Strike empties a filled one"
 unfoldable pub bookAccepts : Book → Call → Book
-bookAccepts b (add p r) = edited b (placeOf p) r
-bookAccepts b (replace p r) = edited b (placeOf p) r
-bookAccepts b (strike p) = edited b (placeOf p) Empty
-bookAccepts b undo = undone b
+bookAccepts b (Edit p c) = edited b (placeOf p) (puts c)
+bookAccepts b Undo = undone b
 
 -- the number of a call on a book
 abbrev pub bookSays : Book → Call → ℕ

@@ -15,7 +15,11 @@ use Rattle.network.specs.declared.Place.{Place}
 use Rattle.network.specs.declared.Record.{Record}
 use Rattle.normals.specs.Formulas.{entriesFit}
 use Rattle.network.specs.RuleLaws.{record-no-small}
-use Rattle.book.specs.Calls.{Call, add, replace, strike, undo, placeOf, first, placeNo, filledNo, emptyNo, undoNo, changed, placesOf, sizeNo, callNo, unless}
+use Rattle.book.specs.declared.Change.{Change}
+use Rattle.book.specs.declared.Change.the-variants.{Add, Replace, Strike}
+use Rattle.book.specs.declared.Call.{Call}
+use Rattle.book.specs.declared.Call.the-variants.{Edit, Undo}
+use Rattle.book.specs.Calls.{placeOf, first, placeNo, filledNo, emptyNo, undoNo, changed, placesOf, sizeNo, changeNo, callNo, unless}
 use Rattle.book.specs.PlaceLaws.{changed-ext, placesOf-ext}
 
 -- ════ a number that is 0
@@ -28,6 +32,12 @@ pub first-none : (m : ℕ) → first m 0 ≡ m
 unfolding first
 first-none zero = refl
 first-none (suc m) = refl
+
+-- the second number counts only where the first is 0
+first-same : (m n k : ℕ) → (m ≡ 0 → n ≡ k) → first m n ≡ first m k
+unfolding first
+first-same zero n k e = e refl
+first-same (suc m) n k e = refl
 
 cond-zero : (b : Bool) (n : ℕ) → _≡_ {A = ℕ} (cond b 0 (suc n)) 0 → b ≡ true
 cond-zero true n e = refl
@@ -83,24 +93,16 @@ module _ (net : Network) (f g : ℕ → Record) (same : (p : ℕ) → p < 256 �
       ap (λ (l : List Place). cond (entriesFit (net .stations) l) 0 9)
       (placesOf-ext (changed f p r) (changed g p r) (λ k h. changed-ext f g p r k (same k h)))
 
-  judged : (h : Record → ℕ) (p : ℤ) → first (placeNo p) (h (f (placeOf p))) ≡ first (placeNo p) (h (g (placeOf p)))
-  unfolding first placeNo
-  judged h p = go (inList 256 p) refl
-    where
-      go : (t : Bool) → inList 256 p ≡ t → first (cond t 0 2) (h (f (placeOf p))) ≡ first (cond t 0 2) (h (g (placeOf p)))
-      go true e = ap h (same (placeOf p) (ltb-true _ _ (index-test p 256 ∙ e)))
-      go false e = refl
+  change-same : (p : ℕ) (c : Change) → p < 256 → changeNo net f p c ≡ changeNo net g p c
+  unfolding changeNo
+  change-same p (Add r) h = rw (same p h, size-same p r)
+  change-same p (Replace r) h = rw (same p h, size-same p r)
+  change-same p Strike h = ap emptyNo (same p h)
 
   pub call-same : (count : ℕ) (c : Call) → callNo net f count c ≡ callNo net g count c
   unfolding callNo
-  call-same count (add p r) =
-      judged (λ q. first (recordNo net r) (first (filledNo q) (sizeNo net f (placeOf p) r))) p
-      ∙ ap (λ (n : ℕ). first (placeNo p) (first (recordNo net r) (first (filledNo (g (placeOf p))) n))) (size-same (placeOf p) r)
-  call-same count (replace p r) =
-      judged (λ q. first (recordNo net r) (first (emptyNo q) (sizeNo net f (placeOf p) r))) p
-      ∙ ap (λ (n : ℕ). first (placeNo p) (first (recordNo net r) (first (emptyNo (g (placeOf p))) n))) (size-same (placeOf p) r)
-  call-same count (strike p) = judged emptyNo p
-  call-same count undo = refl
+  call-same count (Edit p c) = first-same (placeNo p) _ _ (λ e. change-same (placeOf p) c (place-inside p e))
+  call-same count Undo = refl
 
 -- ════ no number of the table is above 9
 first-small : (m n : ℕ) → m ≤ 9 → n ≤ 9 → first m n ≤ 9
@@ -137,11 +139,13 @@ module _ (net : Network) (at : ℕ → Record) where
   record-small : (r : Record) → recordNo net r ≤ 9
   record-small r = omega (arith, record-no-small net r)
 
+  change-small : (p : ℕ) (c : Change) → changeNo net at p c ≤ 9
+  unfolding changeNo
+  change-small p (Add r) = first-small _ _ (record-small r) (first-small _ _ (filled-small (at p)) (size-small p r))
+  change-small p (Replace r) = first-small _ _ (record-small r) (first-small _ _ (empty-small (at p)) (size-small p r))
+  change-small p Strike = empty-small (at p)
+
   pub call-small : (count : ℕ) (c : Call) → callNo net at count c ≤ 9
   unfolding callNo
-  call-small count (add p r) =
-      first-small _ _ (place-small p) (first-small _ _ (record-small r) (first-small _ _ (filled-small (at (placeOf p))) (size-small (placeOf p) r)))
-  call-small count (replace p r) =
-      first-small _ _ (place-small p) (first-small _ _ (record-small r) (first-small _ _ (empty-small (at (placeOf p))) (size-small (placeOf p) r)))
-  call-small count (strike p) = first-small _ _ (place-small p) (empty-small _)
-  call-small count undo = undo-small _
+  call-small count (Edit p c) = first-small _ _ (place-small p) (change-small (placeOf p) c)
+  call-small count Undo = undo-small _

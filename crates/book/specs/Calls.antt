@@ -12,14 +12,12 @@ use Rattle.network.specs.Rules.{inList, recordNo}
 use Rattle.network.specs.declared.Network.{Network}
 use Rattle.network.specs.declared.Place.{Place}
 use Rattle.network.specs.declared.Record.{Record}
+use Rattle.network.specs.declared.Record.the-variants.{Empty}
 use Rattle.normals.specs.Formulas.{entriesFit}
-
--- a call with its arguments other than the book
-pub data Call : Type 0 where
-  add : ℤ → Record → Call
-  replace : ℤ → Record → Call
-  strike : ℤ → Call
-  undo : Call
+use Rattle.book.specs.declared.Change.{Change}
+use Rattle.book.specs.declared.Change.the-variants.{Add, Replace, Strike}
+use Rattle.book.specs.declared.Call.{Call}
+use Rattle.book.specs.declared.Call.the-variants.{Edit, Undo}
 
 -- the place that a number of 1 to 256 names, counted from 0; 256 for any other number
 abbrev pub placeOf : ℤ → ℕ
@@ -58,12 +56,22 @@ placesOf at = tabulate 256 (λ p. record { entry = at p })
 unfoldable pub sizeNo : Network → (ℕ → Record) → ℕ → Record → ℕ
 sizeNo net at p r = cond (entriesFit (net .stations) (placesOf (changed at p r))) 0 9
 
+-- the number of a change to place p
+unfoldable pub changeNo : Network → (ℕ → Record) → ℕ → Change → ℕ
+changeNo net at p (Add r) = first (recordNo net r) (first (filledNo (at p)) (sizeNo net at p r))
+changeNo net at p (Replace r) = first (recordNo net r) (first (emptyNo (at p)) (sizeNo net at p r))
+changeNo net at p Strike = emptyNo (at p)
+
 -- the number of a call
 unfoldable pub callNo : Network → (ℕ → Record) → ℕ → Call → ℕ
-callNo net at count (add p r) = first (placeNo p) (first (recordNo net r) (first (filledNo (at (placeOf p))) (sizeNo net at (placeOf p) r)))
-callNo net at count (replace p r) = first (placeNo p) (first (recordNo net r) (first (emptyNo (at (placeOf p))) (sizeNo net at (placeOf p) r)))
-callNo net at count (strike p) = first (placeNo p) (emptyNo (at (placeOf p)))
-callNo net at count undo = undoNo count
+callNo net at count (Edit p c) = first (placeNo p) (changeNo net at (placeOf p) c)
+callNo net at count Undo = undoNo count
+
+-- what an accepted change puts at its place: "the record that an add or replacement gives, an empty place for a strike"
+unfoldable pub puts : Change → Record
+puts (Add r) = r
+puts (Replace r) = r
+puts Strike = Empty
 
 -- a refused call changes nothing
 unfoldable pub unless : {A : Type 0} → ℕ → A → A → A

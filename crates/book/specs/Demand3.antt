@@ -3,7 +3,7 @@
 --   openedBook, bookNext, bookSays   specs/Book.antt     the book's calls: what their contracts promise
 --   nothing, ledgerNext, ledgerSays  specs/Ledger.antt   the ledger; standing: its record at a place; ledgerNormals: its N and u, worked out afresh
 --   final, answers                   specs/Run.antt      the state after a run, and the answers along it
---   names, nameless                  specs/Rows.antt     a row is a call, or words that name none: answered −1, and nothing changes
+--   Names, Nameless                  specs/Rows.antt     a row is a call, or words that name none: answered −1, and nothing changes
 use Prim.Native.Nat.{ℕ, _<_, _≤_}
 use mathlib.Core.Path.{_≡_}
 use mathlib.Core.Bool.{true}
@@ -15,9 +15,11 @@ use Rattle.network.specs.Stations.{networkOf, opens}
 use Rattle.network.specs.Records.{recordAt}
 use Rattle.network.specs.declared.Network.{Network}
 use Rattle.book.specs.declared.Book as book
-use Rattle.book.specs.Calls.{undo}
+use Rattle.book.specs.declared.Call.the-variants.{Undo}
+use Rattle.book.specs.declared.Row.{Row}
+use Rattle.book.specs.declared.Row.the-variants.{Names, Nameless}
 use Rattle.book.specs.Run.{final, answers}
-use Rattle.book.specs.Rows.{Row, names, nameless, rowNext, rowSays}
+use Rattle.book.specs.Rows.{rowNext, rowSays}
 use Rattle.book.specs.Book.{openedBook, bookNext, bookSays}
 use Rattle.book.specs.Book as spec
 use Rattle.book.specs.Ledger.{Ledger, nothing, standing, ledgerNext, ledgerSays, ledgerNormals}
@@ -46,7 +48,7 @@ pub record Demand (net : Network) (rows : List Row) (said : List ℤ) (after : �
   -- all along the run the book's own history holds just as many edits as the ledger's count
   pub history : (k : ℕ) → k ≤ length rows → after k .journal .held ≡ ledgerAfter net (take k rows) .count
   -- so an undo was refused exactly when the book's history had nothing left to take back
-  pub undone : (k : ℕ) → k < length rows → getD rows k nameless ≡ names undo → (getD said k (pos 0) ≡ pos 8) ↔ (after k .journal .held ≡ 0)
+  pub undone : (k : ℕ) → k < length rows → getD rows k Nameless ≡ Names Undo → (getD said k (pos 0) ≡ pos 8) ↔ (after k .journal .held ≡ 0)
   -- the last of these books is the one that is left, and one that the next call takes
   pub last : after (length rows) ≡ left
   pub sound : spec.sound left ≡ true

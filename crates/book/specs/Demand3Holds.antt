@@ -10,9 +10,12 @@ use lib.Seq.{take-all}
 use Rattle.network.specs.Stations.{networkOf, networkFits}
 use Rattle.network.specs.declared.Network.{Network}
 use Rattle.book.specs.declared.Book.{Book}
-use Rattle.book.specs.Calls.{undo, undoNo, callNo}
+use Rattle.book.specs.declared.Call.the-variants.{Undo}
+use Rattle.book.specs.declared.Row.{Row}
+use Rattle.book.specs.declared.Row.the-variants.{Names, Nameless}
+use Rattle.book.specs.Calls.{undoNo, callNo}
 use Rattle.book.specs.Run.{Alike, run-answers, run-final, answer-at}
-use Rattle.book.specs.Rows.{Row, names, nameless, rowNext, rowSays}
+use Rattle.book.specs.Rows.{rowNext, rowSays}
 use Rattle.book.specs.Book.{openedBook, bookNext, bookSays}
 use Rattle.book.specs.Ledger.{Ledger, nothing, ledgerNext, ledgerSays}
 use Rattle.network.specs.OpeningLaws.{opened-fits}
@@ -23,27 +26,27 @@ use Rattle.book.specs.Demand3.{Demand, Demand3, bookAfter, bookAnswers, 
 
 row-says : (net : Network) (b : Book) (l : Ledger) (r : Row) → Follows net b l → rowSays bookSays b r ≡ rowSays (ledgerSays net) l r
 unfolding rowSays
-row-says net b l (names c) o = ap pos (says net b l o c)
-row-says net b l nameless o = refl
+row-says net b l (Names c) o = ap pos (says net b l o c)
+row-says net b l Nameless o = refl
 
 row-stays : (net : Network) (b : Book) (l : Ledger) (r : Row) → Follows net b l → Follows net (rowNext bookNext b r) (rowNext (ledgerNext net) l r)
 unfolding rowNext
-row-stays net b l (names c) o = follows-next net b l o c
-row-stays net b l nameless o = o
+row-stays net b l (Names c) o = follows-next net b l o c
+row-stays net b l Nameless o = o
 
 alike : (net : Network) → Alike (rowNext bookNext) (rowSays bookSays) (rowNext (ledgerNext net)) (rowSays (ledgerSays net)) (Follows net)
 alike net = record { says-same = row-says net; stays = row-stays net }
 
 -- the ledger's answer to an undo
-undo-said : (net : Network) (l : Ledger) (r : Row) → r ≡ names undo → rowSays (ledgerSays net) l r ≡ pos (undoNo (l .count))
+undo-said : (net : Network) (l : Ledger) (r : Row) → r ≡ Names Undo → rowSays (ledgerSays net) l r ≡ pos (undoNo (l .count))
 unfolding rowSays callNo
 undo-said net l r e = ap (rowSays (ledgerSays net) l) e
 
-module _ (net : Network) (rows : List Row) (k : ℕ) (h : k < length rows) (e : getD rows k nameless ≡ names undo) where
+module _ (net : Network) (rows : List Row) (k : ℕ) (h : k < length rows) (e : getD rows k Nameless ≡ Names Undo) where
   ledger-said : getD (ledgerAnswers net rows) k (pos 0) ≡ pos (undoNo (ledgerAfter net (take k rows) .count))
   ledger-said =
-      answer-at (rowNext (ledgerNext net)) (rowSays (ledgerSays net)) nothing rows k (pos 0) nameless h
-      ∙ undo-said net (ledgerAfter net (take k rows)) (getD rows k nameless) e
+      answer-at (rowNext (ledgerNext net)) (rowSays (ledgerSays net)) nothing rows k (pos 0) Nameless h
+      ∙ undo-said net (ledgerAfter net (take k rows)) (getD rows k Nameless) e
 
   was-refused : getD (ledgerAnswers net rows) k (pos 0) ≡ pos 8 → ledgerAfter net (take k rows) .count ≡ 0
   was-refused p = undo-none _ (let q : pos (undoNo (ledgerAfter net (take k rows) .count)) ≡ pos 8 = sym ledger-said ∙ p in cc)

@@ -11,11 +11,12 @@ use Rattle.network.specs.Stations.{networkFits}
 use Rattle.network.specs.Records.{recordAt}
 use Rattle.network.specs.declared.Network.{Network}
 use Rattle.network.specs.declared.Record.{Record}
-use Rattle.network.specs.declared.Record.the-variants.{Empty}
 use Rattle.normals.specs.Formulas.{normalsOf}
 use Rattle.book.specs.declared.Reversal.{Reversal}
 use Rattle.book.specs.declared.Book.{Book}
-use Rattle.book.specs.Calls.{Call, add, replace, strike, undo, placeOf, callNo, changed}
+use Rattle.book.specs.declared.Call.{Call}
+use Rattle.book.specs.declared.Call.the-variants as call
+use Rattle.book.specs.Calls.{placeOf, callNo, changed, puts}
 use Rattle.book.specs.Ledger.{Edit, Ledger, nothing, standing, rest, entered, accepted, ledgerSays, ledgerNext, ledgerNormals}
 use Rattle.book.specs.Journal.{entriesBefore, reversals, latest, popped}
 use Rattle.book.specs.Book.{edited, undone, bookAccepts, bookSays, bookNext, openedBook}
@@ -23,7 +24,7 @@ use Rattle.book.specs.PlaceLaws.{changed-same, changed-other, record-set
 use Rattle.book.specs.JournalLaws.{reversals-push, reversals-pop}
 use Rattle.book.specs.CallLaws.{call-same, undo-some, unless-both}
 use Rattle.book.specs.Sound.{Sound}
-use Rattle.book.specs.SoundLaws.{Enters, enters-add, enters-replace, enters-strike, latest-undoes, sound-edited, sound-undone}
+use Rattle.book.specs.SoundLaws.{Enters, enters-edit, latest-undoes, sound-edited, sound-undone}
 use Rattle.book.specs.Opened.{empty-at, sound-opened}
 
 -- ════ the journal against the standing edits: of each of the latest edits it has the place, and what the place held before
@@ -112,14 +113,10 @@ module _ (net : Network) (b : Book) (l : Ledger) (o : Follows net b l) where
 
   pub follows-next : (c : Call) → Follows net (bookNext b c) (ledgerNext net l c)
   unfolding bookAccepts accepted callNo
-  follows-next (add p r) =
-      unless-both (Follows net) (bookSays b (add p r)) (ledgerSays net l (add p r)) b _ l _ (says (add p r)) o (λ e. follows-edited (placeOf p) r (enters-add b p r e))
-  follows-next (replace p r) =
-      unless-both (Follows net) (bookSays b (replace p r)) (ledgerSays net l (replace p r)) b _ l _ (says (replace p r)) o (λ e. follows-edited (placeOf p) r (enters-replace b p r e))
-  follows-next (strike p) =
-      unless-both (Follows net) (bookSays b (strike p)) (ledgerSays net l (strike p)) b _ l _ (says (strike p)) o (λ e. follows-edited (placeOf p) Empty (enters-strike b p e))
-  follows-next undo =
-      unless-both (Follows net) (bookSays b undo) (ledgerSays net l undo) b _ l _ (says undo) o (λ e. follows-undone (undo-some (b .journal .held) e))
+  follows-next (call.Edit p c) =
+      unless-both (Follows net) (bookSays b (call.Edit p c)) (ledgerSays net l (call.Edit p c)) b _ l _ (says (call.Edit p c)) o (λ e. follows-edited (placeOf p) (puts c) (enters-edit b p c e))
+  follows-next call.Undo =
+      unless-both (Follows net) (bookSays b call.Undo) (ledgerSays net l call.Undo) b _ l _ (says call.Undo) o (λ e. follows-undone (undo-some (b .journal .held) e))
 
   -- its N and u are the ledger's
   pub follows-normals : b .normals ≡ ledgerNormals net l

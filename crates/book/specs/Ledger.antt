@@ -9,7 +9,9 @@ use Rattle.network.specs.declared.Record.{Record}
 use Rattle.network.specs.declared.Record.the-variants.{Empty}
 use Rattle.normals.specs.declared.Normals.{Normals}
 use Rattle.normals.specs.Formulas.{normalsOf}
-use Rattle.book.specs.Calls.{Call, add, replace, strike, undo, placeOf, placesOf, callNo, unless}
+use Rattle.book.specs.declared.Call.{Call}
+use Rattle.book.specs.declared.Call.the-variants as call
+use Rattle.book.specs.Calls.{placeOf, placesOf, callNo, puts, unless}
 
 -- an edit: a place, counted from 0, and what it puts there: "the record that an add or replacement gives, an empty place for a strike"
 pub record Edit : Type 0 where
@@ -43,10 +45,8 @@ rest (e ∷ l) = l
 
 -- "An accepted undo takes the last edit off the list; the count falls by one."
 unfoldable pub accepted : Ledger → Call → Ledger
-accepted l (add p r) = entered l (placeOf p) r
-accepted l (replace p r) = entered l (placeOf p) r
-accepted l (strike p) = entered l (placeOf p) Empty
-accepted l undo = record { edits = rest (l .edits); count = l .count - 1 }
+accepted l (call.Edit p c) = entered l (placeOf p) (puts c)
+accepted l call.Undo = record { edits = rest (l .edits); count = l .count - 1 }
 
 -- "A call that the table below … refuses, judged on the ledger, with the history empty at count 0, is answered with that number and changes nothing.
 -- Every other call is accepted." An accepted call is answered 0

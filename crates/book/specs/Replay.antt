@@ -10,10 +10,11 @@ use Rattle.network.specs.Stations.{networkOf, opens, openNo}
 use Rattle.book.specs.declared.Edited.{Edited}
 use Rattle.book.specs.declared.Book.{Book}
 use Rattle.book.specs.declared.Answered.{Answered}
+use Rattle.book.specs.declared.Row.{Row}
 use Rattle.book.specs.Run.{final, answers}
 use Rattle.book.specs.Book.{opening, bookSays, bookNext}
 use Rattle.book.specs.Book as spec
-use Rattle.book.specs.Rows.{Row, rowsIn, rowNext, rowSays}
+use Rattle.book.specs.Rows.{rowsIn, rowNext, rowSays}
 use Rattle.book.specs.Demand3.{Demand, bookAfter}
 
 -- one row: its answer, and the book afterwards

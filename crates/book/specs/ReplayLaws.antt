@@ -9,17 +9,19 @@ use lib.ListN.{length, take, drop, getD, length-take, length-drop}
 use lib.Seq.{ext-getD, getD-take, getD-drop, take-all}
 use Rattle.integers.specs.Tables.{length-tabulate, getD-tabulate}
 use Rattle.lists.specs.Filling.{Mapped}
+use Rattle.book.specs.declared.Row.{Row}
+use Rattle.book.specs.declared.Row.the-variants.{Nameless}
 use Rattle.book.specs.Run.{final, answers, final-suc, answer-at}
-use Rattle.book.specs.Rows.{Row, nameless, rowIn, rowsIn}
+use Rattle.book.specs.Rows.{rowIn, rowsIn}
 
 -- ════ the rows
 pub length-rows : (w : List ℤ) (n : ℕ) → length (rowsIn w n) ≡ n
 unfolding rowsIn
 length-rows w n = length-tabulate n _
 
-row-at : (w : List ℤ) (n k : ℕ) → k < n → getD (rowsIn w n) k nameless ≡ rowIn w (k * 14)
+row-at : (w : List ℤ) (n k : ℕ) → k < n → getD (rowsIn w n) k Nameless ≡ rowIn w (k * 14)
 unfolding rowsIn
-row-at w n k h = getD-tabulate n (λ j. rowIn w (j * 14)) k nameless h
+row-at w n k h = getD-tabulate n (λ j. rowIn w (j * 14)) k Nameless h
 
 -- ════ one row more of a machine
 module _ {S : Type 0} (next : S → Row → S) (says : S → Row → ℤ) (s : S) (w : List ℤ) (n k : ℕ) (h : k < n) (t : S) (at : t ≡ final next s (take k (rowsIn w n))) where
@@ -30,13 +32,13 @@ module _ {S : Type 0} (next : S → Row → S) (says : S → Row → ℤ) (s : S
   turn-says =
       ap (λ (x : S). says x (rowIn w (k * 14))) at
       ∙ ap (says (final next s (take k (rowsIn w n)))) (sym (row-at w n k h))
-      ∙ sym (answer-at next says s (rowsIn w n) k (pos 0) nameless inside)
+      ∙ sym (answer-at next says s (rowsIn w n) k (pos 0) Nameless inside)
 
   pub turn-next : next t (rowIn w (k * 14)) ≡ final next s (take (k + 1) (rowsIn w n))
   turn-next =
       ap (λ (x : S). next x (rowIn w (k * 14))) at
       ∙ ap (next (final next s (take k (rowsIn w n)))) (sym (row-at w n k h))
-      ∙ sym (ap (λ (j : ℕ). final next s (take j (rowsIn w n))) (add-one k) ∙ final-suc next s (rowsIn w n) k nameless inside)
+      ∙ sym (ap (λ (j : ℕ). final next s (take j (rowsIn w n))) (add-one k) ∙ final-suc next s (rowsIn w n) k Nameless inside)
 
 pub all-rows : (w : List ℤ) (n k : ℕ) → n ≤ k → take k (rowsIn w n) ≡ rowsIn w n
 all-rows w n k h = take-all k (rowsIn w n) (let z : length (rowsIn w n) ≡ n = length-rows w n in omega arith)

@@ -13,10 +13,13 @@ use Rattle.network.specs.Rules.{recordNo, recordFits}
 use Rattle.network.specs.declared.Network.{Network}
 use Rattle.network.specs.declared.Place.{Place}
 use Rattle.network.specs.declared.Record.{Record}
-use Rattle.network.specs.declared.Record.the-variants.{Empty}
 use Rattle.book.specs.declared.Reversal.{Reversal}
 use Rattle.book.specs.declared.Book.{Book}
-use Rattle.book.specs.Calls.{Call, add, replace, strike, undo, placeOf, first, placeNo, callNo, changed}
+use Rattle.book.specs.declared.Change.{Change}
+use Rattle.book.specs.declared.Change.the-variants.{Add, Replace, Strike}
+use Rattle.book.specs.declared.Call.{Call}
+use Rattle.book.specs.declared.Call.the-variants.{Edit, Undo}
+use Rattle.book.specs.Calls.{placeOf, first, placeNo, changeNo, callNo, changed, puts}
 use Rattle.book.specs.Journal.{reversals, popped, latest}
 use Rattle.book.specs.Book.{edited, undone, bookAccepts, bookSays, bookNext, undoable}
 use Rattle.network.specs.RuleLaws.{fits-empty, accepted-fits, accepted-filled}
@@ -31,26 +34,24 @@ pub record Enters (b : Book) (p : ℕ) (r : Record) : Type 0 where
   pub fits : recordFits (b .network) r ≡ true
   pub real : isEmpty r && isEmpty (recordAt (b .places) p) ≡ false
 
--- by what an add and a replacement have in common
-enters-record : (b : Book) (p : ℤ) (r : Record) (n : ℕ) → first (placeNo p) (first (recordNo (b .network) r) n) ≡ 0 → Enters b (placeOf p) r
-enters-record b p r n e =
-    let x = first-zero (placeNo p) _ e in
-    let y = first-zero (recordNo (b .network) r) n (x .1) in
-    record { inside = place-inside p (x .0); fits = accepted-fits (b .network) r (y .0); real = and-no-left _ _ (accepted-filled (b .network) r (y .0)) }
+module _ (b : Book) (p : ℕ) (inside : p < 256) where
+  -- by what an add and a replacement have in common
+  enters-record : (r : Record) (n : ℕ) → first (recordNo (b .network) r) n ≡ 0 → Enters b p r
+  enters-record r n e =
+      let y = first-zero (recordNo (b .network) r) n e in
+      record { inside = inside; fits = accepted-fits (b .network) r (y .0); real = and-no-left _ _ (accepted-filled (b .network) r (y .0)) }
 
-pub enters-add : (b : Book) (p : ℤ) (r : Record) → bookSays b (add p r) ≡ 0 → Enters b (placeOf p) r
-unfolding callNo
-enters-add b p r e = enters-record b p r _ e
+  enters-change : (c : Change) → changeNo (b .network) (recordAt (b .places)) p c ≡ 0 → Enters b p (puts c)
+  unfolding changeNo puts
+  enters-change (Add r) e = enters-record r _ e
+  enters-change (Replace r) e = enters-record r _ e
+  enters-change Strike e =
+      record { inside = inside; fits = fits-empty (b .network); real = and-no-right (isEmpty (puts Strike)) _ (empty-is (recordAt (b .places) p) e) }
 
-pub enters-replace : (b : Book) (p : ℤ) (r : Record) → bookSays b (replace p r) ≡ 0 → Enters b (placeOf p) r
+-- an edit that the table does not refuse enters its place
+pub enters-edit : (b : Book) (p : ℤ) (c : Change) → bookSays b (Edit p c) ≡ 0 → Enters b (placeOf p) (puts c)
 unfolding callNo
-enters-replace b p r e = enters-record b p r _ e
-
-pub enters-strike : (b : Book) (p : ℤ) → bookSays b (strike p) ≡ 0 → Enters b (placeOf p) Empty
-unfolding callNo
-enters-strike b p e =
-    let x = first-zero (placeNo p) _ e in
-    record { inside = place-inside p (x .0); fits = fits-empty (b .network); real = and-no-right (isEmpty Empty) _ (empty-is (recordAt (b .places) (placeOf p)) (x .1)) }
+enters-edit b p c e = let x = first-zero (placeNo p) _ e in enters-change b (placeOf p) (place-inside p (x .0)) c (x .1)
 
 -- ════ the journal's reversals over the same records, and fewer of them
 pub undoable-ext : (net : Network) (f g : ℕ → Record) (h : List Reversal) → ((k : ℕ) → f k ≡ g k) → undoable net f h ≡ undoable net g h
@@ -135,7 +136,5 @@ module _ (b : Book) (o : Sound b) where
 
   pub sound-next : (c : Call) → Sound (bookNext b c)
   unfolding bookAccepts callNo
-  sound-next (add p r) = unless-either Sound (bookSays b (add p r)) b _ o (λ e. sound-edited (placeOf p) r (enters-add b p r e))
-  sound-next (replace p r) = unless-either Sound (bookSays b (replace p r)) b _ o (λ e. sound-edited (placeOf p) r (enters-replace b p r e))
-  sound-next (strike p) = unless-either Sound (bookSays b (strike p)) b _ o (λ e. sound-edited (placeOf p) Empty (enters-strike b p e))
-  sound-next undo = unless-either Sound (bookSays b undo) b _ o (λ e. sound-undone (undo-some (b .journal .held) e))
+  sound-next (Edit p c) = unless-either Sound (bookSays b (Edit p c)) b _ o (λ e. sound-edited (placeOf p) (puts c) (enters-edit b p c e))
+  sound-next Undo = unless-either Sound (bookSays b Undo) b _ o (λ e. sound-undone (undo-some (b .journal .held) e))

@@ -1,5 +1,7 @@
 // Opening a book, and the calls that edit it: refusals in front of one core edit. A refusal gives the book back as it came.
 use super::Book;
+use super::Call;
+use super::Change;
 use super::Edited;
 use super::Journal;
 use super::Reversal;
@@ -14,7 +16,6 @@ ghost use Prim.Native.Nat.{_<_};
 ghost use Rattle.network.specs.Stations.{opens};
 ghost use Rattle.network.specs.Records.{recordAt};
 ghost use Rattle.network.specs.Rules.{recordFits};
-ghost use Rattle.book.specs.Calls.{Call};
 ghost use Rattle.book.specs.Book.{openedBook, opening, withEntry, edited, settled, outcome, sound};
 ghost use Rattle.book.specs.Sound.{Sound};
 ghost use Rattle.book.specs.SoundLaws.{Enters};
@@ -105,47 +106,23 @@ impl Book {
         }
     }
 
-    // Fills an empty place.
-    pub fn add(self, place: i64, entry: Record) -> Edited
+    // Changes a place.
+    fn edit(self, place: i64, change: Change) -> Edited
         requires { ⌜ sound self ≡ true ⌝ }
-        ensures { λ e. ⌜ (e ≡ outcome self (Call.add place entry)) × (sound (e .book) ≡ true) ⌝ }
+        ensures { λ e. ⌜ (e ≡ outcome self (Call.Edit place change)) × (sound (e .book) ≡ true) ⌝ }
     {
         let net = self.network;
         let i = words::index_in(place, 256);
         let held = self.record_at(i);
-        let rules = network::record_no(net, entry);
-        let n = refusals::add_no(place, rules, held);
-        self.settle(n, i, entry)
-    }
-
-    // Changes a filled place.
-    pub fn replace(self, place: i64, entry: Record) -> Edited
-        requires { ⌜ sound self ≡ true ⌝ }
-        ensures { λ e. ⌜ (e ≡ outcome self (Call.replace place entry)) × (sound (e .book) ≡ true) ⌝ }
-    {
-        let net = self.network;
-        let i = words::index_in(place, 256);
-        let held = self.record_at(i);
-        let rules = network::record_no(net, entry);
-        let n = refusals::replace_no(place, rules, held);
-        self.settle(n, i, entry)
-    }
-
-    // Empties a filled place.
-    pub fn strike(self, place: i64) -> Edited
-        requires { ⌜ sound self ≡ true ⌝ }
-        ensures { λ e. ⌜ (e ≡ outcome self (Call.strike place)) × (sound (e .book) ≡ true) ⌝ }
-    {
-        let i = words::index_in(place, 256);
-        let held = self.record_at(i);
-        let n = refusals::strike_no(place, held);
-        self.settle(n, i, Record::Empty)
+        let n = refusals::edit_no(net, place, change, held);
+        let r = refusals::puts_of(change);
+        self.settle(n, i, r)
     }
 
     // Takes the latest edit back.
-    pub fn undo(self) -> Edited
+    fn undo(self) -> Edited
         requires { ⌜ sound self ≡ true ⌝ }
-        ensures { λ e. ⌜ (e ≡ outcome self Call.undo) × (sound (e .book) ≡ true) ⌝ }
+        ensures { λ e. ⌜ (e ≡ outcome self Call.Undo) × (sound (e .book) ≡ true) ⌝ }
     {
         let journal = self.journal;
         let held = journal.held;
@@ -161,5 +138,16 @@ impl Book {
         let prior = last.prior;
         let book = self.put(place, prior, shorter);
         Edited { refusal: 0, book }
+    }
+
+    // The call, unless it is refused.
+    pub fn apply(self, call: Call) -> Edited
+        requires { ⌜ sound self ≡ true ⌝ }
+        ensures { λ e. ⌜ (e ≡ outcome self call) × (sound (e .book) ≡ true) ⌝ }
+    {
+        match call {
+            Call::Edit(place, change) => self.edit(place, change),
+            Call::Undo => self.undo(),
+        }
     }
 }

@@ -9,12 +9,30 @@ use network::Network;
 use network::Place;
 use network::Record;
 use normals::Normals;
-pub use refusals::add_no;
-pub use refusals::replace_no;
-pub use refusals::strike_no;
+pub use refusals::edit_no;
+pub use refusals::puts_of;
 pub use rows::replay;
 pub use soundness::is_sound;
 pub use soundness::parts_fit;
+
+// What an edit does to its place.
+pub enum Change {
+    Add(Record),
+    Replace(Record),
+    Strike,
+}
+
+// A call with its arguments other than the book.
+pub enum Call {
+    Edit(i64, Change),
+    Undo,
+}
+
+// What a row of words says: a call, or none.
+pub enum Row {
+    Names(Call),
+    Nameless,
+}
 
 // What an undo restores: a place, counted from 0, and what it held before.
 pub struct Reversal {

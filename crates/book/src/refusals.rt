@@ -1,7 +1,13 @@
 // The numbers of document 01's table for the calls that edit: the lowest wins, 0 is no refusal. No test for 9 is needed: it never comes.
+use super::Change;
+use network::Network;
 use network::Record;
 ghost use mathlib.Core.Path.{_≡_};
-ghost use Rattle.book.specs.Calls.{first, placeNo, filledNo, emptyNo};
+ghost use mathlib.Core.Bool.{true};
+ghost use Rattle.network.specs.Stations.{networkFits};
+ghost use Rattle.network.specs.Rules.{recordNo};
+ghost use Rattle.book.specs.Calls.{first, placeNo, filledNo, emptyNo, puts};
+ghost use Rattle.book.specs.Numbers.{ChangeNumber, EditNumber};
 
 fn first_no(a: u64, b: u64) -> u64
     ensures { λ n. ⌜ n ≡ first a b ⌝ }
@@ -27,29 +33,46 @@ fn empty_no(r: Record) -> u64
     if network::is_empty(r) { 7 } else { 0 }
 }
 
-// Of an add: the place's number, the number of the record's rules, what the place holds.
-pub fn add_no(place: i64, rules: u64, held: Record) -> u64
-    ensures { λ n. ⌜ n ≡ first (placeNo place) (first rules (filledNo held)) ⌝ }
+// Of a record that an edit gives: the number of its rules, then that of what its place holds.
+fn entry_no(net: Network, r: Record, holds: u64) -> u64
+    requires { ⌜ networkFits net ≡ true ⌝ }
+    ensures { λ n. ⌜ n ≡ first (recordNo net r) holds ⌝ }
 {
-    let f = filled_no(held);
-    let n = first_no(rules, f);
+    let rules = network::record_no(net, r);
+    first_no(rules, holds)
+}
+
+// Of a change to a place that holds this.
+fn change_no(net: Network, change: Change, held: Record) -> u64
+    requires { ⌜ networkFits net ≡ true ⌝ }
+    ensures { λ n. ⌜ ChangeNumber net change held n ⌝ }
+{
+    let filled = filled_no(held);
+    let empty = empty_no(held);
+    match change {
+        Change::Add(r) => entry_no(net, r, filled),
+        Change::Replace(r) => entry_no(net, r, empty),
+        Change::Strike => empty,
+    }
+}
+
+// Of an edit whose place holds this.
+pub fn edit_no(net: Network, place: i64, change: Change, held: Record) -> u64
+    requires { ⌜ networkFits net ≡ true ⌝ }
+    ensures { λ n. ⌜ EditNumber net place change held n ⌝ }
+{
+    let n = change_no(net, change, held);
     let p = place_no(place);
     first_no(p, n)
 }
 
-pub fn replace_no(place: i64, rules: u64, held: Record) -> u64
-    ensures { λ n. ⌜ n ≡ first (placeNo place) (first rules (emptyNo held)) ⌝ }
+// The record that an accepted change puts at its place.
+pub fn puts_of(change: Change) -> Record
+    ensures { λ r. ⌜ r ≡ puts change ⌝ }
 {
-    let f = empty_no(held);
-    let n = first_no(rules, f);
-    let p = place_no(place);
-    first_no(p, n)
-}
-
-pub fn strike_no(place: i64, held: Record) -> u64
-    ensures { λ n. ⌜ n ≡ first (placeNo place) (emptyNo held) ⌝ }
-{
-    let f = empty_no(held);
-    let p = place_no(place);
-    first_no(p, f)
+    match change {
+        Change::Add(r) => r,
+        Change::Replace(r) => r,
+        Change::Strike => Record::Empty,
+    }
 }

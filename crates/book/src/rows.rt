@@ -1,58 +1,67 @@
 // A run of calls: a book opened on a lent station list, and a lent list of calls in rows of 14 words, each answered in a lent list.
 use super::Answered;
 use super::Book;
+use super::Call;
+use super::Change;
 use super::Edited;
+use super::Row;
+use network::Record;
 ghost use mathlib.Core.Path.{_≡_};
 ghost use mathlib.Core.Bool.{true};
 ghost use Prim.Native.Nat.{_+_, _*_, _≤_, min};
 ghost use lib.IntN.{pos};
 ghost use lib.ListN.{length};
 ghost use Rattle.book.specs.Book.{sound};
-ghost use Rattle.book.specs.Rows.{rowIn};
+ghost use Rattle.book.specs.Rows.{rowOf, rowIn};
 ghost use Rattle.book.specs.Replay.{Answers, Ran, Replayed};
 
 // The words in a row.
 const ROW: usize = 14;
 
-fn answered(e: Edited) -> Answered
-    requires { ⌜ e .refusal ≤ 9 ⌝ }
-    ensures { λ a. ⌜ (a .answer ≡ pos (e .refusal)) × (a .book ≡ e .book) ⌝ }
+// The row of this number, place and record.
+fn row_of(kind: usize, place: i64, entry: Record) -> Row
+    ensures { λ r. ⌜ r ≡ rowOf kind place entry ⌝ }
 {
-    let answer = e.refusal as i64;
-    let book = e.book;
-    Answered { answer, book }
+    match kind {
+        0 => Row::Names(Call::Edit(place, Change::Add(entry))),
+        1 => Row::Names(Call::Edit(place, Change::Replace(entry))),
+        2 => Row::Names(Call::Edit(place, Change::Strike)),
+        3 => Row::Names(Call::Undo),
+        _ => Row::Nameless,
+    }
 }
 
 // The row whose first word is at index at.
-fn row(book: Book, calls: &[i64], at: usize) -> Answered
-    requires { ⌜ (sound book ≡ true) × (at + 14 ≤ length (now calls)) ⌝ }
-    ensures { λ a. ⌜ Answers book (rowIn (now (calls .entry)) at) a ⌝ }
+fn row_in(calls: &[i64], at: usize) -> Row
+    requires { ⌜ at + 14 ≤ length (now calls) ⌝ }
+    ensures { λ r. ⌜ r ≡ rowIn (now (calls .entry)) at ⌝ }
 {
     let word = calls[at];
     let place = calls[at + 1];
     let kind = words::index_in(word, 4);
     let entry = network::record_in(calls, at + 2);
-    if kind == 0 {
-        let e = book.add(place, entry);
-        let a = answered(e);
-        return a;
+    row_of(kind, place, entry)
+}
+
+fn answered(book: Book, call: Call) -> Answered
+    requires { ⌜ sound book ≡ true ⌝ }
+    ensures { λ a. ⌜ Answers book (Row.Names call) a ⌝ }
+{
+    let e = book.apply(call);
+    let answer = e.refusal as i64;
+    let left = e.book;
+    Answered { answer, book: left }
+}
+
+// What a row is answered; one that names no call, -1.
+fn answer(book: Book, row: Row) -> Answered
+    requires { ⌜ sound book ≡ true ⌝ }
+    ensures { λ a. ⌜ Answers book row a ⌝ }
+{
+    match row {
+        Row::Names(call) => answered(book, call),
+        Row::Nameless => Answered { answer: -1, book },
     }
-    if kind == 1 {
-        let e = book.replace(place, entry);
-        let a = answered(e);
-        return a;
-    }
-    if kind == 2 {
-        let e = book.strike(place);
-        let a = answered(e);
-        return a;
-    }
-    if kind == 3 {
-        let e = book.undo();
-        let a = answered(e);
-        return a;
-    }
-    Answered { answer: -1, book }
 }
 
 // The first n rows in turn.
@@ -63,9 +72,10 @@ fn run(book: Book, calls: &[i64], answers: &mut [i64], n: usize) -> Book
     let mut state = book;
     let mut k: usize = 0;
     while k < n {
-        let a = row(state, calls, k * ROW);
-        let answer = a.answer;
-        answers[k] = answer;
+        let row = row_in(calls, k * ROW);
+        let a = answer(state, row);
+        let said = a.answer;
+        answers[k] = said;
         let next = a.book;
         state = next;
         k += 1;

@@ -4,7 +4,8 @@ use borrow.Author.Needs.{needs}
 use Prim.Native.Nat.{_<_}
 use Rattle.lists.specs.Filling.{length-mapped}
 use Rattle.book.specs.declared.Book.{Book}
-use Rattle.book.specs.Calls.{undo, callNo}
+use Rattle.book.specs.declared.Call.the-variants.{Undo}
+use Rattle.book.specs.Calls.{callNo}
 use Rattle.book.specs.Book.{bookAccepts}
 use Rattle.book.specs.Sound.{Sound, sound-parts}
 use Rattle.book.specs.SoundLaws.{latest-undoes}
@@ -38,7 +39,7 @@ returns-2 : tie.Need-returns-2
 unfolding callNo bookAccepts
 returns-2 c =
     let s = c .before .before .before .before .before in
-    call-done (s .args .self) undo _ (sound-self s)
+    call-done (s .args .self) Undo _ (sound-self s)
     (ap (λ (x : Book). record { refusal = 0; book = x }) (undone-is (s .args .self) _ _ _ (c .before .before .last .ensures) (c .before .pop .ensures) (c .put .ensures))
     ∙ undo-done _ _ _ (c .before .before .before .if1 .left))
 

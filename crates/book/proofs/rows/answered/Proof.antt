@@ -1,18 +1,27 @@
 -- `rows::answered` meets its contract. Assumes nothing.
-use Prim.Native.Nat.{_<_, _^_}
+use Prim.Native.Nat.{_<_, _≤_, _^_}
 use mathlib.Core.Path.{refl}
 use native.Mathlib.Omega.{arith}
-use borrow.Author.Needs.{needs}
 use mir.Syntax.{w64}
 use mir.Facts.{toZ-ofZ}
+use Rattle.book.proofs.RowCases.{refusal-small, call-answered}
+use borrow.Author.Needs.{needs}
 use Rattle.book.proofs.rows.answered.Statement.{statement}
 use Rattle.book.proofs.rows.answered.Tie as tie
 
+small : (a : tie.After-apply) → a .apply .result .refusal < 2 ^ 63
+small a = let n : a .apply .result .refusal ≤ 9 = refusal-small (a .before .args .book) (a .before .args .call) _ (a .apply .ensures) in omega arith
+
+apply-requires : tie.Need-apply-requires
+apply-requires c κs = search needs
+
 cast-answer : tie.Need-cast-answer
-cast-answer c = search needs
+cast-answer c = record { sfits = small (c .before) }
 
 returns : tie.Need-returns
-returns c = (toZ-ofZ {w = w64} (record { sfits = let h : c .before .before .args .e .refusal < 2 ^ 63 = omega arith in h }), refl)
+returns c =
+    let a = c .before .before in
+    call-answered (a .before .args .book) _ _ _ (a .apply .ensures) (toZ-ofZ {w = w64} (record { sfits = small a }), refl)
 
 pub answered-spec : {M : Type 1} → statement M
-answered-spec = tie.close (tie.spec cast-answer returns)
+answered-spec = tie.close (tie.spec apply-requires cast-answer returns)

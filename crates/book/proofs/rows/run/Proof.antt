@@ -33,17 +33,20 @@ abbrev μ-loop : tie.MeasureT-loop
 loop-holds : tie.Need-loop-holds Inv-loop μ-loop
 loop-holds c = (omega arith, starts (pos 0) _ _ _ refl, final-zero (rowNext bookNext) (c .args .book) (rowsIn (now (c .args .calls)) (c .args .n)), c .pre .0)
 
-mul-row : tie.Need-mul-row Inv-loop μ-loop
-mul-row c = search needs
+mul-row-in : tie.Need-mul-row-in Inv-loop μ-loop
+mul-row-in c = search needs
 
-row-requires : tie.Need-row-requires Inv-loop μ-loop
-row-requires c κs = (c .before .loop .inv .3, omega arith)
+row-in-requires : tie.Need-row-in-requires Inv-loop μ-loop
+row-in-requires c κs = omega arith
 
-mul-answer : tie.Need-mul-answer Inv-loop μ-loop
-mul-answer c = search needs
+answer-requires : tie.Need-answer-requires Inv-loop μ-loop
+answer-requires c κs = c .before .before .loop .inv .3
 
-slice-set-from-answer : tie.Need-slice-set-from-answer Inv-loop μ-loop
-slice-set-from-answer c = search needs
+mul-said : tie.Need-mul-said Inv-loop μ-loop
+mul-said c = search needs
+
+slice-set-from-said : tie.Need-slice-set-from-said Inv-loop μ-loop
+slice-set-from-said c = search needs
 
 add-k : tie.Need-add-k Inv-loop μ-loop
 add-k c = search needs
@@ -53,19 +56,23 @@ loop-less c = search needs
 
 loop-again : tie.Need-loop-again Inv-loop μ-loop
 loop-again c =
-    let t = c .before .before .before .before in
+    let t = c .before .before .before .before .before in
     let s = t .before in
+    let r = c .before .before .before .row-in in
+    let a = c .before .before .answer in
     let w = now (s .args .calls) in
     let n = s .args .n in
-    let a = c .before .before .row in
     let h : t .loop .k < n = omega arith in
     let long : n ≤ length (now (s .args .answers)) = s .pre .2 in (
       omega arith,
       goes-on (pos 0) _ (said (s .args .book) w n) (now (s .args .answers)) (t .loop .answers) (t .loop .k) _ (omega arith) (t .loop .inv .1)
           (toZ-ofZ {w = w64} {z = a .result .answer} (search needs)
           ∙ a .ensures .answer
+          ∙ ap (rowSays bookSays (t .loop .state)) (r .ensures)
           ∙ turn-says (rowNext bookNext) (rowSays bookSays) (s .args .book) w n (t .loop .k) h (t .loop .state) (t .loop .inv .2)),
-      a .ensures .left ∙ turn-next (rowNext bookNext) (rowSays bookSays) (s .args .book) w n (t .loop .k) h (t .loop .state) (t .loop .inv .2),
+      a .ensures .left
+          ∙ ap (rowNext bookNext (t .loop .state)) (r .ensures)
+          ∙ turn-next (rowNext bookNext) (rowSays bookSays) (s .args .book) w n (t .loop .k) h (t .loop .state) (t .loop .inv .2),
       a .ensures .sound,
     )
 
@@ -96,10 +103,11 @@ run-spec =
     Inv-loop
     μ-loop
     loop-holds
-    mul-row
-    row-requires
-    mul-answer
-    slice-set-from-answer
+    mul-row-in
+    row-in-requires
+    answer-requires
+    mul-said
+    slice-set-from-said
     add-k
     loop-less
     loop-again

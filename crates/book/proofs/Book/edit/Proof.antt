@@ -1,0 +1,74 @@
+-- `Book::edit` meets its contract. Assumes nothing.
+use Prim.Native.Nat.{ℕ}
+use mathlib.Core.Path.{_≡_, sym, ap, _∙_, subst}
+use mir.Syntax.{w64}
+use mir.Facts.{toZ-ofZ}
+use lib.IntN.{ℤ}
+use Rattle.words.specs.Signed.{indexIn}
+use Rattle.lists.specs.Filling.{length-mapped}
+use Rattle.network.specs.Records.{recordAt}
+use Rattle.book.specs.declared.Call.the-variants.{Edit}
+use Rattle.book.specs.Calls.{placeOf}
+use Rattle.book.specs.Book.{bookSays}
+use Rattle.book.specs.Sound.{Sound, sound-parts}
+use Rattle.book.specs.SoundLaws.{Enters, enters-edit}
+use Rattle.book.proofs.Done.{edit-done}
+use borrow.Author.Needs.{needs}
+use Rattle.book.proofs.Book.edit.Statement.{statement}
+use Rattle.book.proofs.Book.edit.Tie as tie
+
+sound-self : (c : tie.Start) → Sound (c .args .self)
+sound-self c = sound-parts _ (record { places = search (needs, length-mapped); entries = search (needs, length-mapped); matrix = search needs; right = search needs }) (c .pre)
+
+-- where the number is known, and the record
+abbrev start : tie.After-puts-of → tie.Start
+start c = c .before .before .before .before .before
+
+at-place : (c : tie.After-puts-of) → c .before .before .before .index-in .result ≡ placeOf (start c .args .place)
+at-place c = c .before .before .before .index-in .ensures ∙ ap (λ (z : ℤ). indexIn z 256) (toZ-ofZ {w = w64} (start c .fits .place))
+
+number : (c : tie.After-puts-of) → c .before .edit-no .result ≡ bookSays (start c .args .self) (Edit (start c .args .place) (start c .args .change))
+number c =
+    let s = start c in
+    let b = s .args .self in
+    c .before .edit-no .ensures (recordAt (b .places)) (b .journal .held) (c .before .before .record-at .ensures ∙ ap (recordAt (b .places)) (c .before .before .before .index-in .ensures)) (sound-self s .records)
+    ∙ ap (λ (p : ℤ). bookSays b (Edit p (s .args .change))) (toZ-ofZ {w = w64} (s .fits .place))
+
+index-in-requires : tie.Need-index-in-requires
+index-in-requires c κs = search needs
+
+record-at-requires : tie.Need-record-at-requires
+record-at-requires c κs = search needs
+
+edit-no-requires : tie.Need-edit-no-requires
+edit-no-requires c κs = sound-self (c .before .before .before) .network
+
+puts-of-requires : tie.Need-puts-of-requires
+puts-of-requires c κs = search needs
+
+settle-requires : tie.Need-settle-requires
+settle-requires c κs =
+    let s = start c in
+    let b = s .args .self in (
+      sound-self s,
+      λ e.
+          subst (λ (j : ℕ). Enters b j (c .puts-of .result)) (sym (at-place c))
+          (subst (Enters b (placeOf (s .args .place))) (sym (c .puts-of .ensures)) (enters-edit b (s .args .place) (s .args .change) (sym (number c) ∙ e))),
+    )
+
+returns : tie.Need-returns
+returns c =
+    let t = c .before in
+    let s = start t in
+    edit-done (s .args .self) (s .args .place) (s .args .change) _ _ _ _ (sound-self s) (number t) (at-place t) (t .puts-of .ensures) (c .settle .ensures)
+
+pub edit-spec : {M : Type 1} → statement M
+edit-spec =
+    tie.close
+    (tie.spec
+    index-in-requires
+    record-at-requires
+    edit-no-requires
+    puts-of-requires
+    settle-requires
+    returns)
