@@ -1,5 +1,5 @@
 -- A book follows the plain ledger, call by call. Assumes nothing.
-use Prim.Native.Nat.{ℕ, zero, suc, _+_, _-_, _<_, min}
+use Prim.Native.Nat.{ℕ, zero, suc, _+_, _-_, _<_}
 use mathlib.Core.Path.{_≡_, refl, sym, ap, _∙_, subst}
 use mathlib.Core.Bool.{true}
 use mathlib.Core.List.{List, [], _∷_}
@@ -18,7 +18,7 @@ use Rattle.book.specs.declared.Call.{Call}
 use Rattle.book.specs.declared.Call.the-variants as call
 use Rattle.book.specs.Calls.{placeOf, callNo, changed, puts}
 use Rattle.book.specs.Ledger.{Edit, Ledger, nothing, standing, rest, entered, accepted, ledgerSays, ledgerNext, ledgerNormals}
-use Rattle.book.specs.Journal.{entriesBefore, reversals, latest, popped}
+use Rattle.book.specs.Journal.{journalSize, oneMore, entriesBefore, reversals, latest, popped}
 use Rattle.book.specs.Book.{edited, undone, bookAccepts, bookSays, bookNext, openedBook}
 use Rattle.book.specs.PlaceLaws.{changed-same, changed-other, record-set, is-placesOf}
 use Rattle.book.specs.JournalLaws.{reversals-push, reversals-pop}
@@ -80,10 +80,10 @@ module _ (net : Network) (b : Book) (l : Ledger) (o : Follows net b l) where
         journal =
             subst (λ (h : List Reversal). Remembers h (record { place = p; puts = r } ∷ l .edits))
             (sym (reversals-push (b .journal) (record { place = p; prior = recordAt ps p }) (o .sound .entries) (o .sound .journal)))
-            (remembers-take 64
+            (remembers-take journalSize
             (subst (λ (x : Record). Remembers (record { place = p; prior = x } ∷ reversals (b .journal)) (record { place = p; puts = r } ∷ l .edits)) (sym (o .holds p (n .inside)))
             (more p r (o .journal))));
-        counted = ap (λ (m : ℕ). min (m + 1) 64) (o .counted);
+        counted = ap oneMore (o .counted);
       }
     where
       put : (j : ℕ) → j < 256 → Dec (j ≡ p) → changed (recordAt (b .places)) p r j ≡ standing (record { place = p; puts = r } ∷ l .edits) j

@@ -1,4 +1,4 @@
--- The journal (document 01's history): a ring of 64 reversals. `next` is the slot of the next entry, `held` how many can be taken back. Assumes nothing.
+-- The journal (document 01's history): a ring of reversals. `next` is the slot of the next entry, `held` how many can be taken back. Assumes nothing.
 use Prim.Native.Nat.{ℕ, zero, suc, _+_, _-_, _%_, min}
 use mathlib.Core.Bool.{Bool, _&&_, _||_}
 use mathlib.Core.List.{List, [], _∷_}
@@ -10,16 +10,30 @@ use Rattle.network.specs.declared.Record.the-variants.{Empty}
 use Rattle.book.specs.declared.Reversal.{Reversal}
 use Rattle.book.specs.declared.Journal.{Journal}
 
+-- "Each accepted edit goes on the history, which keeps the latest 64; a 65th pushes out the oldest."
+abbrev pub journalSize : ℕ
+journalSize = 64
+
+-- ════ the ring's counters: the slot before another, the slot after it, and one edit more, but not above the size
+abbrev pub before : ℕ → ℕ
+before slot = (slot + (journalSize - 1)) % journalSize
+
+abbrev pub after : ℕ → ℕ
+after slot = (slot + 1) % journalSize
+
+abbrev pub oneMore : ℕ → ℕ
+oneMore held = min (held + 1) journalSize
+
+-- how many entries came after that of a slot, where `next` is the slot of the next one
+abbrev pub age : ℕ → ℕ → ℕ
+age next slot = (next + (journalSize - 1) - slot) % journalSize
+
 -- what a free slot holds
 abbrev pub free : Reversal
 free = record { place = 0; prior = Empty }
 
 abbrev pub emptyJournal : Journal
-emptyJournal = record { entries = replicate 64 free; next = 0; held = 0 }
-
--- the slot before another
-abbrev pub before : ℕ → ℕ
-before slot = (slot + 63) % 64
+emptyJournal = record { entries = replicate journalSize free; next = 0; held = 0 }
 
 -- the k entries before a slot, the latest first
 unfoldable pub entriesBefore : List Reversal → ℕ → ℕ → List Reversal
@@ -30,9 +44,9 @@ entriesBefore entries slot (suc k) = getD entries (before slot) free ∷ entries
 abbrev pub reversals : Journal → List Reversal
 reversals j = entriesBefore (j .entries) (j .next) (j .held)
 
--- "Each accepted edit goes on the history, which keeps the latest 64; a 65th pushes out the oldest."
+-- an accepted edit goes on
 abbrev pub pushed : Journal → Reversal → Journal
-pushed j e = record { entries = set (j .entries) (j .next) e; next = (j .next + 1) % 64; held = min (j .held + 1) 64 }
+pushed j e = record { entries = set (j .entries) (j .next) e; next = after (j .next); held = oneMore (j .held) }
 
 abbrev pub latest : Journal → Reversal
 latest j = getD (j .entries) (before (j .next)) free
@@ -47,7 +61,7 @@ isFree u = eqb (u .place) 0 && isEmpty (u .prior)
 
 -- the slot is among the `held` ones before `next`
 abbrev pub isHeld : Journal → ℕ → Bool
-isHeld j slot = ltb ((j .next + 63 - slot) % 64) (j .held)
+isHeld j slot = ltb (age (j .next) slot) (j .held)
 
 unfoldable pub journalFits : Journal → Bool
-journalFits j = ltb (j .next) 64 && leb (j .held) 64 && allBelow 64 (λ slot. isHeld j slot || isFree (getD (j .entries) slot free))
+journalFits j = ltb (j .next) journalSize && leb (j .held) journalSize && allBelow journalSize (λ slot. isHeld j slot || isFree (getD (j .entries) slot free))

@@ -14,10 +14,10 @@ use Rattle.lists.specs.All.{all-at, all-by}
 use Rattle.network.specs.Records.{isEmpty, observations}
 use Rattle.book.specs.declared.Reversal.{Reversal}
 use Rattle.book.specs.declared.Journal.{Journal}
-use Rattle.book.specs.Journal.{free, before, entriesBefore, reversals, pushed, popped, latest, isFree, isHeld, journalFits}
+use Rattle.book.specs.Journal.{journalSize, before, after, oneMore, age, free, entriesBefore, reversals, pushed, popped, latest, isFree, isHeld, journalFits}
 
 -- what is stored in a slot is not among the k entries before a slot that lies d before it
-untouched : (l : List Reversal) (slot : ℕ) (e : Reversal) (d k p : ℕ) → slot < 64 → d + k ≤ 63 → p ≡ (slot + (64 - d)) % 64
+untouched : (l : List Reversal) (slot : ℕ) (e : Reversal) (d k p : ℕ) → slot < journalSize → d + k ≤ (journalSize - 1) → p ≡ (slot + (journalSize - d)) % journalSize
     → entriesBefore (set l slot e) p k ≡ entriesBefore l p k
 unfolding entriesBefore
 untouched l slot e d zero p h m q = refl
@@ -36,58 +36,58 @@ fewer l p (suc m) (suc k) =
 
 -- the counters in range, and the slots that are not held free
 pub record Tidy (j : Journal) : Type 0 where
-  pub next : j .next < 64
-  pub held : j .held ≤ 64
-  pub blank : (slot : ℕ) → slot < 64 → j .held ≤ (j .next + 63 - slot) % 64 → isFree (getD (j .entries) slot free) ≡ true
+  pub next : j .next < journalSize
+  pub held : j .held ≤ journalSize
+  pub blank : (slot : ℕ) → slot < journalSize → j .held ≤ age (j .next) slot → isFree (getD (j .entries) slot free) ≡ true
 
 tidy-slot : (a b : Bool) → a || b ≡ true → a ≡ false → b ≡ true
 tidy-slot true b e f = clash refl f
 tidy-slot false b e f = e
 
-slot-tidy : (j : Journal) (slot : ℕ) → (j .held ≤ (j .next + 63 - slot) % 64 → isFree (getD (j .entries) slot free) ≡ true) → isHeld j slot || isFree (getD (j .entries) slot free) ≡ true
-slot-tidy j slot h = go (decLt ((j .next + 63 - slot) % 64) (j .held))
+slot-tidy : (j : Journal) (slot : ℕ) → (j .held ≤ age (j .next) slot → isFree (getD (j .entries) slot free) ≡ true) → isHeld j slot || isFree (getD (j .entries) slot free) ≡ true
+slot-tidy j slot h = go (decLt (age (j .next) slot) (j .held))
   where
-    go : Dec ((j .next + 63 - slot) % 64 < j .held) → isHeld j slot || isFree (getD (j .entries) slot free) ≡ true
-    go (yes e) = rw (lt-ltb ((j .next + 63 - slot) % 64) (j .held) e)
-    go (no e) = rw (le-ltb ((j .next + 63 - slot) % 64) (j .held) (omega arith)) (h (omega arith))
+    go : Dec (age (j .next) slot < j .held) → isHeld j slot || isFree (getD (j .entries) slot free) ≡ true
+    go (yes e) = rw (lt-ltb (age (j .next) slot) (j .held) e)
+    go (no e) = rw (le-ltb (age (j .next) slot) (j .held) (omega arith)) (h (omega arith))
 
 pub fits-tidy : (j : Journal) → journalFits j ≡ true → Tidy j
 unfolding journalFits
 fits-tidy j e =
-    let both = and-left (ltb (j .next) 64 && leb (j .held) 64) _ e in
+    let both = and-left (ltb (j .next) journalSize && leb (j .held) journalSize) _ e in
     record {
-      next = ltb-true _ _ (and-left (ltb (j .next) 64) (leb (j .held) 64) both);
-      held = leb-true _ _ (and-right (ltb (j .next) 64) (leb (j .held) 64) both);
+      next = ltb-true _ _ (and-left (ltb (j .next) journalSize) (leb (j .held) journalSize) both);
+      held = leb-true _ _ (and-right (ltb (j .next) journalSize) (leb (j .held) journalSize) both);
       blank = λ slot h q.
-          tidy-slot _ _ (all-at 64 (λ s. isHeld j s || isFree (getD (j .entries) s free)) slot (and-right (ltb (j .next) 64 && leb (j .held) 64) _ e) h)
-          (le-ltb ((j .next + 63 - slot) % 64) (j .held) q);
+          tidy-slot _ _ (all-at journalSize (λ s. isHeld j s || isFree (getD (j .entries) s free)) slot (and-right (ltb (j .next) journalSize && leb (j .held) journalSize) _ e) h)
+          (le-ltb (age (j .next) slot) (j .held) q);
     }
 
 pub tidy-fits : (j : Journal) → Tidy j → journalFits j ≡ true
 unfolding journalFits
 tidy-fits j t =
-    and-both _ _ (and-both _ _ (lt-ltb (j .next) 64 (t .next)) (le-leb (j .held) 64 (t .held)))
-    (all-by 64 (λ s. isHeld j s || isFree (getD (j .entries) s free)) (λ slot h. slot-tidy j slot (t .blank slot h)))
+    and-both _ _ (and-both _ _ (lt-ltb (j .next) journalSize (t .next)) (le-leb (j .held) journalSize (t .held)))
+    (all-by journalSize (λ s. isHeld j s || isFree (getD (j .entries) s free)) (λ slot h. slot-tidy j slot (t .blank slot h)))
 
 -- "which keeps the latest 64; a 65th pushes out the oldest"
-pub reversals-push : (j : Journal) (e : Reversal) → length (j .entries) ≡ 64 → Tidy j → reversals (pushed j e) ≡ take 64 (e ∷ reversals j)
+pub reversals-push : (j : Journal) (e : Reversal) → length (j .entries) ≡ journalSize → Tidy j → reversals (pushed j e) ≡ take journalSize (e ∷ reversals j)
 unfolding entriesBefore
 reversals-push j e len t =
     let l = j .entries in
     let slot = j .next in
     let k = j .held in
-    let p : slot < 64 = t .next in
-    let q : k ≤ 64 = t .held in
-    let home : before ((slot + 1) % 64) ≡ slot = omega arith in
-    ap (λ (n : ℕ). entriesBefore (set l slot e) ((slot + 1) % 64) n) (let w : min (k + 1) 64 ≡ suc (min 63 k) = omega arith in w)
-    ∙ ap (λ (n : ℕ). getD (set l slot e) n free ∷ entriesBefore (set l slot e) n (min 63 k)) home
-    ∙ ap (λ (u : Reversal). u ∷ entriesBefore (set l slot e) slot (min 63 k)) (getD-set-same l slot e free (omega arith))
-    ∙ ap (λ (r : List Reversal). e ∷ r) (untouched l slot e 0 (min 63 k) slot p (omega arith) (omega arith) ∙ sym (fewer l slot 63 k))
+    let p : slot < journalSize = t .next in
+    let q : k ≤ journalSize = t .held in
+    let home : before (after slot) ≡ slot = omega arith in
+    ap (λ (n : ℕ). entriesBefore (set l slot e) (after slot) n) (let w : oneMore k ≡ suc (min (journalSize - 1) k) = omega arith in w)
+    ∙ ap (λ (n : ℕ). getD (set l slot e) n free ∷ entriesBefore (set l slot e) n (min (journalSize - 1) k)) home
+    ∙ ap (λ (u : Reversal). u ∷ entriesBefore (set l slot e) slot (min (journalSize - 1) k)) (getD-set-same l slot e free (omega arith))
+    ∙ ap (λ (r : List Reversal). e ∷ r) (untouched l slot e 0 (min (journalSize - 1) k) slot p (omega arith) (omega arith) ∙ sym (fewer l slot (journalSize - 1) k))
 
-pub tidy-pushed : (j : Journal) (e : Reversal) → length (j .entries) ≡ 64 → Tidy j → Tidy (pushed j e)
+pub tidy-pushed : (j : Journal) (e : Reversal) → length (j .entries) ≡ journalSize → Tidy j → Tidy (pushed j e)
 tidy-pushed j e len t =
-    let p : j .next < 64 = t .next in
-    let q : j .held ≤ 64 = t .held in
+    let p : j .next < journalSize = t .next in
+    let q : j .held ≤ journalSize = t .held in
     record {
       next = omega arith;
       held = omega arith;
@@ -101,22 +101,22 @@ pub reversals-pop : (j : Journal) → 0 < j .held → Tidy j → reversals j ≡
 unfolding entriesBefore
 reversals-pop j some t =
     let l = j .entries in
-    let p : j .next < 64 = t .next in
-    let q : j .held ≤ 64 = t .held in
+    let p : j .next < journalSize = t .next in
+    let q : j .held ≤ journalSize = t .held in
     ap (entriesBefore l (j .next)) (let w : j .held ≡ suc (j .held - 1) = omega arith in w)
     ∙ ap (λ (r : List Reversal). getD l (before (j .next)) free ∷ r)
     (sym (untouched l (before (j .next)) free 0 (j .held - 1) (before (j .next)) (omega arith) (omega arith) (omega arith)))
 
-pub tidy-popped : (j : Journal) → length (j .entries) ≡ 64 → 0 < j .held → Tidy j → Tidy (popped j)
+pub tidy-popped : (j : Journal) → length (j .entries) ≡ journalSize → 0 < j .held → Tidy j → Tidy (popped j)
 unfolding isFree isEmpty observations
 tidy-popped j len some t =
-    let p : j .next < 64 = t .next in
-    let q : j .held ≤ 64 = t .held in
+    let p : j .next < journalSize = t .next in
+    let q : j .held ≤ journalSize = t .held in
     record { next = omega arith; held = omega arith; blank = λ slot h w. here slot h w (ℕ-discrete slot (before (j .next))) }
   where
-    here : (slot : ℕ) → slot < 64 → j .held - 1 ≤ (before (j .next) + 63 - slot) % 64 → Dec (slot ≡ before (j .next)) → isFree (getD (popped j .entries) slot free) ≡ true
+    here : (slot : ℕ) → slot < journalSize → j .held - 1 ≤ age (before (j .next)) slot → Dec (slot ≡ before (j .next)) → isFree (getD (popped j .entries) slot free) ≡ true
     here slot h w (yes e) = ap (λ (k : ℕ). isFree (getD (popped j .entries) k free)) e ∙ ap isFree (getD-set-same (j .entries) (before (j .next)) free free (omega arith))
     here slot h w (no e) =
-        let p : j .next < 64 = t .next in
-        let q : j .held ≤ 64 = t .held in
+        let p : j .next < journalSize = t .next in
+        let q : j .held ≤ journalSize = t .held in
         ap isFree (getD-set-other (j .entries) (before (j .next)) slot free free e) ∙ t .blank slot h (omega arith)

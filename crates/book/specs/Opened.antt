@@ -12,7 +12,7 @@ use Rattle.network.specs.declared.Record.{Record}
 use Rattle.network.specs.declared.Record.the-variants.{Empty}
 use Rattle.normals.specs.Formulas.{normalsOf}
 use Rattle.normals.specs.Blank.{blankNormals, blank-is}
-use Rattle.book.specs.Journal.{free, entriesBefore, isFree}
+use Rattle.book.specs.Journal.{journalSize, free, entriesBefore, isFree}
 use Rattle.book.specs.Book.{openedBook}
 use Rattle.network.specs.RuleLaws.{fits-empty}
 use Rattle.book.specs.Sound.{Sound}
@@ -34,9 +34,9 @@ sound-opened net g =
     record {
       network = g;
       records = λ p. subst (λ (r : Record). recordFits net r ≡ true) (sym (empty-at 256 p)) (fits-empty net);
-      journal = record { next = omega arith; held = omega arith; blank = λ slot h q. ap isFree (getD-replicate 64 slot free free h) };
+      journal = record { next = omega arith; held = omega arith; blank = λ slot h q. ap isFree (getD-replicate journalSize slot free free h) };
       undoes = undoable-none net (recordAt (replicate 256 vacant));
       normals = normals-none net;
       places = length-replicate 256 vacant;
-      entries = length-replicate 64 free;
+      entries = length-replicate journalSize free;
     }

@@ -22,7 +22,7 @@ use Rattle.normals.specs.Same.{sameNormals, same-equal, equal-same}
 use Rattle.book.specs.declared.Reversal.{Reversal}
 use Rattle.book.specs.declared.Book.{Book}
 use Rattle.book.specs.Calls.{changed}
-use Rattle.book.specs.Journal.{reversals, journalFits}
+use Rattle.book.specs.Journal.{journalSize, reversals, journalFits}
 use Rattle.book.specs.Book.{undoable, recordsFit, sound}
 use Rattle.network.specs.RuleLaws.{fits-empty}
 use Rattle.book.specs.PlaceLaws.{record-beyond}
@@ -31,7 +31,7 @@ use Rattle.book.specs.JournalLaws.{Tidy, fits-tidy, tidy-fits}
 -- true of every value: the arrays' lengths
 pub record Sized (b : Book) : Type 0 where
   pub places : length (b .places) ≡ 256
-  pub entries : length (b .journal .entries) ≡ 64
+  pub entries : length (b .journal .entries) ≡ journalSize
   pub matrix : length (b .normals .matrix) ≡ 2304
   pub right : length (b .normals .right) ≡ 48
 
@@ -42,7 +42,7 @@ pub record Sound (b : Book) : Type 0 where
   pub undoes : undoable (b .network) (recordAt (b .places)) (reversals (b .journal)) ≡ true
   pub normals : b .normals ≡ normalsOf (b .network .stations) (b .places)
   pub places : length (b .places) ≡ 256
-  pub entries : length (b .journal .entries) ≡ 64
+  pub entries : length (b .journal .entries) ≡ journalSize
 
 -- ════ the records
 every-record : (net : Network) (l : List Place) → length l ≡ 256 → allBelow 256 (λ p. recordFits net (recordAt l p)) ≡ true → (p : ℕ) → recordFits net (recordAt l p) ≡ true

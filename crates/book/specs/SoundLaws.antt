@@ -20,7 +20,7 @@ use Rattle.book.specs.declared.Change.the-variants.{Add, Replace, Strike
 use Rattle.book.specs.declared.Call.{Call}
 use Rattle.book.specs.declared.Call.the-variants.{Edit, Undo}
 use Rattle.book.specs.Calls.{placeOf, first, placeNo, changeNo, callNo, changed, puts}
-use Rattle.book.specs.Journal.{reversals, popped, latest}
+use Rattle.book.specs.Journal.{journalSize, reversals, popped, latest}
 use Rattle.book.specs.Book.{edited, undone, bookAccepts, bookSays, bookNext, undoable}
 use Rattle.network.specs.RuleLaws.{fits-empty, accepted-fits, accepted-filled}
 use Rattle.book.specs.PlaceLaws.{changed-same, changed-ext, changed-each, changed-back, record-set}
@@ -101,8 +101,8 @@ module _ (b : Book) (o : Sound b) where
         undoes =
             subst (λ (h : List Reversal). undoable net (recordAt (set l p (record { entry = r }))) h ≡ true)
             (sym (reversals-push (b .journal) new (o .entries) (o .journal)))
-            (sym (undoable-ext net (changed (recordAt l) p r) (recordAt (set l p (record { entry = r }))) (take 64 (new ∷ reversals (b .journal))) (λ k. record-set l p r k inside))
-            ∙ undoable-take net 64 (changed (recordAt l) p r) (new ∷ reversals (b .journal))
+            (sym (undoable-ext net (changed (recordAt l) p r) (recordAt (set l p (record { entry = r }))) (take journalSize (new ∷ reversals (b .journal))) (λ k. record-set l p r k inside))
+            ∙ undoable-take net journalSize (changed (recordAt l) p r) (new ∷ reversals (b .journal))
             (first-undoable net (changed (recordAt l) p r) new (reversals (b .journal))
             (record {
               inside = n .inside;

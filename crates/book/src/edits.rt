@@ -36,7 +36,7 @@ impl Book {
             network: net,
             places: [vacant; 256],
             journal: Journal {
-                entries: [free; 64],
+                entries: [free; Journal::SIZE],
                 next: 0,
                 held: 0,
             },

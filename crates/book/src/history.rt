@@ -2,40 +2,64 @@
 use super::Journal;
 use super::Reversal;
 ghost use mathlib.Core.Path.{_≡_};
-ghost use Prim.Native.Nat.{_+_, _<_, min};
-ghost use Rattle.book.specs.Journal.{pushed, popped, latest};
+ghost use Prim.Native.Nat.{_<_};
+ghost use Rattle.book.specs.Journal.{journalSize, before, after, oneMore, pushed, popped, latest};
 
-// One more, but not above 64.
-fn capped(n: usize) -> usize
-    ensures { λ r. ⌜ r ≡ min (n + 1) 64 ⌝ }
+pub fn slot_after(slot: usize) -> usize
+    requires { ⌜ slot < journalSize ⌝ }
+    ensures { λ r. ⌜ r ≡ after slot ⌝ }
 {
-    if n < 64 { n + 1 } else { 64 }
+    (slot + 1) % Journal::SIZE
+}
+
+pub fn slot_before(slot: usize) -> usize
+    requires { ⌜ slot < journalSize ⌝ }
+    ensures { λ r. ⌜ r ≡ before slot ⌝ }
+{
+    (slot + (Journal::SIZE - 1)) % Journal::SIZE
+}
+
+// One edit more, but not above the size.
+pub fn one_more(held: usize) -> usize
+    ensures { λ r. ⌜ r ≡ oneMore held ⌝ }
+{
+    if held < Journal::SIZE {
+        held + 1
+    } else {
+        Journal::SIZE
+    }
 }
 
 impl Journal {
-    // An edit goes on; a 65th pushes out the oldest.
+    // How many edits it keeps.
+    pub const SIZE: usize = 64;
+
+    // An edit goes on; where the journal is full it pushes out the oldest.
     pub fn push(self, e: Reversal) -> Journal
-        requires { ⌜ self .next < 64 ⌝ }
+        requires { ⌜ self .next < journalSize ⌝ }
         ensures { λ r. ⌜ r ≡ pushed self e ⌝ }
     {
         let i = self.next;
+        let held = self.held;
         let mut a = self.entries;
         a[i] = e;
-        let n = capped(self.held);
+        let next = slot_after(i);
+        let more = one_more(held);
         Journal {
             entries: a,
-            next: (i + 1) % 64,
-            held: n,
+            next,
+            held: more,
         }
     }
 
     // The latest comes off, and its slot is blank again.
     pub fn pop(self) -> Journal
-        requires { ⌜ (0 < self .held) × (self .next < 64) ⌝ }
+        requires { ⌜ (0 < self .held) × (self .next < journalSize) ⌝ }
         ensures { λ r. ⌜ r ≡ popped self ⌝ }
     {
-        let i = (self.next + 63) % 64;
+        let next = self.next;
         let n = self.held;
+        let i = slot_before(next);
         let mut a = self.entries;
         let none = super::Record::Empty;
         a[i] = Reversal {
@@ -50,10 +74,11 @@ impl Journal {
     }
 
     pub fn last(self) -> Reversal
-        requires { ⌜ self .next < 64 ⌝ }
+        requires { ⌜ self .next < journalSize ⌝ }
         ensures { λ r. ⌜ r ≡ latest self ⌝ }
     {
-        let i = (self.next + 63) % 64;
+        let next = self.next;
+        let i = slot_before(next);
         self.entries[i]
     }
 }

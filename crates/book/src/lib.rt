@@ -5,6 +5,9 @@ mod refusals;
 mod rows;
 mod soundness;
 
+pub use history::one_more;
+pub use history::slot_after;
+pub use history::slot_before;
 use network::Network;
 use network::Place;
 use network::Record;
@@ -40,9 +43,9 @@ pub struct Reversal {
     pub prior: Record,
 }
 
-// Document 01's history: a ring of the latest 64 edits.
+// Document 01's history: a ring of the latest edits.
 pub struct Journal {
-    pub entries: [Reversal; 64],
+    pub entries: [Reversal; Journal::SIZE],
     pub next: usize,
     pub held: usize,
 }

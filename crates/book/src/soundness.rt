@@ -3,20 +3,21 @@
 use super::Book;
 use super::Journal;
 use super::Reversal;
+use super::slot_before;
 use network::Network;
 use network::Place;
 use network::Record;
 use normals::Normals;
 ghost use mathlib.Core.Path.{_≡_};
 ghost use mathlib.Core.Bool.{true, not, _&&_, _||_};
-ghost use Prim.Native.Nat.{_+_, _-_, _%_, _<_};
+ghost use Prim.Native.Nat.{_<_};
 ghost use lib.Dec.{ltb};
 ghost use lib.ListN.{getD};
 ghost use Rattle.lists.specs.All.{allBelow};
 ghost use Rattle.network.specs.Stations.{coordinates, networkFits};
 ghost use Rattle.network.specs.Records.{recordAt, isEmpty};
 ghost use Rattle.network.specs.Rules.{recordFits};
-ghost use Rattle.book.specs.Journal.{free, isFree, isHeld, journalFits, reversals};
+ghost use Rattle.book.specs.Journal.{journalSize, age, free, isFree, isHeld, journalFits, reversals};
 ghost use Rattle.book.specs.Book.{undoable, sound};
 
 fn is_free(u: Reversal) -> bool
@@ -29,10 +30,10 @@ fn is_free(u: Reversal) -> bool
 
 // A slot is held, or it is free.
 fn slot_fits(next: usize, held: usize, slot: usize, u: Reversal) -> bool
-    requires { ⌜ (next < 64) × (slot < 64) ⌝ }
-    ensures { λ t. ⌜ t ≡ (ltb ((next + 63 - slot) % 64) held || isFree u) ⌝ }
+    requires { ⌜ (next < journalSize) × (slot < journalSize) ⌝ }
+    ensures { λ t. ⌜ t ≡ (ltb (age next slot) held || isFree u) ⌝ }
 {
-    let age = (next + 63 - slot) % 64;
+    let age = (next + (Journal::SIZE - 1) - slot) % Journal::SIZE;
     if age < held {
         return true;
     }
@@ -40,14 +41,14 @@ fn slot_fits(next: usize, held: usize, slot: usize, u: Reversal) -> bool
 }
 
 fn slots_fit(journal: Journal) -> bool
-    requires { ⌜ journal .next < 64 ⌝ }
-    ensures { λ t. ⌜ t ≡ allBelow 64 (λ slot. isHeld journal slot || isFree (getD (journal .entries) slot free)) ⌝ }
+    requires { ⌜ journal .next < journalSize ⌝ }
+    ensures { λ t. ⌜ t ≡ allBelow journalSize (λ slot. isHeld journal slot || isFree (getD (journal .entries) slot free)) ⌝ }
 {
     let entries = journal.entries;
     let next = journal.next;
     let held = journal.held;
     let mut slot = 0;
-    while slot < 64 {
+    while slot < Journal::SIZE {
         let u = entries[slot];
         if !slot_fits(next, held, slot, u) {
             return false;
@@ -62,10 +63,10 @@ fn journal_fits(journal: Journal) -> bool
 {
     let next = journal.next;
     let held = journal.held;
-    if next >= 64 {
+    if next >= Journal::SIZE {
         return false;
     }
-    if held > 64 {
+    if held > Journal::SIZE {
         return false;
     }
     slots_fit(journal)
@@ -108,7 +109,7 @@ fn restores(net: Network, coordinate: &[i64; 96], held: Record, prior: Record) -
 
 // The journal walked back on a copy of the places.
 fn can_undo(net: Network, coordinate: &[i64; 96], places: [Place; 256], journal: Journal) -> bool
-    requires { ⌜ (networkFits net ≡ true) × (now coordinate ≡ coordinates (net .stations)) × (journal .next < 64) ⌝ }
+    requires { ⌜ (networkFits net ≡ true) × (now coordinate ≡ coordinates (net .stations)) × (journal .next < journalSize) ⌝ }
     ensures { λ t. ⌜ t ≡ undoable net (recordAt places) (reversals journal) ⌝ }
 {
     let entries = journal.entries;
@@ -116,7 +117,7 @@ fn can_undo(net: Network, coordinate: &[i64; 96], places: [Place; 256], journal:
     let mut slot = journal.next;
     let mut left = journal.held;
     while left > 0 {
-        slot = (slot + 63) % 64;
+        slot = slot_before(slot);
         let u = entries[slot];
         let p = u.place;
         let prior = u.prior;

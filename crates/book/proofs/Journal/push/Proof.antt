@@ -9,14 +9,14 @@ mul-a c = search needs
 array-set-from-a : tie.Need-array-set-from-a
 array-set-from-a c = search needs
 
-capped-requires : tie.Need-capped-requires
-capped-requires c κs = search needs
+slot-after-requires : tie.Need-slot-after-requires
+slot-after-requires c κs = search needs
 
-add-t6 : tie.Need-add-t6
-add-t6 c = search needs
+one-more-requires : tie.Need-one-more-requires
+one-more-requires c κs = search needs
 
 returns : tie.Need-returns
 returns c = cc
 
 pub push-spec : {M : Type 1} → statement M
-push-spec = tie.close (tie.spec mul-a array-set-from-a capped-requires add-t6 returns)
+push-spec = tie.close (tie.spec mul-a array-set-from-a slot-after-requires one-more-requires returns)

@@ -1,13 +1,13 @@
 -- `soundness::can_undo` meets its contract. Assumes nothing.
-use Prim.Native.Nat.{_<_}
-use mathlib.Core.Path.{_≡_, refl, sym, _∙_}
+use Prim.Native.Nat.{ℕ, _-_, _<_}
+use mathlib.Core.Path.{_≡_, refl, sym, ap, _∙_}
 use native.Mathlib.Omega.{arith}
 use borrow.Author.Needs.{needs}
 use borrow.Author.Tests.{not-true, not-false}
-use lib.ListN.{length, length-set}
+use lib.ListN.{length, getD, set, length-set}
 use Rattle.lists.specs.Filling.{length-mapped}
 use Rattle.network.specs.Records.{recordAt}
-use Rattle.book.specs.Journal.{entriesBefore}
+use Rattle.book.specs.Journal.{journalSize, before, free, entriesBefore}
 use Rattle.book.specs.Book.{undoable}
 use Rattle.book.proofs.Undoing.{undo-beyond, undo-fails, undo-goes-on, undo-ends}
 use Rattle.book.proofs.soundness.can_undo.Statement.{statement}
@@ -15,7 +15,7 @@ use Rattle.book.proofs.soundness.can_undo.Tie as tie
 
 abbrev Inv-loop : tie.InvT-loop
 Inv-loop net coordinate entries state₀ slot₀ left₀ state slot left =
-    (slot < 64)
+    (slot < journalSize)
     × (length state ≡ 256)
     × (undoable net (recordAt state₀) (entriesBefore entries slot₀ left₀) ≡ undoable net (recordAt state) (entriesBefore entries slot left))
 
@@ -25,11 +25,16 @@ abbrev μ-loop : tie.MeasureT-loop
 some : (c : tie.In-loop Inv-loop μ-loop) → 0 < c .before .loop .left
 some c = search needs
 
+-- the entry that is taken back
+entry-is : (b : tie.After-slot-before Inv-loop μ-loop) → let j = b .before .before .before .before .args .journal in
+    getD (j .entries) (b .slot-before .result) free ≡ getD (j .entries) (before (b .before .before .loop .slot)) free
+entry-is b = ap (λ (k : ℕ). getD (b .before .before .before .before .args .journal .entries) k free) (b .slot-before .ensures)
+
 loop-holds : tie.Need-loop-holds Inv-loop μ-loop
 loop-holds c = (c .before .pre .2, search (needs, length-mapped), refl)
 
-add-slot : tie.Need-add-slot Inv-loop μ-loop
-add-slot c = search needs
+slot-before-requires : tie.Need-slot-before-requires Inv-loop μ-loop
+slot-before-requires c κs = c .before .loop .inv .0
 
 mul-u : tie.Need-mul-u Inv-loop μ-loop
 mul-u c = search needs
@@ -39,9 +44,10 @@ array-copy-out-u c = search needs
 
 returns : tie.Need-returns Inv-loop μ-loop
 returns c =
-    let t = c .before .before .before in
+    let b = c .before .before in
+    let t = b .before .before in
     let s = t .before .before in
-    sym (t .loop .inv .2 ∙ undo-beyond (s .args .net) (s .args .journal .entries) (t .loop .state) (t .loop .slot) (t .loop .left) (some (c .before .before)) _ refl (c .if1 .taken))
+    sym (t .loop .inv .2 ∙ undo-beyond (s .args .net) (s .args .journal .entries) (t .loop .state) (t .loop .slot) (t .loop .left) (some (b .before)) _ (entry-is b) (c .if1 .taken))
 
 mul-q : tie.Need-mul-q Inv-loop μ-loop
 mul-q c = search needs
@@ -54,12 +60,12 @@ restores-requires c κs = search needs
 
 returns-2 : tie.Need-returns-2 Inv-loop μ-loop
 returns-2 c =
-    let i = c .before .before .before .before .before in
-    let t = i .before in
+    let b = c .before .before .before .before .before in
+    let t = b .before .before in
     let s = t .before .before in
     sym
     (t .loop .inv .2
-    ∙ undo-fails (s .args .net) (s .args .journal .entries) (t .loop .state) (t .loop .slot) (t .loop .left) (some i) _ refl (sym (c .before .restores .ensures) ∙ not-true _ (c .if2 .taken)))
+    ∙ undo-fails (s .args .net) (s .args .journal .entries) (t .loop .state) (t .loop .slot) (t .loop .left) (some (b .before)) _ (entry-is b) (sym (c .before .restores .ensures) ∙ not-true _ (c .if2 .taken)))
 
 mul-state : tie.Need-mul-state Inv-loop μ-loop
 mul-state c = search needs
@@ -75,14 +81,16 @@ loop-less c = search needs
 
 loop-again : tie.Need-loop-again Inv-loop μ-loop
 loop-again c =
-    let i = c .before .before .before .before .before in
-    let t = i .before in
-    let s = t .before .before in (
-      omega arith,
+    let b = c .before .before .before .before .before in
+    let t = b .before .before in
+    let s = t .before .before in
+    let u = getD (s .args .journal .entries) (b .slot-before .result) free in (
+      let e = b .slot-before .ensures in omega arith,
       length-set (t .loop .state) _ _ ∙ t .loop .inv .1,
       t .loop .inv .2
-          ∙ undo-goes-on (s .args .net) (s .args .journal .entries) (t .loop .state) (t .loop .slot) (t .loop .left) (some i) _ refl (t .loop .inv .1) (c .before .before .before .if1 .left)
-          (sym (c .before .restores .ensures) ∙ not-false _ (c .if2 .left)),
+          ∙ undo-goes-on (s .args .net) (s .args .journal .entries) (t .loop .state) (t .loop .slot) (t .loop .left) (some (b .before)) _ (entry-is b) (t .loop .inv .1) (c .before .before .before .if1 .left)
+          (sym (c .before .restores .ensures) ∙ not-false _ (c .if2 .left))
+          ∙ ap (λ (k : ℕ). undoable (s .args .net) (recordAt (set (t .loop .state) (u .place) (record { entry = u .prior }))) (entriesBefore (s .args .journal .entries) k (t .loop .left - 1))) (sym (b .slot-before .ensures)),
     )
 
 returns-3 : tie.Need-returns-3 Inv-loop μ-loop
@@ -98,7 +106,7 @@ can-undo-spec =
     Inv-loop
     μ-loop
     loop-holds
-    add-slot
+    slot-before-requires
     mul-u
     array-copy-out-u
     returns

@@ -10,19 +10,19 @@ use lib.Dec.{ltb}
 use lib.ListN.{getD}
 use Rattle.lists.specs.All.{allBelow, all-none, all-more, all-done, all-fails}
 use Rattle.book.specs.declared.Reversal.{Reversal}
-use Rattle.book.specs.Journal.{free, isFree}
+use Rattle.book.specs.Journal.{journalSize, age, free, isFree}
 use Rattle.book.proofs.soundness.slots_fit.Statement.{statement}
 use Rattle.book.proofs.soundness.slots_fit.Tie as tie
 
 -- the test of a slot
 abbrev test : List Reversal → ℕ → ℕ → ℕ → Bool
-test entries next held slot = ltb ((next + 63 - slot) % 64) held || isFree (getD entries slot free)
+test entries next held slot = ltb (age next slot) held || isFree (getD entries slot free)
 
 abbrev Inv-loop : tie.InvT-loop
-Inv-loop entries next held slot₀ slot = (slot ≤ 64) × (allBelow slot (test entries next held) ≡ true)
+Inv-loop entries next held slot₀ slot = (slot ≤ journalSize) × (allBelow slot (test entries next held) ≡ true)
 
 abbrev μ-loop : tie.MeasureT-loop
-μ-loop entries next held slot₀ slot = 64 - slot
+μ-loop entries next held slot₀ slot = journalSize - slot
 
 loop-holds : tie.Need-loop-holds Inv-loop μ-loop
 loop-holds c = (search needs, all-none _)
@@ -41,7 +41,7 @@ returns c =
     let b = c .before in
     let t = b .before .before .before in
     let j = t .before .before .args .journal in
-    sym (all-fails 64 (test (j .entries) (j .next) (j .held)) (t .loop .slot) (omega arith) (sym (b .slot-fits .ensures) ∙ not-true _ (c .if1 .taken)))
+    sym (all-fails journalSize (test (j .entries) (j .next) (j .held)) (t .loop .slot) (omega arith) (sym (b .slot-fits .ensures) ∙ not-true _ (c .if1 .taken)))
 
 add-slot : tie.Need-add-slot Inv-loop μ-loop
 add-slot c = search needs
@@ -60,7 +60,7 @@ returns-2 : tie.Need-returns-2 Inv-loop μ-loop
 returns-2 c =
     let t = c .before in
     let j = t .before .before .args .journal in
-    all-done 64 (test (j .entries) (j .next) (j .held)) (t .loop .slot) (t .loop .inv .0) (omega arith) (t .loop .inv .1)
+    all-done journalSize (test (j .entries) (j .next) (j .held)) (t .loop .slot) (t .loop .inv .0) (omega arith) (t .loop .inv .1)
 
 pub slots-fit-spec : {M : Type 1} → statement M
 slots-fit-spec =
