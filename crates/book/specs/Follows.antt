@@ -114,7 +114,7 @@ module _ (net : Network) (b : Book) (l : Ledger) (o : Follows net b l) where
   pub follows-next : (c : Call) → Follows net (bookNext b c) (ledgerNext net l c)
   unfolding bookAccepts accepted callNo
   follows-next (call.Edit p c) =
-      unless-both (Follows net) (bookSays b (call.Edit p c)) (ledgerSays net l (call.Edit p c)) b _ l _ (says (call.Edit p c)) o (λ e. follows-edited (placeOf p) (puts c) (enters-edit b p c e))
+      unless-both (Follows net) (bookSays b (call.Edit p c)) (ledgerSays net l (call.Edit p c)) b _ l _ (says (call.Edit p c)) o (λ e. follows-edited (placeOf p) (puts c) (enters-edit b p c _ _ refl refl e))
   follows-next call.Undo =
       unless-both (Follows net) (bookSays b call.Undo) (ledgerSays net l call.Undo) b _ l _ (says call.Undo) o (λ e. follows-undone (undo-some (b .journal .held) e))
 

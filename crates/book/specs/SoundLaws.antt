@@ -48,10 +48,10 @@ module _ (b : Book) (p : ℕ) (inside : p < 256) where
   enters-change Strike e =
       record { inside = inside; fits = fits-empty (b .network); real = and-no-right (isEmpty (puts Strike)) _ (empty-is (recordAt (b .places) p) e) }
 
--- an edit that the table does not refuse enters its place
-pub enters-edit : (b : Book) (p : ℤ) (c : Change) → bookSays b (Edit p c) ≡ 0 → Enters b (placeOf p) (puts c)
+-- an edit that the table does not refuse enters its place: what it puts there, where the code has that as r, and the place as i
+pub enters-edit : (b : Book) (p : ℤ) (c : Change) (i : ℕ) (r : Record) → i ≡ placeOf p → r ≡ puts c → bookSays b (Edit p c) ≡ 0 → Enters b i r
 unfolding callNo
-enters-edit b p c e = let x = first-zero (placeNo p) _ e in enters-change b (placeOf p) (place-inside p (x .0)) c (x .1)
+enters-edit b p c i r at is e = let x = first-zero (placeNo p) _ e in rw (at, is) (enters-change b (placeOf p) (place-inside p (x .0)) c (x .1))
 
 -- ════ the journal's reversals over the same records, and fewer of them
 pub undoable-ext : (net : Network) (f g : ℕ → Record) (h : List Reversal) → ((k : ℕ) → f k ≡ g k) → undoable net f h ≡ undoable net g h
@@ -136,5 +136,5 @@ module _ (b : Book) (o : Sound b) where
 
   pub sound-next : (c : Call) → Sound (bookNext b c)
   unfolding bookAccepts callNo
-  sound-next (Edit p c) = unless-either Sound (bookSays b (Edit p c)) b _ o (λ e. sound-edited (placeOf p) (puts c) (enters-edit b p c e))
+  sound-next (Edit p c) = unless-either Sound (bookSays b (Edit p c)) b _ o (λ e. sound-edited (placeOf p) (puts c) (enters-edit b p c _ _ refl refl e))
   sound-next Undo = unless-either Sound (bookSays b Undo) b _ o (λ e. sound-undone (undo-some (b .journal .held) e))

@@ -1,22 +1,26 @@
 -- What an edit or an undo has done to bytes that hold a book, in the words of its contract. Assumes nothing.
-use Prim.Native.Nat.{ℕ, zero, suc, _+_, _-_, _%_, _≤_, min}
+use Prim.Native.Nat.{ℕ, zero, suc, _-_, _≤_}
 use mathlib.Core.Path.{_≡_, refl, sym, ap, _∙_, subst}
 use mathlib.Core.Bool.{true}
 use mathlib.Core.List.{List}
 use lib.ListN.{getD, set}
 use lib.IntN.{ℤ, pos}
+use Rattle.words.specs.Signed.{indexIn}
 use Rattle.network.specs.Records.{recordAt}
-use Rattle.network.specs.Stations.{coordinatesFit}
-use Rattle.network.specs.Rules.{recordNo}
+use Rattle.network.specs.Stations.{networkFits, coordinatesFit}
 use Rattle.network.specs.RuleLaws.{network-few, network-coordinates}
 use Rattle.network.specs.declared.Network.{Network}
 use Rattle.network.specs.declared.Record.{Record}
 use Rattle.book.specs.declared.Book.{Book}
 use Rattle.book.specs.declared.Reversal.{Reversal}
-use Rattle.book.specs.Journal.{free, before, latest}
-use Rattle.book.specs.Calls.{Call, undo, undoNo, callNo, unless}
+use Rattle.book.specs.Journal.{before, after, oneMore, free, latest}
+use Rattle.book.specs.declared.Change.{Change}
+use Rattle.book.specs.declared.Call.{Call}
+use Rattle.book.specs.declared.Call.the-variants as call
+use Rattle.book.specs.Calls.{placeOf, puts, undoNo, callNo, unless}
 use Rattle.book.specs.CallLaws.{call-small}
-use Rattle.book.specs.SoundLaws.{Enters}
+use Rattle.book.specs.SoundLaws.{Enters, enters-edit}
+use Rattle.book.specs.Numbers.{EditNumber}
 use Rattle.book.specs.Book.{withEntry, edited, undone, bookAccepts, bookSays, outcome}
 use Rattle.layout.specs.Bytes.{bookOf, putBook, bytesFit}
 use Rattle.layout.specs.CodecLaws.{fits-sound}
@@ -25,19 +29,20 @@ use Rattle.dombrelat.proofs.Lent.{through-fit}
 
 -- ════ the core edit, with the journal that goes with it
 module _ (s : List ℕ) (b : Book) where
-  pub entered : (i next held more : ℕ) (r old : Record) → old ≡ recordAt (b .places) i → next ≡ b .journal .next → held ≡ b .journal .held → more ≡ min (held + 1) 64
-      → putBook s (withEntry b i r (record { entries = set (b .journal .entries) next (record { place = i; prior = old }); next = (next + 1) % 64; held = more }))
+  pub entered : (i next slot held more : ℕ) (r old : Record) → old ≡ recordAt (b .places) i → next ≡ b .journal .next → held ≡ b .journal .held → slot ≡ after next → more ≡ oneMore held
+      → putBook s (withEntry b i r (record { entries = set (b .journal .entries) next (record { place = i; prior = old }); next = slot; held = more }))
       ≡ putBook s (edited b i r)
-  entered i next held more r old p q e m =
-      let h : more ≡ min (b .journal .held + 1) 64 = m ∙ ap (λ (n : ℕ). min (n + 1) 64) e in
-      λ k. putBook s (withEntry b i r (record { entries = set (b .journal .entries) (q k) (record { place = i; prior = p k }); next = (q k + 1) % 64; held = h k }))
+  entered i next slot held more r old p q e n m =
+      let a : slot ≡ after (b .journal .next) = n ∙ ap after q in
+      let h : more ≡ oneMore (b .journal .held) = m ∙ ap oneMore e in
+      λ k. putBook s (withEntry b i r (record { entries = set (b .journal .entries) (q k) (record { place = i; prior = p k }); next = a k; held = h k }))
 
-  pub restored : (next held : ℕ) (u : Reversal) → next ≡ b .journal .next → held ≡ b .journal .held → u ≡ getD (b .journal .entries) (before next) free
-      → putBook s (withEntry b (u .place) (u .prior) (record { entries = set (b .journal .entries) (before next) free; next = before next; held = held - 1 }))
-      ≡ putBook s (undone b)
-  restored next held u q e p =
-      let l : u ≡ latest (b .journal) = p ∙ ap (λ (n : ℕ). getD (b .journal .entries) (before n) free) q in
-      λ k. putBook s (withEntry b (l k .place) (l k .prior) (record { entries = set (b .journal .entries) (before (q k)) free; next = before (q k); held = e k - 1 }))
+  pub restored : (next slot held : ℕ) (u : Reversal) → next ≡ b .journal .next → slot ≡ before next → held ≡ b .journal .held → u ≡ getD (b .journal .entries) slot free
+      → putBook s (withEntry b (u .place) (u .prior) (record { entries = set (b .journal .entries) slot free; next = slot; held = held - 1 })) ≡ putBook s (undone b)
+  restored next slot held u q n e p =
+      let a : slot ≡ before (b .journal .next) = n ∙ ap before q in
+      let l : u ≡ latest (b .journal) = p ∙ ap (λ (k : ℕ). getD (b .journal .entries) k free) a in
+      λ k. putBook s (withEntry b (l k .place) (l k .prior) (record { entries = set (b .journal .entries) (a k) free; next = a k; held = e k - 1 }))
 
 -- ════ a call on bytes that hold a book
 module _ (s : List ℕ) (fit : bytesFit s ≡ true) where
@@ -57,36 +62,41 @@ module _ (s : List ℕ) (fit : bytesFit s ≡ true) where
         q ∙ ap (λ (k : ℕ). unless k s (putBook s (bookAccepts here c))) e ∙ written (bookSays here c) (bookAccepts here c) ∙ ap (λ (r : Returned). r .bytes) f,
       )
 
-  pub edit-changed : (c : Call) (n i j : ℕ) (r : Record) (a : ℤ) (t : List ℕ) → n ≡ bookSays here c → i ≡ j → edited here j r ≡ bookAccepts here c → a ≡ pos n
-      → t ≡ unless n s (putBook s (edited here i r)) → (a ≡ edit s c .answer) × (t ≡ edit s c .bytes)
-  edit-changed c n i j r a t e q w p h =
-      changed c n a t e p (h ∙ ap (λ (k : ℕ). unless n s (putBook s (edited here k r))) q ∙ ap (λ (b : Book). unless n s (putBook s b)) w)
+  pub edit-changed : (p : ℤ) (c : Change) (n i : ℕ) (r : Record) (a : ℤ) (t : List ℕ) → n ≡ bookSays here (call.Edit p c) → i ≡ placeOf p → r ≡ puts c → a ≡ pos n
+      → t ≡ unless n s (putBook s (edited here i r)) → (a ≡ edit s (call.Edit p c) .answer) × (t ≡ edit s (call.Edit p c) .bytes)
+  unfolding bookAccepts
+  edit-changed p c n i r a t e at is w h = changed (call.Edit p c) n a t e w (h ∙ (λ k. unless n s (putBook s (edited here (at k) (is k)))))
 
-  pub undo-none : (held : ℕ) → held ≡ here .journal .held → held ≡ 0 → (pos 8 ≡ edit s undo .answer) × (s ≡ edit s undo .bytes)
+  pub undo-none : (held : ℕ) → held ≡ here .journal .held → held ≡ 0 → (pos 8 ≡ edit s call.Undo .answer) × (s ≡ edit s call.Undo .bytes)
   unfolding callNo undoNo unless
-  undo-none held e z = changed undo 8 (pos 8) s (ap undoNo (sym z ∙ e)) refl refl
+  undo-none held e z = changed call.Undo 8 (pos 8) s (ap undoNo (sym z ∙ e)) refl refl
 
-  pub undo-done : (held : ℕ) (t : List ℕ) → held ≡ here .journal .held → (held ≡ 0 → ⊥) → t ≡ putBook s (undone here) → (pos 0 ≡ edit s undo .answer) × (t ≡ edit s undo .bytes)
+  pub undo-done : (held : ℕ) (t : List ℕ) → held ≡ here .journal .held → (held ≡ 0 → ⊥) → t ≡ putBook s (undone here) → (pos 0 ≡ edit s call.Undo .answer) × (t ≡ edit s call.Undo .bytes)
   unfolding callNo undoNo unless bookAccepts
   undo-done zero t e z h = absurd (z refl)
-  undo-done (suc held) t e z h = changed undo 0 (pos 0) t (ap undoNo e) refl h
+  undo-done (suc held) t e z h = changed call.Undo 0 (pos 0) t (ap undoNo e) refl h
 
--- ════ what the code of an edit has at hand: the station list, the place's index, and what the place holds
-module _ (s : List ℕ) (fit : bytesFit s ≡ true) (net : Network) (is : net ≡ bookOf s .network) where
-  pub network-ready : (net .count ≤ 32) × (coordinatesFit (net .stations) ≡ true)
-  network-ready =
-      let g = fits-sound s fit .network in
-      subst (λ (x : Network). (x .count ≤ 32) × (coordinatesFit (x .stations) ≡ true)) (sym is) (network-few _ g, network-coordinates _ g)
+-- ════ what the code of an edit has at hand: the station list, the place's index, what the place holds, the number, and the record
+module _ (s : List ℕ) (fit : bytesFit s ≡ true) where
+  pub network-fits : (net : Network) → net ≡ bookOf s .network → networkFits net ≡ true
+  network-fits net is = ap networkFits is ∙ fits-sound s fit .network
 
-  pub rules-are : (rules : ℕ) (r : Record) → rules ≡ recordNo net r → rules ≡ recordNo (bookOf s .network) r
-  rules-are rules r e = e ∙ ap (λ (x : Network). recordNo x r) is
+  pub network-ready : (net : Network) → net ≡ bookOf s .network → (net .count ≤ 32) × (coordinatesFit (net .stations) ≡ true)
+  network-ready net is = let g = network-fits net is in (network-few net g, network-coordinates net g)
 
-module _ (s : List ℕ) (fit : bytesFit s ≡ true) (c : Call) (n i j : ℕ) (r : Record) (e : n ≡ bookSays (bookOf s) c) (q : i ≡ j) where
-  pub settle-ready : (bookSays (bookOf s) c ≡ 0 → Enters (bookOf s) j r) → (bytesFit s ≡ true) × (n ≤ 9) × (n ≡ 0 → Enters (bookOf s) i r)
-  settle-ready enters = (
+  pub number-is : (net : Network) (p p′ : ℤ) (c : Change) (i : ℕ) (held : Record) (n : ℕ) → net ≡ bookOf s .network → p′ ≡ p → i ≡ indexIn p′ 256 → held ≡ recordAt (bookOf s .places) i
+      → EditNumber net p′ c held n → n ≡ bookSays (bookOf s) (call.Edit p c)
+  number-is net p p′ c i held n is same at holds number =
+      let b = bookOf s in
+      subst (λ (x : Network). EditNumber x p′ c held n) is number (recordAt (b .places)) (b .journal .held) (holds ∙ ap (recordAt (b .places)) at) (fits-sound s fit .records)
+      ∙ ap (λ (z : ℤ). bookSays b (call.Edit z c)) same
+
+  pub settle-ready : (p : ℤ) (c : Change) (n i : ℕ) (r : Record) → n ≡ bookSays (bookOf s) (call.Edit p c) → i ≡ placeOf p → r ≡ puts c
+      → (bytesFit s ≡ true) × (n ≤ 9) × (n ≡ 0 → Enters (bookOf s) i r)
+  settle-ready p c n i r e at is = (
     fit,
-    subst (λ (k : ℕ). k ≤ 9) (sym e) (call-small (bookOf s .network) (recordAt (bookOf s .places)) (bookOf s .journal .held) c),
-    λ z. subst (λ (k : ℕ). Enters (bookOf s) k r) (sym q) (enters (sym e ∙ z)),
+    subst (λ (k : ℕ). k ≤ 9) (sym e) (call-small (bookOf s .network) (recordAt (bookOf s .places)) (bookOf s .journal .held) (call.Edit p c)),
+    λ z. enters-edit (bookOf s) p c i r at is (sym e ∙ z),
   )
 
 -- ════ what is written back

@@ -4,17 +4,11 @@ use mathlib.Core.Path.{_≡_, sym, ap, _∙_}
 use mathlib.Core.Bool.{Bool, true, false, cond}
 use mathlib.Core.List.{List}
 use lib.IntN.{ℤ}
-use mir.Syntax.{w64}
-use mir.Val.{SFits, toZ, ofZ}
-use mir.Facts.{toZ-ofZ}
 use Rattle.book.specs.declared.Book.{Book}
 use Rattle.book.specs.declared.Edited.{Edited}
-use Rattle.network.specs.declared.Record.{Record}
-use Rattle.book.specs.Calls.{Call, add, replace, strike, undo}
+use Rattle.book.specs.declared.Call.{Call}
 use Rattle.layout.specs.Bytes.{bookOf, bytesFit}
-use Rattle.dombrelat.specs.declared.Request.{Request}
-use Rattle.dombrelat.specs.declared.Request.the-variants.{Add, Replace, Strike, Undo}
-use Rattle.dombrelat.specs.Calls.{refused, settled, through, edit, callOf}
+use Rattle.dombrelat.specs.Calls.{refused, settled, through, edit}
 
 -- ════ a call through the book
 module _ (s : List ℕ) (f : Book → Edited) where
@@ -25,25 +19,6 @@ module _ (s : List ℕ) (f : Book → Edited) where
   pub through-fit : (b : Book) (e : Edited) → bytesFit s ≡ true → b ≡ bookOf s → e ≡ f b → settled s e ≡ through s f
   unfolding through
   through-fit b e p q r = ap (settled s) (r ∙ ap f q) ∙ sym (ap (λ (t : Bool). cond t (settled s (f (bookOf s))) (refused 25 s)) p)
-
--- ════ a request by the table
--- the request that the code has told apart, its place as the code holds it
-module _ (q : Request) (p : ℤ) (fits : SFits w64 p) where
-  pub is-add : (r : Record) → q ≡ Add p r → add (toZ w64 (ofZ w64 p)) r ≡ callOf q
-  unfolding callOf
-  is-add r e = ap (λ (z : ℤ). add z r) (toZ-ofZ {w = w64} fits) ∙ ap callOf (sym e)
-
-  pub is-replace : (r : Record) → q ≡ Replace p r → replace (toZ w64 (ofZ w64 p)) r ≡ callOf q
-  unfolding callOf
-  is-replace r e = ap (λ (z : ℤ). replace z r) (toZ-ofZ {w = w64} fits) ∙ ap callOf (sym e)
-
-  pub is-strike : q ≡ Strike p → strike (toZ w64 (ofZ w64 p)) ≡ callOf q
-  unfolding callOf
-  is-strike e = ap strike (toZ-ofZ {w = w64} fits) ∙ ap callOf (sym e)
-
-pub is-undo : (q : Request) → q ≡ Undo → undo ≡ callOf q
-unfolding callOf
-is-undo q e = ap callOf (sym e)
 
 -- a call named in two ways
 pub answers-as : (s : List ℕ) (x y : Call) → x ≡ y → (r : ℤ) (t : List ℕ) → (r ≡ edit s x .answer) × (t ≡ edit s x .bytes) → (r ≡ edit s y .answer) × (t ≡ edit s y .bytes)

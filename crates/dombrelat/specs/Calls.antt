@@ -10,10 +10,9 @@ use Rattle.network.specs.declared.Record.{Record}
 use Rattle.network.specs.declared.Record.the-variants.{Baseline as baseline, Height as height}
 use Rattle.book.specs.declared.Book.{Book}
 use Rattle.book.specs.declared.Edited.{Edited}
-use Rattle.book.specs.Calls.{Call, add, replace, strike, undo, unless}
+use Rattle.book.specs.declared.Call.{Call}
+use Rattle.book.specs.Calls.{unless}
 use Rattle.book.specs.Book.{opening, outcome}
-use Rattle.dombrelat.specs.declared.Request.{Request}
-use Rattle.dombrelat.specs.declared.Request.the-variants.{Add, Replace, Strike, Undo}
 use Rattle.layout.specs.Bytes.{bookOf, putBook, bytesFit}
 use Rattle.layout.specs.Layout.{bookBytes}
 
@@ -50,10 +49,3 @@ baselineOf from to east north up ee en eu nn nu uu =
 
 abbrev pub heightOf : ℤ → ℤ → ℤ → ℤ → Record
 heightOf from to up weight = height (record { from = from; to = to; up = up; weight = weight })
-
--- a request as the call of the book's table
-unfoldable pub callOf : Request → Call
-callOf (Add p r) = add p r
-callOf (Replace p r) = replace p r
-callOf (Strike p) = strike p
-callOf Undo = undo

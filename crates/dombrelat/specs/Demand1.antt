@@ -10,7 +10,7 @@ use mathlib.Core.Path.{_≡_}
 use mathlib.Core.Bool.{true}
 use mathlib.Core.List.{List, [], _∷_}
 use lib.IntN.{ℤ, pos, negsuc}
-use Rattle.book.specs.Calls.{Call}
+use Rattle.book.specs.declared.Call.{Call}
 use Rattle.network.specs.Stations.{unknownCount}
 use Rattle.sheet.specs.Sheet.{room}
 use Rattle.distances.specs.declared.CheckDistance.{CheckDistance}

@@ -20,7 +20,8 @@ use Rattle.acceptance.specs.declared.Answer.{Answer}
 use Rattle.acceptance.specs.declared.Answer.the-variants.{Accepted, Refused}
 use Rattle.book.specs.declared.Book.{Book}
 use Rattle.book.specs.declared.Edited.{Edited}
-use Rattle.book.specs.Calls.{Call, placeOf, unless}
+use Rattle.book.specs.declared.Call.{Call}
+use Rattle.book.specs.Calls.{placeOf, unless}
 use Rattle.book.specs.CallLaws.{call-small}
 use Rattle.book.specs.Book.{openedBook, opening, outcome}
 use Rattle.sheet.specs.Sheet.{room}

@@ -12,8 +12,8 @@ use lib.ListN.{length, getD, take}
 use lib.IntN.{ℤ, pos}
 use Rattle.words.specs.Runs.{wordsAt}
 use Rattle.network.specs.Stations.{networkOf}
-use Rattle.book.specs.Calls.{Call}
-use Rattle.book.specs.Rows.{names}
+use Rattle.book.specs.declared.Call.{Call}
+use Rattle.book.specs.declared.Row.the-variants.{Names}
 use Rattle.book.specs.Run.{final, answers}
 use Rattle.book.specs.Demand3 as ledger
 use Rattle.layout.specs.Bytes.{bookOf, bytesFit}
@@ -37,7 +37,7 @@ bytesAnswers list s calls = answers bytesNext bytesSays (opens list s .bytes) ca
 pub record Demand (list s : List ℕ) (calls : List Call) : Type 0 where
   -- every answer, the records, N and u that the bytes hold at the end, and the history that they hold all along are the ledger's
   pub ledger :
-      ledger.Demand (networkOf (wordsAt list 0 (length list / 8))) (map names calls) (bytesAnswers list s calls)
+      ledger.Demand (networkOf (wordsAt list 0 (length list / 8))) (map Names calls) (bytesAnswers list s calls)
       (λ k. bookOf (bytesAfter list s (take k calls))) (bookOf (bytesAfter list s calls))
   -- the bytes left are a book that the next call takes
   pub fits : bytesFit (bytesAfter list s calls) ≡ true

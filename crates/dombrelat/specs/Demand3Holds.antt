@@ -18,13 +18,17 @@ use Rattle.network.specs.OpeningLaws.{opened-fits}
 use Rattle.network.specs.declared.Network.{Network}
 use Rattle.book.specs.declared.Book.{Book}
 use Rattle.book.specs.declared.Edited.{Edited}
-use Rattle.book.specs.Calls.{Call, add, replace, strike, undo, unless}
+use Rattle.book.specs.declared.Call.{Call}
+use Rattle.book.specs.declared.Call.the-variants.{Edit, Undo}
+use Rattle.book.specs.declared.Row.{Row}
+use Rattle.book.specs.declared.Row.the-variants.{Names}
+use Rattle.book.specs.Calls.{unless}
 use Rattle.book.specs.CallLaws.{unless-either}
 use Rattle.book.specs.Book.{openedBook, bookAccepts, bookSays, bookNext, outcome}
 use Rattle.book.specs.Sound.{Sound}
 use Rattle.book.specs.SoundLaws.{sound-next}
 use Rattle.book.specs.Opened.{sound-opened}
-use Rattle.book.specs.Rows.{Row, names, rowNext, rowSays}
+use Rattle.book.specs.Rows.{rowNext, rowSays}
 use Rattle.book.specs.Run.{final, answers, Alike, run-answers, run-final}
 use Rattle.book.specs.Demand3Holds.{demanded}
 use Rattle.layout.specs.Bytes.{bookOf, putBook, bytesFit}
@@ -34,28 +38,26 @@ use Rattle.dombrelat.specs.Calls.{Returned, refused, settled, through, o
 use Rattle.dombrelat.specs.Demand3.{bytesNext, bytesSays, bytesAfter, bytesAnswers, Demand3}
 
 -- ════ rows that are calls
-rows-answers : (b : Book) (cs : List Call) → answers bookNext (λ x c. pos (bookSays x c)) b cs ≡ answers (rowNext bookNext) (rowSays bookSays) b (map names cs)
+rows-answers : (b : Book) (cs : List Call) → answers bookNext (λ x c. pos (bookSays x c)) b cs ≡ answers (rowNext bookNext) (rowSays bookSays) b (map Names cs)
 unfolding answers rowNext rowSays
 rows-answers b [] = refl
 rows-answers b (c ∷ cs) = ap (λ (l : List ℤ). pos (bookSays b c) ∷ l) (rows-answers (bookNext b c) cs)
 
-rows-final : (b : Book) (cs : List Call) → final bookNext b cs ≡ final (rowNext bookNext) b (map names cs)
+rows-final : (b : Book) (cs : List Call) → final bookNext b cs ≡ final (rowNext bookNext) b (map Names cs)
 unfolding final rowNext
 rows-final b [] = refl
 rows-final b (c ∷ cs) = rows-final (bookNext b c) cs
 
-rows-take : (k : ℕ) (cs : List Call) → map names (take k cs) ≡ take k (map names cs)
+rows-take : (k : ℕ) (cs : List Call) → map Names (take k cs) ≡ take k (map Names cs)
 rows-take zero cs = refl
 rows-take (suc k) [] = refl
-rows-take (suc k) (c ∷ cs) = ap (λ (l : List Row). names c ∷ l) (rows-take k cs)
+rows-take (suc k) (c ∷ cs) = ap (λ (l : List Row). Names c ∷ l) (rows-take k cs)
 
 -- ════ an edit keeps the station list
 accepts-network : (b : Book) (c : Call) → bookAccepts b c .network ≡ b .network
 unfolding bookAccepts
-accepts-network b (add p r) = refl
-accepts-network b (replace p r) = refl
-accepts-network b (strike p) = refl
-accepts-network b undo = refl
+accepts-network b (Edit p c) = refl
+accepts-network b Undo = refl
 
 next-network : (b : Book) (c : Call) → bookNext b c .network ≡ b .network
 next-network b c = unless-either (λ (x : Book). x .network ≡ b .network) (bookSays b c) b (bookAccepts b c) refl (λ e. accepts-network b c)
@@ -201,7 +203,7 @@ demand-3 list s a calls =
     let b = openedBook (net list s o) in
     record {
       ledger =
-          demanded (net list s o) (opened-fits (wordsAt list 0 (length list / 8)) (o .accepts)) (map names calls) _ _ _
+          demanded (net list s o) (opened-fits (wordsAt list 0 (length list / 8)) (o .accepts)) (map Names calls) _ _ _
           (said list s o calls ∙ rows-answers b calls)
           (λ k. left list s o (take k calls) .reads ∙ rows-final b (take k calls) ∙ ap (final (rowNext bookNext) b) (rows-take k calls))
           (left list s o calls .reads ∙ rows-final b calls);

@@ -32,10 +32,12 @@ use Rattle.network.specs.declared.Network.{Network}
 use Rattle.network.specs.declared.Station.{Station}
 use Rattle.network.specs.declared.Place.{Place}
 use Rattle.network.specs.declared.Record.{Record}
-use Rattle.network.specs.declared.Record.the-variants.{Empty}
 use Rattle.book.specs.declared.Book.{Book}
 use Rattle.book.specs.declared.Edited.{Edited}
-use Rattle.book.specs.Calls.{Call, add, replace, strike, placeOf, placeNo, callNo, unless}
+use Rattle.book.specs.declared.Change.{Change}
+use Rattle.book.specs.declared.Call.{Call}
+use Rattle.book.specs.declared.Call.the-variants as call
+use Rattle.book.specs.Calls.{placeOf, placeNo, callNo, puts, unless}
 use Rattle.book.specs.CallLaws.{first-zero, place-inside}
 use Rattle.book.specs.Book.{openedBook, opening, edited, bookAccepts}
 use Rattle.words.specs.Concat.{length-concatBelow, concatBelow-at}
@@ -220,30 +222,19 @@ opens-again s out t e long room =
     ∙ rw (le-leb bookBytes (length t) room, even) (ap (λ (x : Edited). settled t x) (ap opening read ∙ opened))
 
 -- ════ what an accepted edit put at its place
-module _ (s : List ℕ) (c : Call) (p : ℤ) (r : Record) (a : bytesSays s c ≡ pos 0) (out : List ℕ) (room : 112 ≤ length out) where
-  held : bookAccepts (bookOf s) c ≡ edited (bookOf s) (placeOf p) r → placeNo p ≡ 0 → recordCall (bytesNext s c) p out ≡ record { answer = pos 0; bytes = putWords out 0 (recordWords r) }
-  unfolding recordCall unless
-  held puts named =
-      let h = edited-next s c a in
+module _ (s : List ℕ) (p : ℤ) (c : Change) (out : List ℕ) (room : 112 ≤ length out) where
+  pub record-edited : edit s (call.Edit p c) .answer ≡ pos 0 → recordCall (edit s (call.Edit p c) .bytes) p out ≡ record { answer = pos 0; bytes = putWords out 0 (recordWords (puts c)) }
+  unfolding recordCall unless bookAccepts callNo
+  record-edited a =
+      let e = call.Edit p c in
+      let h = edited-next s e a in
       let i = placeOf p in
-      let inside : i < 256 = place-inside p named in
+      let r = puts c in
+      let inside : i < 256 = place-inside p (first-zero (placeNo p) _ (h .says) .0) in
       let listed : inList 256 p ≡ true = sym (index-test p 256) ∙ lt-ltb i 256 inside in
-      let b : bookOf (bytesNext s c) ≡ edited (bookOf s) i r = h .reads ∙ ap (λ (n : ℕ). unless n (bookOf s) (bookAccepts (bookOf s) c)) (h .says) ∙ puts in
+      let b : bookOf (bytesNext s e) ≡ edited (bookOf s) i r = h .reads ∙ ap (λ (n : ℕ). unless n (bookOf s) (bookAccepts (bookOf s) e)) (h .says) in
       let long : i < length (bookOf s .places) = let q = read-sized s .places in omega arith in
-      let here : recordAt (bookOf (bytesNext s c) .places) i ≡ r =
+      let here : recordAt (bookOf (bytesNext s e) .places) i ≡ r =
       ap (λ (x : Book). recordAt (x .places) i) b ∙ ap (λ (q : Place). q .entry) (getD-set-same (bookOf s .places) i (record { entry = r }) vacant long) in
       rw (h .fits, listed)
       (ap (λ (x : Record). gives 0 (recordWords x) out) here ∙ gives-room 0 (recordWords r) out (omega (arith, length-record r)))
-
-module _ (s : List ℕ) (p : ℤ) (out : List ℕ) (room : 112 ≤ length out) where
-  pub record-added : (r : Record) → edit s (add p r) .answer ≡ pos 0 → recordCall (edit s (add p r) .bytes) p out ≡ record { answer = pos 0; bytes = putWords out 0 (recordWords r) }
-  unfolding bookAccepts callNo
-  record-added r a = held s (add p r) p r a out room refl (first-zero _ _ (edited-next s (add p r) a .says) .0)
-
-  pub record-replaced : (r : Record) → edit s (replace p r) .answer ≡ pos 0 → recordCall (edit s (replace p r) .bytes) p out ≡ record { answer = pos 0; bytes = putWords out 0 (recordWords r) }
-  unfolding bookAccepts callNo
-  record-replaced r a = held s (replace p r) p r a out room refl (first-zero _ _ (edited-next s (replace p r) a .says) .0)
-
-  pub record-struck : edit s (strike p) .answer ≡ pos 0 → recordCall (edit s (strike p) .bytes) p out ≡ record { answer = pos 0; bytes = putWords out 0 (recordWords Empty) }
-  unfolding bookAccepts callNo
-  record-struck a = held s (strike p) p Empty a out room refl (first-zero _ _ (edited-next s (strike p) a .says) .0)

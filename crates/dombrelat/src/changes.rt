@@ -1,22 +1,17 @@
 // Edits and undos on bytes that hold a book, in place: refusals in front of one core edit, as in crate book.
+use book::Call;
+use book::Change;
 use book::Reversal;
 use network::Record;
 ghost use mathlib.Core.Path.{_≡_};
 ghost use mathlib.Core.Bool.{true};
-ghost use Prim.Native.Nat.{_≤_, _<_, _+_, min};
+ghost use Prim.Native.Nat.{_≤_, _<_};
 ghost use lib.IntN.{pos};
 ghost use Rattle.book.specs.Book.{edited, undone};
-ghost use Rattle.book.specs.Calls.{Call, unless};
+ghost use Rattle.book.specs.Calls.{unless};
 ghost use Rattle.book.specs.SoundLaws.{Enters};
 ghost use Rattle.layout.specs.Bytes.{bookOf, putBook, bytesFit};
 ghost use Rattle.dombrelat.specs.Calls.{edit};
-
-// One more, but not above 64.
-fn capped(n: usize) -> usize
-    ensures { λ r. ⌜ r ≡ min (n + 1) 64 ⌝ }
-{
-    if n < 64 { n + 1 } else { 64 }
-}
 
 // r enters place i, and the edit goes on the journal.
 fn enter(s: &mut [u8], i: usize, r: Record)
@@ -25,12 +20,13 @@ fn enter(s: &mut [u8], i: usize, r: Record)
 {
     let old = layout::record_in(s, i);
     let next = layout::next_in(s);
-    let held = capped(layout::held_in(s));
+    let after = book::slot_after(next);
+    let held = book::one_more(layout::held_in(s));
     let u = Reversal {
         place: i,
         prior: old,
     };
-    layout::put(s, i, r, next, u, (next + 1) % 64, held);
+    layout::put(s, i, r, next, u, after, held);
 }
 
 // The edit, unless it is refused.
@@ -45,41 +41,17 @@ fn settle(s: &mut [u8], n: u64, i: usize, r: Record) -> i64
     n as i64
 }
 
-// Fills an empty place.
-pub fn add(s: &mut [u8], place: i64, entry: Record) -> i64
+// Changes a place.
+fn change_place(s: &mut [u8], place: i64, change: Change) -> i64
     requires { ⌜ bytesFit (now s) ≡ true ⌝ }
-    ensures { λ a. ⌜ (a ≡ edit (now (s .entry)) (Call.add place entry) .answer) × (now (s .exit) ≡ edit (now (s .entry)) (Call.add place entry) .bytes) ⌝ }
+    ensures { λ a. ⌜ (a ≡ edit (now (s .entry)) (Call.Edit place change) .answer) × (now (s .exit) ≡ edit (now (s .entry)) (Call.Edit place change) .bytes) ⌝ }
 {
     let net = layout::network_in(s);
     let i = words::index_in(place, 256);
     let held = layout::record_in(s, i);
-    let rules = network::record_no(net, entry);
-    let n = book::add_no(place, rules, held);
-    settle(s, n, i, entry)
-}
-
-// Changes a filled place.
-pub fn replace(s: &mut [u8], place: i64, entry: Record) -> i64
-    requires { ⌜ bytesFit (now s) ≡ true ⌝ }
-    ensures { λ a. ⌜ (a ≡ edit (now (s .entry)) (Call.replace place entry) .answer) × (now (s .exit) ≡ edit (now (s .entry)) (Call.replace place entry) .bytes) ⌝ }
-{
-    let net = layout::network_in(s);
-    let i = words::index_in(place, 256);
-    let held = layout::record_in(s, i);
-    let rules = network::record_no(net, entry);
-    let n = book::replace_no(place, rules, held);
-    settle(s, n, i, entry)
-}
-
-// Empties a filled place.
-pub fn strike(s: &mut [u8], place: i64) -> i64
-    requires { ⌜ bytesFit (now s) ≡ true ⌝ }
-    ensures { λ a. ⌜ (a ≡ edit (now (s .entry)) (Call.strike place) .answer) × (now (s .exit) ≡ edit (now (s .entry)) (Call.strike place) .bytes) ⌝ }
-{
-    let i = words::index_in(place, 256);
-    let held = layout::record_in(s, i);
-    let n = book::strike_no(place, held);
-    settle(s, n, i, Record::Empty)
+    let n = book::edit_no(net, place, change, held);
+    let r = book::puts_of(change);
+    settle(s, n, i, r)
 }
 
 // The latest edit comes off the journal, and its place holds again what it held before.
@@ -88,7 +60,7 @@ fn restore(s: &mut [u8], held: usize)
     ensures { λ _. ⌜ now (s .exit) ≡ putBook (now (s .entry)) (undone (bookOf (now (s .entry)))) ⌝ }
 {
     let next = layout::next_in(s);
-    let slot = (next + 63) % 64;
+    let slot = book::slot_before(next);
     let last = layout::slot_in(s, slot);
     let place = last.place;
     let prior = last.prior;
@@ -101,9 +73,9 @@ fn restore(s: &mut [u8], held: usize)
 }
 
 // Takes the latest edit back.
-pub fn undo(s: &mut [u8]) -> i64
+fn undo(s: &mut [u8]) -> i64
     requires { ⌜ bytesFit (now s) ≡ true ⌝ }
-    ensures { λ a. ⌜ (a ≡ edit (now (s .entry)) Call.undo .answer) × (now (s .exit) ≡ edit (now (s .entry)) Call.undo .bytes) ⌝ }
+    ensures { λ a. ⌜ (a ≡ edit (now (s .entry)) Call.Undo .answer) × (now (s .exit) ≡ edit (now (s .entry)) Call.Undo .bytes) ⌝ }
 {
     let held = layout::held_in(s);
     if held == 0 {
@@ -111,4 +83,15 @@ pub fn undo(s: &mut [u8]) -> i64
     }
     restore(s, held);
     0
+}
+
+// The call, unless it is refused.
+pub fn apply(s: &mut [u8], call: Call) -> i64
+    requires { ⌜ bytesFit (now s) ≡ true ⌝ }
+    ensures { λ a. ⌜ (a ≡ edit (now (s .entry)) call .answer) × (now (s .exit) ≡ edit (now (s .entry)) call .bytes) ⌝ }
+{
+    match call {
+        Call::Edit(place, change) => change_place(s, place, change),
+        Call::Undo => undo(s),
+    }
 }

@@ -1,36 +1,21 @@
 // The C calls that edit a book. docs/REFUSALS.md has each number in words.
-use super::Request;
 use super::changes;
+use book::Call;
+use book::Change;
 use network::Baseline;
 use network::Level;
 use network::Record;
 ghost use mathlib.Core.Path.{_≡_};
-ghost use mathlib.Core.Bool.{true};
-ghost use Rattle.book.specs.Calls.{Call};
-ghost use Rattle.layout.specs.Bytes.{bytesFit};
-ghost use Rattle.dombrelat.specs.Calls.{baselineOf, heightOf, callOf, edit};
-
-// The request on bytes that hold a book.
-fn apply(book: &mut [u8], request: Request) -> i64
-    requires { ⌜ bytesFit (now book) ≡ true ⌝ }
-    ensures { λ r. ⌜ (r ≡ edit (now (book .entry)) (callOf request) .answer) × (now (book .exit) ≡ edit (now (book .entry)) (callOf request) .bytes) ⌝ }
-{
-    match request {
-        Request::Add(place, entry) => changes::add(book, place, entry),
-        Request::Replace(place, entry) => changes::replace(book, place, entry),
-        Request::Strike(place) => changes::strike(book, place),
-        Request::Undo => changes::undo(book),
-    }
-}
+ghost use Rattle.dombrelat.specs.Calls.{baselineOf, heightOf, edit};
 
 // The book that the bytes hold, edited: 25 before all others.
-fn edit_bytes(book: &mut [u8], request: Request) -> i64
-    ensures { λ r. ⌜ (r ≡ edit (now (book .entry)) (callOf request) .answer) × (now (book .exit) ≡ edit (now (book .entry)) (callOf request) .bytes) ⌝ }
+fn edit_bytes(book: &mut [u8], call: Call) -> i64
+    ensures { λ r. ⌜ (r ≡ edit (now (book .entry)) call .answer) × (now (book .exit) ≡ edit (now (book .entry)) call .bytes) ⌝ }
 {
     if !layout::holds_book(book) {
         return 25;
     }
-    apply(book, request)
+    changes::apply(book, call)
 }
 
 fn baseline_of(
@@ -91,11 +76,11 @@ pub extern "C" fn dombrelat_add_baseline(
     nu: i64,
     uu: i64,
 ) -> i64
-    ensures { λ r. ⌜ r ≡ edit (now (book .entry)) (Call.add place (baselineOf from to east north up ee en eu nn nu uu)) .answer ⌝ }
-    ensures { λ _. ⌜ now (book .exit) ≡ edit (now (book .entry)) (Call.add place (baselineOf from to east north up ee en eu nn nu uu)) .bytes ⌝ }
+    ensures { λ r. ⌜ r ≡ edit (now (book .entry)) (Call.Edit place (Change.Add (baselineOf from to east north up ee en eu nn nu uu))) .answer ⌝ }
+    ensures { λ _. ⌜ now (book .exit) ≡ edit (now (book .entry)) (Call.Edit place (Change.Add (baselineOf from to east north up ee en eu nn nu uu))) .bytes ⌝ }
 {
     let r = baseline_of(from, to, east, north, up, ee, en, eu, nn, nu, uu);
-    edit_bytes(book, Request::Add(place, r))
+    edit_bytes(book, Call::Edit(place, Change::Add(r)))
 }
 
 // Fills an empty place with a height difference.
@@ -108,11 +93,11 @@ pub extern "C" fn dombrelat_add_height(
     up: i64,
     weight: i64,
 ) -> i64
-    ensures { λ r. ⌜ r ≡ edit (now (book .entry)) (Call.add place (heightOf from to up weight)) .answer ⌝ }
-    ensures { λ _. ⌜ now (book .exit) ≡ edit (now (book .entry)) (Call.add place (heightOf from to up weight)) .bytes ⌝ }
+    ensures { λ r. ⌜ r ≡ edit (now (book .entry)) (Call.Edit place (Change.Add (heightOf from to up weight))) .answer ⌝ }
+    ensures { λ _. ⌜ now (book .exit) ≡ edit (now (book .entry)) (Call.Edit place (Change.Add (heightOf from to up weight))) .bytes ⌝ }
 {
     let r = height_of(from, to, up, weight);
-    edit_bytes(book, Request::Add(place, r))
+    edit_bytes(book, Call::Edit(place, Change::Add(r)))
 }
 
 // Changes a filled place to a baseline.
@@ -132,11 +117,11 @@ pub extern "C" fn dombrelat_replace_baseline(
     nu: i64,
     uu: i64,
 ) -> i64
-    ensures { λ r. ⌜ r ≡ edit (now (book .entry)) (Call.replace place (baselineOf from to east north up ee en eu nn nu uu)) .answer ⌝ }
-    ensures { λ _. ⌜ now (book .exit) ≡ edit (now (book .entry)) (Call.replace place (baselineOf from to east north up ee en eu nn nu uu)) .bytes ⌝ }
+    ensures { λ r. ⌜ r ≡ edit (now (book .entry)) (Call.Edit place (Change.Replace (baselineOf from to east north up ee en eu nn nu uu))) .answer ⌝ }
+    ensures { λ _. ⌜ now (book .exit) ≡ edit (now (book .entry)) (Call.Edit place (Change.Replace (baselineOf from to east north up ee en eu nn nu uu))) .bytes ⌝ }
 {
     let r = baseline_of(from, to, east, north, up, ee, en, eu, nn, nu, uu);
-    edit_bytes(book, Request::Replace(place, r))
+    edit_bytes(book, Call::Edit(place, Change::Replace(r)))
 }
 
 // Changes a filled place to a height difference.
@@ -149,27 +134,27 @@ pub extern "C" fn dombrelat_replace_height(
     up: i64,
     weight: i64,
 ) -> i64
-    ensures { λ r. ⌜ r ≡ edit (now (book .entry)) (Call.replace place (heightOf from to up weight)) .answer ⌝ }
-    ensures { λ _. ⌜ now (book .exit) ≡ edit (now (book .entry)) (Call.replace place (heightOf from to up weight)) .bytes ⌝ }
+    ensures { λ r. ⌜ r ≡ edit (now (book .entry)) (Call.Edit place (Change.Replace (heightOf from to up weight))) .answer ⌝ }
+    ensures { λ _. ⌜ now (book .exit) ≡ edit (now (book .entry)) (Call.Edit place (Change.Replace (heightOf from to up weight))) .bytes ⌝ }
 {
     let r = height_of(from, to, up, weight);
-    edit_bytes(book, Request::Replace(place, r))
+    edit_bytes(book, Call::Edit(place, Change::Replace(r)))
 }
 
 // Empties a filled place.
 #[no_mangle]
 pub extern "C" fn dombrelat_strike(book: &mut [u8], place: i64) -> i64
-    ensures { λ r. ⌜ r ≡ edit (now (book .entry)) (Call.strike place) .answer ⌝ }
-    ensures { λ _. ⌜ now (book .exit) ≡ edit (now (book .entry)) (Call.strike place) .bytes ⌝ }
+    ensures { λ r. ⌜ r ≡ edit (now (book .entry)) (Call.Edit place Change.Strike) .answer ⌝ }
+    ensures { λ _. ⌜ now (book .exit) ≡ edit (now (book .entry)) (Call.Edit place Change.Strike) .bytes ⌝ }
 {
-    edit_bytes(book, Request::Strike(place))
+    edit_bytes(book, Call::Edit(place, Change::Strike))
 }
 
 // Takes the latest edit back.
 #[no_mangle]
 pub extern "C" fn dombrelat_undo(book: &mut [u8]) -> i64
-    ensures { λ r. ⌜ r ≡ edit (now (book .entry)) Call.undo .answer ⌝ }
-    ensures { λ _. ⌜ now (book .exit) ≡ edit (now (book .entry)) Call.undo .bytes ⌝ }
+    ensures { λ r. ⌜ r ≡ edit (now (book .entry)) Call.Undo .answer ⌝ }
+    ensures { λ _. ⌜ now (book .exit) ≡ edit (now (book .entry)) Call.Undo .bytes ⌝ }
 {
-    edit_bytes(book, Request::Undo)
+    edit_bytes(book, Call::Undo)
 }

@@ -8,13 +8,3 @@ mod edits;
 mod opening;
 mod proposing;
 mod reading;
-
-use network::Record;
-
-// A call with its arguments other than the book.
-pub enum Request {
-    Add(i64, Record),
-    Replace(i64, Record),
-    Strike(i64),
-    Undo,
-}

@@ -10,7 +10,8 @@ use mathlib.Core.List.{List, [], _∷_}
 use lib.IntN.{ℤ, pos, negsuc}
 use Rattle.acceptance.specs.Judge.{numberOf}
 use Rattle.book.specs.declared.Book.{Book}
-use Rattle.book.specs.Calls.{Call, unless}
+use Rattle.book.specs.declared.Call.{Call}
+use Rattle.book.specs.Calls.{unless}
 use Rattle.book.specs.Book.{opening, outcome, sound}
 use Rattle.book.specs.Sound.{Sized}
 use Rattle.checks.specs.Checks.{checked, hasRoom, sheetAfter}

@@ -1,6 +1,5 @@
 -- `Book::edit` meets its contract. Assumes nothing.
-use Prim.Native.Nat.{ℕ}
-use mathlib.Core.Path.{_≡_, sym, ap, _∙_, subst}
+use mathlib.Core.Path.{_≡_, sym, ap, _∙_}
 use mir.Syntax.{w64}
 use mir.Facts.{toZ-ofZ}
 use lib.IntN.{ℤ}
@@ -11,7 +10,7 @@ use Rattle.book.specs.declared.Call.the-variants.{Edit}
 use Rattle.book.specs.Calls.{placeOf}
 use Rattle.book.specs.Book.{bookSays}
 use Rattle.book.specs.Sound.{Sound, sound-parts}
-use Rattle.book.specs.SoundLaws.{Enters, enters-edit}
+use Rattle.book.specs.SoundLaws.{enters-edit}
 use Rattle.book.proofs.Done.{edit-done}
 use borrow.Author.Needs.{needs}
 use Rattle.book.proofs.Book.edit.Statement.{statement}
@@ -49,12 +48,7 @@ puts-of-requires c κs = search needs
 settle-requires : tie.Need-settle-requires
 settle-requires c κs =
     let s = start c in
-    let b = s .args .self in (
-      sound-self s,
-      λ e.
-          subst (λ (j : ℕ). Enters b j (c .puts-of .result)) (sym (at-place c))
-          (subst (Enters b (placeOf (s .args .place))) (sym (c .puts-of .ensures)) (enters-edit b (s .args .place) (s .args .change) (sym (number c) ∙ e))),
-    )
+    (sound-self s, λ e. enters-edit (s .args .self) (s .args .place) (s .args .change) _ _ (at-place c) (c .puts-of .ensures) (sym (number c) ∙ e))
 
 returns : tie.Need-returns
 returns c =

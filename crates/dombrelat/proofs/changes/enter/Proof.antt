@@ -1,8 +1,8 @@
 -- `enter` puts a record in, and the edit on the journal. Assumes nothing.
 use Prim.Native.Nat.{ℕ, _<_, _≤_}
 use mathlib.Core.Path.{sym, _∙_, subst}
-use native.Mathlib.Omega.{arith}
 use lib.ListN.{length}
+use Rattle.book.specs.Journal.{journalSize}
 use Rattle.layout.specs.Bytes.{bookOf}
 use Rattle.layout.specs.CodecLaws.{fits-room, fits-sound}
 use Rattle.layout.specs.Layout.{bookBytes}
@@ -14,10 +14,10 @@ use Rattle.dombrelat.proofs.changes.enter.Tie as tie
 room : (s : tie.Start) → bookBytes ≤ length (s .args .s .now)
 room s = fits-room (s .args .s .now) (s .pre .0)
 
-small : (n : tie.After-next-in) → n .next-in .result < 64
+small : (n : tie.After-next-in) → n .next-in .result < journalSize
 small n =
     let s = n .before .before .before .before .before in
-    subst (λ (k : ℕ). k < 64) (sym (n .next-in .ensures)) (fits-sound (s .args .s .now) (s .pre .0) .journal .next)
+    subst (λ (k : ℕ). k < journalSize) (sym (n .next-in .ensures)) (fits-sound (s .args .s .now) (s .pre .0) .journal .next)
 
 record-in-requires : tie.Need-record-in-requires
 record-in-requires c κs = room (c .before .before)
@@ -25,18 +25,18 @@ record-in-requires c κs = room (c .before .before)
 next-in-requires : tie.Need-next-in-requires
 next-in-requires c κs = room (c .before .before .before .before)
 
+slot-after-requires : tie.Need-slot-after-requires
+slot-after-requires c κs = small c
+
 held-in-requires : tie.Need-held-in-requires
-held-in-requires c κs = room (c .before .before .before .before .before .before)
+held-in-requires c κs = room (c .before .before .before .before .before .before .before)
 
-capped-requires : tie.Need-capped-requires
-capped-requires c κs = search needs
-
-add-put : tie.Need-add-put
-add-put c = let h = small (c .before .before .before .before) in omega arith
+one-more-requires : tie.Need-one-more-requires
+one-more-requires c κs = search needs
 
 put-requires : tie.Need-put-requires
 put-requires c κs =
-    let n = c .before .before .before .before in
+    let n = c .before .before .before .before .before in
     let s = n .before .before .before .before .before in
     (s .pre .0, s .pre .1 .inside, s .pre .1 .fits, small n)
 
@@ -47,11 +47,12 @@ returns : tie.Need-returns
 returns c =
     let p = c .before .before in
     let k = p .before .before in
-    let n = k .before .before .before in
+    let a = k .before .before .before in
+    let n = a .before in
     let o = n .before .before in
     let s = o .before .before .before in
     p .put .ensures
-    ∙ entered (s .args .s .now) (bookOf (s .args .s .now)) (s .args .i) _ _ _ (s .args .r) _ (o .record-in .ensures) (n .next-in .ensures) (k .before .held-in .ensures) (k .capped .ensures)
+    ∙ entered (s .args .s .now) (bookOf (s .args .s .now)) (s .args .i) _ _ _ _ (s .args .r) _ (o .record-in .ensures) (n .next-in .ensures) (k .before .held-in .ensures) (a .slot-after .ensures) (k .one-more .ensures)
 
 pub enter-spec : {M : Type 1} → statement M
 enter-spec =
@@ -59,9 +60,9 @@ enter-spec =
     (tie.spec
     record-in-requires
     next-in-requires
+    slot-after-requires
     held-in-requires
-    capped-requires
-    add-put
+    one-more-requires
     put-requires
     same-length
     returns)

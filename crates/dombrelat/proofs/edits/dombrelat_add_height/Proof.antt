@@ -1,10 +1,9 @@
 use mathlib.Core.Path.{_≡_, _∙_}
 use mir.Syntax.{w64}
-use mir.Val.{toZ, ofZ}
 use mir.Facts.{toZ-ofZ}
-use Rattle.book.specs.Calls.{add}
-use Rattle.dombrelat.specs.declared.Request.the-variants.{Add}
-use Rattle.dombrelat.specs.Calls.{heightOf, callOf}
+use Rattle.book.specs.declared.Change.the-variants.{Add}
+use Rattle.book.specs.declared.Call.the-variants.{Edit}
+use Rattle.dombrelat.specs.Calls.{heightOf}
 use Rattle.dombrelat.proofs.Lent.{answers-as}
 use borrow.Author.Needs.{needs, sfits-of}
 use Rattle.dombrelat.proofs.edits.dombrelat_add_height.Statement.{statement}
@@ -20,13 +19,12 @@ same-length : tie.Need-same-length
 same-length c = search needs
 
 returns : tie.Need-returns
-unfolding callOf
 returns c =
     let s = c .before .before .before .before .before .before in
     let p = c .before .before .edit-bytes in
     let r = c .before .before .before .before .height-of in
-    let same : callOf (Add (toZ w64 (ofZ w64 (s .args .place))) (r .result)) ≡ add (s .args .place) (heightOf (s .args .from) (s .args .to) (s .args .up) (s .args .weight)) = (λ i. add (toZ-ofZ {w = w64} (s .fits .place) i) ((r .ensures ∙ (λ i. heightOf (toZ-ofZ {w = w64} (s .fits .from) i) (toZ-ofZ {w = w64} (s .fits .to) i) (toZ-ofZ {w = w64} (s .fits .up) i) (toZ-ofZ {w = w64} (s .fits .weight) i))) i)) in
-    let w = answers-as (s .args .book .now) (callOf (Add (toZ w64 (ofZ w64 (s .args .place))) (r .result))) (add (s .args .place) (heightOf (s .args .from) (s .args .to) (s .args .up) (s .args .weight))) same _ _ (p .ensures) in
+    let made : r .result ≡ heightOf (s .args .from) (s .args .to) (s .args .up) (s .args .weight) = r .ensures ∙ (λ i. heightOf (toZ-ofZ {w = w64} (s .fits .from) i) (toZ-ofZ {w = w64} (s .fits .to) i) (toZ-ofZ {w = w64} (s .fits .up) i) (toZ-ofZ {w = w64} (s .fits .weight) i)) in
+    let w = answers-as (s .args .book .now) _ _ (λ i. Edit (toZ-ofZ {w = w64} (s .fits .place) i) (Add (made i))) _ _ (p .ensures) in
     (toZ-ofZ {w = w64} {z = p .result} (sfits-of (p .ok)) ∙ w .0, w .1)
 
 pub dombrelat-add-height-spec : {M : Type 1} → statement M

@@ -1,10 +1,9 @@
 use mathlib.Core.Path.{_≡_, _∙_}
 use mir.Syntax.{w64}
-use mir.Val.{toZ, ofZ}
 use mir.Facts.{toZ-ofZ}
-use Rattle.book.specs.Calls.{replace}
-use Rattle.dombrelat.specs.declared.Request.the-variants.{Replace}
-use Rattle.dombrelat.specs.Calls.{baselineOf, callOf}
+use Rattle.book.specs.declared.Change.the-variants.{Replace}
+use Rattle.book.specs.declared.Call.the-variants.{Edit}
+use Rattle.dombrelat.specs.Calls.{baselineOf}
 use Rattle.dombrelat.proofs.Lent.{answers-as}
 use borrow.Author.Needs.{needs, sfits-of}
 use Rattle.dombrelat.proofs.edits.dombrelat_replace_baseline.Statement.{statement}
@@ -20,13 +19,12 @@ same-length : tie.Need-same-length
 same-length c = search needs
 
 returns : tie.Need-returns
-unfolding callOf
 returns c =
     let s = c .before .before .before .before .before .before in
     let p = c .before .before .edit-bytes in
     let r = c .before .before .before .before .baseline-of in
-    let same : callOf (Replace (toZ w64 (ofZ w64 (s .args .place))) (r .result)) ≡ replace (s .args .place) (baselineOf (s .args .from) (s .args .to) (s .args .east) (s .args .north) (s .args .up) (s .args .ee) (s .args .en) (s .args .eu) (s .args .nn) (s .args .nu) (s .args .uu)) = (λ i. replace (toZ-ofZ {w = w64} (s .fits .place) i) ((r .ensures ∙ (λ i. baselineOf (toZ-ofZ {w = w64} (s .fits .from) i) (toZ-ofZ {w = w64} (s .fits .to) i) (toZ-ofZ {w = w64} (s .fits .east) i) (toZ-ofZ {w = w64} (s .fits .north) i) (toZ-ofZ {w = w64} (s .fits .up) i) (toZ-ofZ {w = w64} (s .fits .ee) i) (toZ-ofZ {w = w64} (s .fits .en) i) (toZ-ofZ {w = w64} (s .fits .eu) i) (toZ-ofZ {w = w64} (s .fits .nn) i) (toZ-ofZ {w = w64} (s .fits .nu) i) (toZ-ofZ {w = w64} (s .fits .uu) i))) i)) in
-    let w = answers-as (s .args .book .now) (callOf (Replace (toZ w64 (ofZ w64 (s .args .place))) (r .result))) (replace (s .args .place) (baselineOf (s .args .from) (s .args .to) (s .args .east) (s .args .north) (s .args .up) (s .args .ee) (s .args .en) (s .args .eu) (s .args .nn) (s .args .nu) (s .args .uu))) same _ _ (p .ensures) in
+    let made : r .result ≡ baselineOf (s .args .from) (s .args .to) (s .args .east) (s .args .north) (s .args .up) (s .args .ee) (s .args .en) (s .args .eu) (s .args .nn) (s .args .nu) (s .args .uu) = r .ensures ∙ (λ i. baselineOf (toZ-ofZ {w = w64} (s .fits .from) i) (toZ-ofZ {w = w64} (s .fits .to) i) (toZ-ofZ {w = w64} (s .fits .east) i) (toZ-ofZ {w = w64} (s .fits .north) i) (toZ-ofZ {w = w64} (s .fits .up) i) (toZ-ofZ {w = w64} (s .fits .ee) i) (toZ-ofZ {w = w64} (s .fits .en) i) (toZ-ofZ {w = w64} (s .fits .eu) i) (toZ-ofZ {w = w64} (s .fits .nn) i) (toZ-ofZ {w = w64} (s .fits .nu) i) (toZ-ofZ {w = w64} (s .fits .uu) i)) in
+    let w = answers-as (s .args .book .now) _ _ (λ i. Edit (toZ-ofZ {w = w64} (s .fits .place) i) (Replace (made i))) _ _ (p .ensures) in
     (toZ-ofZ {w = w64} {z = p .result} (sfits-of (p .ok)) ∙ w .0, w .1)
 
 pub dombrelat-replace-baseline-spec : {M : Type 1} → statement M

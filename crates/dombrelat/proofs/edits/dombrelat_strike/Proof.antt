@@ -1,10 +1,8 @@
-use mathlib.Core.Path.{_≡_, ap, _∙_}
+use mathlib.Core.Path.{_∙_}
 use mir.Syntax.{w64}
-use mir.Val.{toZ, ofZ}
 use mir.Facts.{toZ-ofZ}
-use Rattle.book.specs.Calls.{strike}
-use Rattle.dombrelat.specs.declared.Request.the-variants.{Strike}
-use Rattle.dombrelat.specs.Calls.{callOf}
+use Rattle.book.specs.declared.Change.the-variants.{Strike}
+use Rattle.book.specs.declared.Call.the-variants.{Edit}
 use Rattle.dombrelat.proofs.Lent.{answers-as}
 use borrow.Author.Needs.{needs, sfits-of}
 use Rattle.dombrelat.proofs.edits.dombrelat_strike.Statement.{statement}
@@ -17,12 +15,10 @@ same-length : tie.Need-same-length
 same-length c = search needs
 
 returns : tie.Need-returns
-unfolding callOf
 returns c =
     let s = c .before .before .before .before .before in
     let p = c .before .before .edit-bytes in
-    let same : callOf (Strike (toZ w64 (ofZ w64 (s .args .place)))) ≡ strike (s .args .place) = ap strike (toZ-ofZ {w = w64} (s .fits .place)) in
-    let w = answers-as (s .args .book .now) (callOf (Strike (toZ w64 (ofZ w64 (s .args .place))))) (strike (s .args .place)) same _ _ (p .ensures) in
+    let w = answers-as (s .args .book .now) _ _ (λ i. Edit (toZ-ofZ {w = w64} (s .fits .place) i) Strike) _ _ (p .ensures) in
     (toZ-ofZ {w = w64} {z = p .result} (sfits-of (p .ok)) ∙ w .0, w .1)
 
 pub dombrelat-strike-spec : {M : Type 1} → statement M
