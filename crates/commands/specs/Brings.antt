@@ -15,16 +15,13 @@ use Rattle.text.specs.Lines.{Kept}
 use Rattle.commands.specs.declared.Entry.{Entry}
 use Rattle.commands.specs.declared.Entry.the-variants as entry
 use Rattle.commands.specs.declared.Command.{Command}
-use Rattle.commands.specs.declared.Command.the-variants.{Station, Add, Replace, Strike, Undo, Corrections, Matrix, Unreadable}
+use Rattle.commands.specs.declared.Command.the-variants.{Station, Call, Corrections, Matrix, Unreadable}
 use Rattle.commands.specs.Commands.{exactly, entryOf, added, replaced, replaceOf, strikeOf, undoOf, counted, correctionsIn, matrixIn, kindOf, inTurn, stationOf, otherOf, fieldsCommand, letterIn, keptCommand, correctionsAfter, matrixAfter, Obeys}
 
 -- 1 corrections, 2 a matrix, 0 neither
 unfoldable pub brings : Command → ℕ
 brings (Station s) = 0
-brings (Add p r) = 0
-brings (Replace p r) = 0
-brings (Strike p) = 0
-brings Undo = 0
+brings (Call c) = 0
 brings (Corrections n) = 1
 brings (Matrix n) = 2
 brings Unreadable = 0
@@ -32,10 +29,7 @@ brings Unreadable = 0
 -- how many numbers
 unfoldable pub howMany : Command → ℕ
 howMany (Station s) = 0
-howMany (Add p r) = 0
-howMany (Replace p r) = 0
-howMany (Strike p) = 0
-howMany Undo = 0
+howMany (Call c) = 0
 howMany (Corrections n) = n
 howMany (Matrix n) = n
 howMany Unreadable = 0

@@ -18,6 +18,8 @@ use Rattle.words.specs.Bools.{clash}
 use Rattle.words.specs.Signed.{eqZ}
 use Rattle.network.specs.declared.Kind.{Kind}
 use Rattle.network.specs.declared.Record.{Record}
+use Rattle.book.specs.declared.Change.the-variants.{Add, Replace}
+use Rattle.book.specs.declared.Call.the-variants.{Edit, Undo}
 use Rattle.text.specs.Numbers.{numberOf}
 use Rattle.text.specs.Fields.{firstField, restFields, letterOf, Numbers, numbers, unreadable, numbersOf, atMost, countOf, storedIn, Stored}
 use Rattle.text.specs.FieldLaws.{first-and-rest, no-rest, some-rest, fields-more, letter-cut}
@@ -29,7 +31,7 @@ use Rattle.text.specs.declared.Count.the-variants as count
 use Rattle.commands.specs.declared.Entry.{Entry}
 use Rattle.commands.specs.declared.Entry.the-variants as entry
 use Rattle.commands.specs.declared.Command.{Command}
-use Rattle.commands.specs.declared.Command.the-variants.{Add, Replace, Undo, Corrections, Matrix, Unreadable}
+use Rattle.commands.specs.declared.Command.the-variants.{Call, Corrections, Matrix, Unreadable}
 use Rattle.commands.specs.Commands.{exactly, levelEntry, baselineEntry, entryOf, added, replaced, replaceOf, undoOf, counted, correctionsIn, matrixIn, stationWith, kindOf, inTurn, stationOf, otherOf, fieldsCommand, letterIn, commandOf, isStationLine, keptCommand, correctionsAfter, matrixAfter, Obeys}
 
 -- all of a list is stored over
@@ -113,7 +115,7 @@ baseline-bits v a b c d e f g h i j k l =
 
 -- ════ a record for a place
 module _ (e : Entry) where
-  pub added-of : (place p : ℤ) (r : Record) → e ≡ entry.Of place r → p ≡ place → Add p r ≡ added e
+  pub added-of : (place p : ℤ) (r : Record) → e ≡ entry.Of place r → p ≡ place → Call (Edit p (Add r)) ≡ added e
   unfolding added
   added-of place p r q s = rw (q, s)
 
@@ -121,7 +123,7 @@ module _ (e : Entry) where
   unfolding added
   added-none q = rw q
 
-  pub replaced-of : (place p : ℤ) (r : Record) → e ≡ entry.Of place r → p ≡ place → Replace p r ≡ replaced e
+  pub replaced-of : (place p : ℤ) (r : Record) → e ≡ entry.Of place r → p ≡ place → Call (Edit p (Replace r)) ≡ replaced e
   unfolding replaced
   replaced-of place p r q s = rw (q, s)
 
@@ -143,7 +145,7 @@ module _ (s : List ℕ) (e : ℕ) (is : e ≡ 0 + length (firstField s)) where
   unfolding replaceOf
   replace-some h = rw (next-field h)
 
-  pub undo-none : length s ≤ e → Undo ≡ undoOf (restFields s)
+  pub undo-none : length s ≤ e → Call Undo ≡ undoOf (restFields s)
   unfolding undoOf
   undo-none h = rw (no-rest s 0 e is h)
 

@@ -11,6 +11,8 @@ use Rattle.words.specs.Signed.{eqZ}
 use Rattle.network.specs.declared.Kind.{Kind}
 use Rattle.network.specs.declared.Kind.the-variants as kind
 use Rattle.network.specs.declared.Record.the-variants as record-of
+use Rattle.book.specs.declared.Change.the-variants.{Add, Replace, Strike}
+use Rattle.book.specs.declared.Call.the-variants.{Edit, Undo}
 use Rattle.text.specs.Numbers.{numberOf}
 use Rattle.text.specs.Fields.{firstField, restFields, letterOf, Numbers, numbers, unreadable, numbersOf, atMost, storedIn}
 use Rattle.text.specs.Lines.{Kept}
@@ -19,7 +21,7 @@ use Rattle.text.specs.declared.Number.the-variants as number
 use Rattle.commands.specs.declared.Entry.{Entry}
 use Rattle.commands.specs.declared.Entry.the-variants as entry
 use Rattle.commands.specs.declared.Command.{Command}
-use Rattle.commands.specs.declared.Command.the-variants.{Station, Add, Replace, Strike, Undo, Corrections, Matrix, Unreadable}
+use Rattle.commands.specs.declared.Command.the-variants.{Station, Call, Corrections, Matrix, Unreadable}
 
 -- "A wrong number of fields … makes a line unreadable": f of just k numbers, counted from 0; else `other`
 unfoldable pub exactly : {A : Type 0} → ℕ → A → ((ℕ → ℤ) → A) → Numbers → A
@@ -46,12 +48,12 @@ entryOf letter fields =
 
 -- "H or B adds"
 unfoldable pub added : Entry → Command
-added (entry.Of place r) = Add place r
+added (entry.Of place r) = Call (Edit place (Add r))
 added entry.Unreadable = Unreadable
 
 -- "R before H or B replaces"
 unfoldable pub replaced : Entry → Command
-replaced (entry.Of place r) = Replace place r
+replaced (entry.Of place r) = Call (Edit place (Replace r))
 replaced entry.Unreadable = Unreadable
 
 unfoldable pub replaceOf : List (List ℕ) → Command
@@ -61,11 +63,11 @@ replaceOf (f ∷ fs) = replaced (entryOf (letterOf f) fs)
 -- ════ D, U, X and M
 -- "D and a place strikes"
 abbrev pub strikeOf : (ℕ → ℤ) → Command
-strikeOf v = Strike (v 0)
+strikeOf v = Call (Edit (v 0) Strike)
 
 -- "U undoes"
 unfoldable pub undoOf : List (List ℕ) → Command
-undoOf [] = Undo
+undoOf [] = Call Undo
 undoOf (f ∷ fs) = Unreadable
 
 -- "X gives the corrections, M the matrix by rows": how many there are, where they are readable

@@ -6,11 +6,13 @@ use Prim.Native.Nat.{ℕ}
 use lib.IntN.{pos}
 use Rattle.network.specs.declared.Kind.the-variants as kind
 use Rattle.network.specs.declared.Record.the-variants as record-of
+use Rattle.book.specs.declared.Change.the-variants.{Add, Replace, Strike}
+use Rattle.book.specs.declared.Call.the-variants.{Edit, Undo}
 use Rattle.text.specs.Before.{before}
 use Rattle.text.specs.Numbers.{allDigits, isDecimal, valueAfter, signedOf, numberOf}
 use Rattle.text.specs.Fields.{fieldsOf, restFields, letterOf, numbersOf, atMost}
 use Rattle.commands.specs.Commands.{exactly, entryOf, added, replaced, replaceOf, undoOf, counted, kindOf, inTurn, stationOf, otherOf, fieldsCommand, commandOf}
-use Rattle.commands.specs.declared.Command.the-variants.{Station, Add, Replace, Strike, Undo, Corrections, Unreadable}
+use Rattle.commands.specs.declared.Command.the-variants.{Station, Call, Corrections, Unreadable}
 
 -- `S 2 V 0 0 7`, after one S line
 station : commandOf 1 true (83 ∷ 32 ∷ 50 ∷ 32 ∷ 86 ∷ 32 ∷ 48 ∷ 32 ∷ 48 ∷ 32 ∷ 55 ∷ []) ≡ Station (record { kind = kind.Height; east = pos 0; north = pos 0; up = pos 7 })
@@ -30,20 +32,20 @@ late = refl
 level-line : List ℕ
 level-line = 72 ∷ 32 ∷ 49 ∷ 32 ∷ 49 ∷ 32 ∷ 50 ∷ 32 ∷ 57 ∷ 32 ∷ 51 ∷ []
 
-adds : commandOf 2 false level-line ≡ Add (pos 1) (record-of.Height (record { from = pos 1; to = pos 2; up = pos 9; weight = pos 3 }))
+adds : commandOf 2 false level-line ≡ Call (Edit (pos 1) (Add (record-of.Height (record { from = pos 1; to = pos 2; up = pos 9; weight = pos 3 }))))
 unfolding level-line commandOf fieldsCommand otherOf added entryOf exactly letterOf restFields fieldsOf before numbersOf numberOf signedOf isDecimal allDigits valueAfter
 adds = refl
 
-replaces : commandOf 2 false (82 ∷ 32 ∷ level-line) ≡ Replace (pos 1) (record-of.Height (record { from = pos 1; to = pos 2; up = pos 9; weight = pos 3 }))
+replaces : commandOf 2 false (82 ∷ 32 ∷ level-line) ≡ Call (Edit (pos 1) (Replace (record-of.Height (record { from = pos 1; to = pos 2; up = pos 9; weight = pos 3 }))))
 unfolding level-line commandOf fieldsCommand otherOf replaceOf replaced entryOf exactly letterOf restFields fieldsOf before numbersOf numberOf signedOf isDecimal allDigits valueAfter
 replaces = refl
 
 -- `D 7`, `U`, `R D 7`, `R U`, `U `
-strikes : commandOf 2 false (68 ∷ 32 ∷ 55 ∷ []) ≡ Strike (pos 7)
+strikes : commandOf 2 false (68 ∷ 32 ∷ 55 ∷ []) ≡ Call (Edit (pos 7) Strike)
 unfolding commandOf fieldsCommand otherOf exactly letterOf restFields fieldsOf before numbersOf numberOf signedOf isDecimal allDigits valueAfter
 strikes = refl
 
-undoes : commandOf 2 false (85 ∷ []) ≡ Undo
+undoes : commandOf 2 false (85 ∷ []) ≡ Call Undo
 unfolding commandOf fieldsCommand otherOf undoOf letterOf restFields fieldsOf before
 undoes = refl
 

@@ -3,6 +3,7 @@ mod messages;
 mod printing;
 mod reading;
 
+use book::Call;
 pub use messages::write_no_proposal;
 pub use messages::write_refused;
 pub use messages::write_refused_line;
@@ -23,14 +24,8 @@ pub use reading::read_command;
 pub enum Command {
     // S: the next station of the list
     Station(Station),
-    // H or B: a record for an empty place
-    Add(i64, Record),
-    // R before H or B: a record for a filled place
-    Replace(i64, Record),
-    // D: empty a place
-    Strike(i64),
-    // U
-    Undo,
+    // H or B, R before H or B, D: an edit; U: an undo
+    Call(Call),
     // X: so many corrections
     Corrections(usize),
     // M: so many entries of the matrix, by rows

@@ -1,6 +1,8 @@
 // A line to a command.
 use super::Command;
 use super::Entry;
+use book::Call;
+use book::Change;
 use network::Baseline;
 use network::Kind;
 use network::Level;
@@ -90,7 +92,7 @@ fn add(e: Entry) -> Command
     ensures { λ r. ⌜ r ≡ added e ⌝ }
 {
     match e {
-        Entry::Of(place, of) => Command::Add(place, of),
+        Entry::Of(place, of) => Command::Call(Call::Edit(place, Change::Add(of))),
         Entry::Unreadable => Command::Unreadable,
     }
 }
@@ -99,7 +101,7 @@ fn replace(e: Entry) -> Command
     ensures { λ r. ⌜ r ≡ replaced e ⌝ }
 {
     match e {
-        Entry::Of(place, of) => Command::Replace(place, of),
+        Entry::Of(place, of) => Command::Call(Call::Edit(place, Change::Replace(of))),
         Entry::Unreadable => Command::Unreadable,
     }
 }
@@ -124,7 +126,7 @@ fn strike_line(line: &[u8]) -> Command
             if n != 1 {
                 return Command::Unreadable;
             }
-            Command::Strike(a[0])
+            Command::Call(Call::Edit(a[0], Change::Strike))
         }
     }
 }
@@ -134,7 +136,7 @@ fn undo_line(line: &[u8]) -> Command
 {
     let end = text::field_end(line, 0);
     if line.len() <= end {
-        return Command::Undo;
+        return Command::Call(Call::Undo);
     }
     Command::Unreadable
 }

@@ -1,7 +1,9 @@
 -- `commands::reading::strike_line` meets its contract. Assumes nothing.
 use Rattle.commands.specs.CommandLaws.{exactly-none, exactly-other, exactly-all}
 use Rattle.commands.specs.Commands.{strikeOf}
-use Rattle.commands.specs.declared.Command.the-variants.{Strike}
+use Rattle.commands.specs.declared.Command.the-variants.{Call}
+use Rattle.book.specs.declared.Change.the-variants.{Strike}
+use Rattle.book.specs.declared.Call.the-variants.{Edit}
 use mir.Facts.{toZ-ofZ}
 use mir.Syntax.{w64}
 use lib.IntN.{ℤ}
@@ -39,7 +41,7 @@ returns-3 c =
     let t = c .before in
     let n = t .before .before in
     let r = n .before .before .before in
-    ap (λ (v : ℤ). Strike v) (toZ-ofZ {w = w64} (search needs))
+    ap (λ (v : ℤ). Call (Edit v Strike)) (toZ-ofZ {w = w64} (search needs))
     ∙ exactly-all _ _ strikeOf _ _ _ _ (r .read-rest .ensures) _ (n .n .given .1) (t .if1 .left) refl
 
 pub strike-line-spec : {M : Type 1} → statement M
