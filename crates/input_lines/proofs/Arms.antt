@@ -10,76 +10,58 @@ use types.Run.{OneOf, miss}
 use Rattle.book.specs.declared.Book.{Book}
 use Rattle.commands.proofs.Command.{the-type}
 use Rattle.commands.specs.declared.Command.{Command}
-use Rattle.commands.specs.declared.Command.the-variants.{Station, Add, Replace, Strike, Undo, Corrections, Matrix, Unreadable}
+use Rattle.commands.specs.declared.Command.the-variants.{Station, Call, Corrections, Matrix, Unreadable}
 use Rattle.commands.specs.Brings.{brings}
 use Rattle.input_lines.specs.Runs.{wordsAfter, readAfter, unedited, edits, refusedSays, commandSays}
 
 -- no station
-pub words-other : (l : List ℤ) (c : Command) → OneOf (1 ∷ 2 ∷ 3 ∷ 4 ∷ 5 ∷ 6 ∷ 7 ∷ []) (tagOf the-type c) → l ≡ wordsAfter l c
+pub words-other : (l : List ℤ) (c : Command) → OneOf (1 ∷ 2 ∷ 3 ∷ 4 ∷ []) (tagOf the-type c) → l ≡ wordsAfter l c
 unfolding wordsAfter
-words-other l (Station s) h = absurd (miss (1 ∷ 2 ∷ 3 ∷ 4 ∷ 5 ∷ 6 ∷ 7 ∷ []) 0 tt h)
-words-other l (Add p r) h = refl
-words-other l (Replace p r) h = refl
-words-other l (Strike p) h = refl
-words-other l Undo h = refl
+words-other l (Station s) h = absurd (miss (1 ∷ 2 ∷ 3 ∷ 4 ∷ []) 0 tt h)
+words-other l (Call c) h = refl
 words-other l (Corrections n) h = refl
 words-other l (Matrix n) h = refl
 words-other l Unreadable h = refl
 
-pub read-other : (n : ℕ) (c : Command) → OneOf (1 ∷ 2 ∷ 3 ∷ 4 ∷ 5 ∷ 6 ∷ 7 ∷ []) (tagOf the-type c) → n ≡ readAfter n c
+pub read-other : (n : ℕ) (c : Command) → OneOf (1 ∷ 2 ∷ 3 ∷ 4 ∷ []) (tagOf the-type c) → n ≡ readAfter n c
 unfolding readAfter
-read-other n (Station s) h = absurd (miss (1 ∷ 2 ∷ 3 ∷ 4 ∷ 5 ∷ 6 ∷ 7 ∷ []) 0 tt h)
-read-other n (Add p r) h = refl
-read-other n (Replace p r) h = refl
-read-other n (Strike p) h = refl
-read-other n Undo h = refl
+read-other n (Station s) h = absurd (miss (1 ∷ 2 ∷ 3 ∷ 4 ∷ []) 0 tt h)
+read-other n (Call c) h = refl
 read-other n (Corrections k) h = refl
 read-other n (Matrix k) h = refl
 read-other n Unreadable h = refl
 
 -- no corrections, no matrix
-pub brings-no-corrections : (c : Command) → OneOf (0 ∷ 1 ∷ 2 ∷ 3 ∷ 4 ∷ 6 ∷ 7 ∷ []) (tagOf the-type c) → eqb (brings c) 1 ≡ false
+pub brings-no-corrections : (c : Command) → OneOf (0 ∷ 1 ∷ 3 ∷ 4 ∷ []) (tagOf the-type c) → eqb (brings c) 1 ≡ false
 unfolding brings
 brings-no-corrections (Station s) h = refl
-brings-no-corrections (Add p r) h = refl
-brings-no-corrections (Replace p r) h = refl
-brings-no-corrections (Strike p) h = refl
-brings-no-corrections Undo h = refl
-brings-no-corrections (Corrections n) h = absurd (miss (0 ∷ 1 ∷ 2 ∷ 3 ∷ 4 ∷ 6 ∷ 7 ∷ []) 5 tt h)
+brings-no-corrections (Call c) h = refl
+brings-no-corrections (Corrections n) h = absurd (miss (0 ∷ 1 ∷ 3 ∷ 4 ∷ []) 2 tt h)
 brings-no-corrections (Matrix n) h = refl
 brings-no-corrections Unreadable h = refl
 
-pub brings-no-matrix : (c : Command) → OneOf (0 ∷ 1 ∷ 2 ∷ 3 ∷ 4 ∷ 5 ∷ 7 ∷ []) (tagOf the-type c) → eqb (brings c) 2 ≡ false
+pub brings-no-matrix : (c : Command) → OneOf (0 ∷ 1 ∷ 2 ∷ 4 ∷ []) (tagOf the-type c) → eqb (brings c) 2 ≡ false
 unfolding brings
 brings-no-matrix (Station s) h = refl
-brings-no-matrix (Add p r) h = refl
-brings-no-matrix (Replace p r) h = refl
-brings-no-matrix (Strike p) h = refl
-brings-no-matrix Undo h = refl
+brings-no-matrix (Call c) h = refl
 brings-no-matrix (Corrections n) h = refl
-brings-no-matrix (Matrix n) h = absurd (miss (0 ∷ 1 ∷ 2 ∷ 3 ∷ 4 ∷ 5 ∷ 7 ∷ []) 6 tt h)
+brings-no-matrix (Matrix n) h = absurd (miss (0 ∷ 1 ∷ 2 ∷ 4 ∷ []) 3 tt h)
 brings-no-matrix Unreadable h = refl
 
 -- no edit
-pub edits-other : (b : Book) (c : Command) → OneOf (0 ∷ 5 ∷ 6 ∷ 7 ∷ []) (tagOf the-type c) → unedited b ≡ edits b c
+pub edits-other : (b : Book) (c : Command) → OneOf (0 ∷ 2 ∷ 3 ∷ 4 ∷ []) (tagOf the-type c) → unedited b ≡ edits b c
 unfolding edits
 edits-other b (Station s) h = refl
-edits-other b (Add p r) h = absurd (miss (0 ∷ 5 ∷ 6 ∷ 7 ∷ []) 1 tt h)
-edits-other b (Replace p r) h = absurd (miss (0 ∷ 5 ∷ 6 ∷ 7 ∷ []) 2 tt h)
-edits-other b (Strike p) h = absurd (miss (0 ∷ 5 ∷ 6 ∷ 7 ∷ []) 3 tt h)
-edits-other b Undo h = absurd (miss (0 ∷ 5 ∷ 6 ∷ 7 ∷ []) 4 tt h)
+edits-other b (Call c) h = absurd (miss (0 ∷ 2 ∷ 3 ∷ 4 ∷ []) 1 tt h)
 edits-other b (Corrections n) h = refl
 edits-other b (Matrix n) h = refl
 edits-other b Unreadable h = refl
 
 -- not unreadable
-pub says-other : (k number : ℕ) (c : Command) → OneOf (0 ∷ 1 ∷ 2 ∷ 3 ∷ 4 ∷ 5 ∷ 6 ∷ []) (tagOf the-type c) → refusedSays k number ≡ commandSays k number c
+pub says-other : (k number : ℕ) (c : Command) → OneOf (0 ∷ 1 ∷ 2 ∷ 3 ∷ []) (tagOf the-type c) → refusedSays k number ≡ commandSays k number c
 unfolding commandSays
 says-other k number (Station s) h = refl
-says-other k number (Add p r) h = refl
-says-other k number (Replace p r) h = refl
-says-other k number (Strike p) h = refl
-says-other k number Undo h = refl
+says-other k number (Call c) h = refl
 says-other k number (Corrections n) h = refl
 says-other k number (Matrix n) h = refl
-says-other k number Unreadable h = absurd (miss (0 ∷ 1 ∷ 2 ∷ 3 ∷ 4 ∷ 5 ∷ 6 ∷ []) 7 tt h)
+says-other k number Unreadable h = absurd (miss (0 ∷ 1 ∷ 2 ∷ 3 ∷ []) 4 tt h)

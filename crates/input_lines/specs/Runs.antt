@@ -10,11 +10,10 @@ use Rattle.network.specs.declared.Station as station
 use Rattle.book.specs.declared.Book.{Book}
 use Rattle.book.specs.declared.Edited.{Edited}
 use Rattle.book.specs.Book.{opening, outcome}
-use Rattle.book.specs.Calls.{add, replace, strike, undo}
 use Rattle.text.specs.Fields.{restFields, Numbers, numbers, unreadable}
 use Rattle.text.specs.Lines.{Kept}
 use Rattle.commands.specs.declared.Command.{Command}
-use Rattle.commands.specs.declared.Command.the-variants.{Station, Add, Replace, Strike, Undo, Corrections, Matrix, Unreadable}
+use Rattle.commands.specs.declared.Command.the-variants.{Station, Call, Corrections, Matrix, Unreadable}
 use Rattle.commands.specs.Commands.{correctionsIn, matrixIn, isStationLine, keptCommand}
 use Rattle.commands.specs.Brings.{brings}
 use Rattle.commands.specs.Messages.{refusedLine, unreadableLine, refused}
@@ -97,20 +96,14 @@ asked r k = keptCommand (r .read) (isUnopened (r .phase)) k
 
 unfoldable pub wordsAfter : List ℤ → Command → List ℤ
 wordsAfter words (Station s) = noted words s
-wordsAfter words (Add p r) = words
-wordsAfter words (Replace p r) = words
-wordsAfter words (Strike p) = words
-wordsAfter words Undo = words
+wordsAfter words (Call c) = words
 wordsAfter words (Corrections n) = words
 wordsAfter words (Matrix n) = words
 wordsAfter words Unreadable = words
 
 unfoldable pub readAfter : ℕ → Command → ℕ
 readAfter n (Station s) = suc n
-readAfter n (Add p r) = n
-readAfter n (Replace p r) = n
-readAfter n (Strike p) = n
-readAfter n Undo = n
+readAfter n (Call c) = n
 readAfter n (Corrections k) = n
 readAfter n (Matrix k) = n
 readAfter n Unreadable = n
@@ -121,10 +114,7 @@ unedited b = record { refusal = 0; book = b }
 
 unfoldable pub edits : Book → Command → Edited
 edits b (Station s) = unedited b
-edits b (Add p r) = outcome b (add p r)
-edits b (Replace p r) = outcome b (replace p r)
-edits b (Strike p) = outcome b (strike p)
-edits b Undo = outcome b undo
+edits b (Call c) = outcome b c
 edits b (Corrections n) = unedited b
 edits b (Matrix n) = unedited b
 edits b Unreadable = unedited b
@@ -152,10 +142,7 @@ refusedSays k number = cond (eqb number 0) [] (refusedLine k number)
 
 unfoldable pub commandSays : ℕ → ℕ → Command → List ℕ
 commandSays k number (Station s) = refusedSays k number
-commandSays k number (Add p r) = refusedSays k number
-commandSays k number (Replace p r) = refusedSays k number
-commandSays k number (Strike p) = refusedSays k number
-commandSays k number Undo = refusedSays k number
+commandSays k number (Call c) = refusedSays k number
 commandSays k number (Corrections n) = refusedSays k number
 commandSays k number (Matrix n) = refusedSays k number
 commandSays k number Unreadable = unreadableLine k

@@ -19,7 +19,7 @@ use Rattle.text.specs.Fields.{Numbers}
 use Rattle.text.specs.Lines.{Kept}
 use Rattle.text.specs.Writing.{Written}
 use Rattle.commands.specs.declared.Command.{Command}
-use Rattle.commands.specs.declared.Command.the-variants.{Station, Add, Replace, Strike, Undo, Corrections, Matrix, Unreadable}
+use Rattle.commands.specs.declared.Command.the-variants.{Station, Call, Corrections, Matrix, Unreadable}
 use Rattle.commands.specs.Commands.{isStationLine, Obeys}
 use Rattle.commands.specs.Brings.{brings, Brought, other, these}
 use Rattle.input_lines.specs.declared.Phase as code-phase
@@ -215,10 +215,7 @@ module _ (s : State) (b : Book) (list x m : List ℤ) (k : Kept) (a : Asked) (li
 read-few : (n : ℕ) (c : Command) → readAfter n c ≤ suc n
 unfolding readAfter
 read-few n (Station s) = omega arith
-read-few n (Add p r) = omega arith
-read-few n (Replace p r) = omega arith
-read-few n (Strike p) = omega arith
-read-few n Undo = omega arith
+read-few n (Call c) = omega arith
 read-few n (Corrections j) = omega arith
 read-few n (Matrix j) = omega arith
 read-few n Unreadable = omega arith

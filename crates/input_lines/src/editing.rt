@@ -17,10 +17,7 @@ fn edit(book: Book, command: Command) -> Edited
     ensures { λ e. ⌜ (e ≡ edits book command) × (sound (e .book) ≡ true) ⌝ }
 {
     match command {
-        Command::Add(place, entry) => book.add(place, entry),
-        Command::Replace(place, entry) => book.replace(place, entry),
-        Command::Strike(place) => book.strike(place),
-        Command::Undo => book.undo(),
+        Command::Call(call) => book.apply(call),
         _ => Edited { refusal: 0, book },
     }
 }
