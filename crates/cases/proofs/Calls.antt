@@ -12,8 +12,10 @@ use Rattle.network.specs.Records.{recordAt}
 use Rattle.book.specs.declared.Book.{Book}
 use Rattle.book.specs.declared.Edited.{Edited}
 use Rattle.book.specs.Run.{final, answers, final-suc, answer-at}
-use Rattle.book.specs.Rows.{Row, names, nameless, rowNext, rowSays}
-use Rattle.book.specs.Calls.{Call}
+use Rattle.book.specs.declared.Row.{Row}
+use Rattle.book.specs.declared.Row.the-variants.{Names, Nameless}
+use Rattle.book.specs.declared.Call.{Call}
+use Rattle.book.specs.Rows.{rowNext, rowSays}
 use Rattle.book.specs.CallLaws.{call-small}
 use Rattle.book.specs.Book.{openedBook, opening, outcome, bookSays, bookNext, sound}
 
@@ -24,9 +26,6 @@ opened-book list e o t =
     ∙ ap (λ (b : Bool). cond {A = Edited} b (record { refusal = 0; book = openedBook (networkOf list) }) (record { refusal = 1; book = openedBook (networkOf []) }) .book) t
 
 -- ════ a call that a number stands for
-pub is-call : (b : Book) (c d : Call) (e : Edited) → (e ≡ outcome b c) × (sound (e .book) ≡ true) → c ≡ d → (e ≡ outcome b d) × (sound (e .book) ≡ true)
-is-call b c d e w p = (w .0 ∙ ap (outcome b) p, w .1)
-
 -- a number that is at least k and is not k
 pub above : (k c : ℕ) → k ≤ c → (c ≡ k → ⊥) → suc k ≤ c
 above k c h n = omega (arith, n)
@@ -41,7 +40,7 @@ after b rows = final (rowNext bookNext) b rows
 abbrev pub said : Book → List Row → ℕ → ℤ
 said b rows k = getD (answers (rowNext bookNext) (rowSays bookSays) b rows) k (pos 0)
 
-module _ (b : Book) (rows : List Row) (k : ℕ) (h : k < length rows) (c : Call) (row : getD rows k nameless ≡ names c) (t : Book) (at : t ≡ after b (take k rows))
+module _ (b : Book) (rows : List Row) (k : ℕ) (h : k < length rows) (c : Call) (row : getD rows k Nameless ≡ Names c) (t : Book) (at : t ≡ after b (take k rows))
     (e : Edited) (w : (e ≡ outcome t c) × (sound (e .book) ≡ true)) where
   pub turn-says : pos (e .refusal) ≡ said b rows k
   unfolding rowSays
@@ -49,7 +48,7 @@ module _ (b : Book) (rows : List Row) (k : ℕ) (h : k < length rows) (c : Call)
       ap (λ (x : Edited). pos (x .refusal)) (w .0)
       ∙ ap (λ (s : Book). pos (bookSays s c)) at
       ∙ ap (rowSays bookSays (after b (take k rows))) (sym row)
-      ∙ sym (answer-at (rowNext bookNext) (rowSays bookSays) b rows k (pos 0) nameless h)
+      ∙ sym (answer-at (rowNext bookNext) (rowSays bookSays) b rows k (pos 0) Nameless h)
 
   pub turn-next : e .book ≡ after b (take (k + 1) rows)
   unfolding rowNext
@@ -57,4 +56,4 @@ module _ (b : Book) (rows : List Row) (k : ℕ) (h : k < length rows) (c : Call)
       ap (λ (x : Edited). x .book) (w .0)
       ∙ ap (λ (s : Book). bookNext s c) at
       ∙ ap (rowNext bookNext (after b (take k rows))) (sym row)
-      ∙ sym (ap (λ (j : ℕ). after b (take j rows)) (add-one k) ∙ final-suc (rowNext bookNext) b rows k nameless h)
+      ∙ sym (ap (λ (j : ℕ). after b (take j rows)) (add-one k) ∙ final-suc (rowNext bookNext) b rows k Nameless h)

@@ -8,7 +8,8 @@ use Rattle.network.specs.Stations.{networkOf}
 use Rattle.acceptance.specs.declared.Answer.{Answer}
 use Rattle.book.specs.declared.Book.{Book}
 use Rattle.book.specs.Run.{length-answers}
-use Rattle.book.specs.Rows.{Row, rowNext, rowSays}
+use Rattle.book.specs.declared.Row.{Row}
+use Rattle.book.specs.Rows.{rowNext, rowSays}
 use Rattle.book.specs.Book.{openedBook, bookNext, bookSays}
 use Rattle.checks.specs.Checks.{checked, hasRoom, sheetAfter}
 use Rattle.cases.specs.Table.{Case, stationList}

@@ -12,22 +12,31 @@ use Rattle.network.specs.Rules.{inList, recordNo}
 use Rattle.network.specs.declared.Network.{Network}
 use Rattle.network.specs.declared.Record.{Record}
 use Rattle.book.specs.declared.Book.{Book}
-use Rattle.book.specs.Calls.{Call, add, replace, strike, undo, placeOf, placesOf, first, placeNo, filledNo, emptyNo, undoNo, callNo, unless}
+use Rattle.book.specs.declared.Change.{Change}
+use Rattle.book.specs.declared.Change.the-variants.{Add, Replace, Strike}
+use Rattle.book.specs.declared.Call.{Call}
+use Rattle.book.specs.declared.Call.the-variants.{Edit, Undo}
+use Rattle.book.specs.declared.Row.{Row}
+use Rattle.book.specs.declared.Row.the-variants.{Names, Nameless}
+use Rattle.book.specs.Calls.{placeOf, placesOf, first, placeNo, filledNo, emptyNo, undoNo, callNo, unless}
 use Rattle.book.specs.Run.{final, answers, Alike, run-answers, run-final}
-use Rattle.book.specs.Rows.{Row, names, nameless, rowNext, rowSays}
+use Rattle.book.specs.Rows.{rowNext, rowSays}
 use Rattle.book.specs.Book.{openedBook, bookNext, bookSays}
 use Rattle.book.specs.Ledger.{Ledger, nothing, standing, accepted, ledgerSays}
-use Rattle.book.specs.SizeLaws.{add-says, replace-says}
+use Rattle.book.specs.Numbers.{ChangeNumber, add-number, replace-number, strike-number}
 use Rattle.book.specs.Follows.{Follows, says, follows-next, follows-opened}
 use Rattle.book.specs.PlaceLaws.{is-placesOf}
 use Rattle.book.specs.Demand3.{bookAfter, bookAnswers}
 
--- the number of a call on a ledger, 9 left out
+-- the number of a change to a place that holds q, and of a call on a ledger, 9 left out
+unfoldable pub briefChange : Network → Record → Change → ℕ
+briefChange net q (Add r) = first (recordNo net r) (filledNo q)
+briefChange net q (Replace r) = first (recordNo net r) (emptyNo q)
+briefChange net q Strike = emptyNo q
+
 unfoldable pub briefNo : Network → Ledger → Call → ℕ
-briefNo net l (add p r) = first (placeNo p) (first (recordNo net r) (filledNo (standing (l .edits) (placeOf p))))
-briefNo net l (replace p r) = first (placeNo p) (first (recordNo net r) (emptyNo (standing (l .edits) (placeOf p))))
-briefNo net l (strike p) = first (placeNo p) (emptyNo (standing (l .edits) (placeOf p)))
-briefNo net l undo = undoNo (l .count)
+briefNo net l (Edit p c) = first (placeNo p) (briefChange net (standing (l .edits) (placeOf p)) c)
+briefNo net l Undo = undoNo (l .count)
 
 abbrev pub briefNext : Network → Ledger → Call → Ledger
 briefNext net l c = unless (briefNo net l c) l (accepted l c)
@@ -47,19 +56,22 @@ judged f g same h p = go (inList 256 p) refl
     go true e = ap h (same (placeOf p) (ltb-true _ _ (index-test p 256 ∙ e)))
     go false e = refl
 
+brief-number : (net : Network) → networkFits net ≡ true → (q : Record) (c : Change) → ChangeNumber net c q (briefChange net q c)
+unfolding briefChange
+brief-number net g q (Add r) = add-number net g q _ r refl
+brief-number net g q (Replace r) = replace-number net g q _ r refl
+brief-number net g q Strike = strike-number net g q _ refl
+
 module _ (net : Network) (b : Book) (l : Ledger) (o : Follows net b l) where
   brief-says : (c : Call) → bookSays b c ≡ briefNo net l c
   unfolding briefNo callNo
-  brief-says (add p r) =
-      sym (add-says b (o .sound) p r)
-      ∙ ap (λ (n : Network). first (placeNo p) (first (recordNo n r) (filledNo (recordAt (b .places) (placeOf p))))) (o .network)
-      ∙ judged (recordAt (b .places)) (standing (l .edits)) (o .holds) (λ q. first (recordNo net r) (filledNo q)) p
-  brief-says (replace p r) =
-      sym (replace-says b (o .sound) p r)
-      ∙ ap (λ (n : Network). first (placeNo p) (first (recordNo n r) (emptyNo (recordAt (b .places) (placeOf p))))) (o .network)
-      ∙ judged (recordAt (b .places)) (standing (l .edits)) (o .holds) (λ q. first (recordNo net r) (emptyNo q)) p
-  brief-says (strike p) = says net b l o (strike p)
-  brief-says undo = says net b l o undo
+  brief-says (Edit p c) =
+      let at = recordAt (b .places) in
+      let q = at (placeOf p) in
+      ap (first (placeNo p)) (sym (brief-number (b .network) (o .sound .network) q c at (placeOf p) refl (o .sound .records)))
+      ∙ ap (λ (n : Network). first (placeNo p) (briefChange n q c)) (o .network)
+      ∙ judged at (standing (l .edits)) (o .holds) (λ x. briefChange net x c) p
+  brief-says Undo = says net b l o Undo
 
   brief-next : (c : Call) → Follows net (bookNext b c) (briefNext net l c)
   brief-next c =
@@ -68,13 +80,13 @@ module _ (net : Network) (b : Book) (l : Ledger) (o : Follows net b l) where
 
 brief-row : (net : Network) (b : Book) (l : Ledger) (r : Row) → Follows net b l → rowSays bookSays b r ≡ rowSays (briefNo net) l r
 unfolding rowSays
-brief-row net b l (names c) o = ap lib.IntN.pos (brief-says net b l o c)
-brief-row net b l nameless o = refl
+brief-row net b l (Names c) o = ap lib.IntN.pos (brief-says net b l o c)
+brief-row net b l Nameless o = refl
 
 brief-stays : (net : Network) (b : Book) (l : Ledger) (r : Row) → Follows net b l → Follows net (rowNext bookNext b r) (rowNext (briefNext net) l r)
 unfolding rowNext
-brief-stays net b l (names c) o = brief-next net b l o c
-brief-stays net b l nameless o = o
+brief-stays net b l (Names c) o = brief-next net b l o c
+brief-stays net b l Nameless o = o
 
 alike : (net : Network) → Alike (rowNext bookNext) (rowSays bookSays) (rowNext (briefNext net)) (rowSays (briefNo net)) (Follows net)
 alike net = record { says-same = brief-row net; stays = brief-stays net }

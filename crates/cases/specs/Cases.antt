@@ -19,7 +19,9 @@ use Rattle.acceptance.specs.Exactly.{n, N, u, rows}
 use Rattle.book.specs.declared.Book.{Book}
 use Rattle.book.specs.Book as spec
 use Rattle.book.specs.Run.{final, answers}
-use Rattle.book.specs.Rows.{Row, names, rowNext, rowSays}
+use Rattle.book.specs.declared.Row.{Row}
+use Rattle.book.specs.declared.Row.the-variants.{Names}
+use Rattle.book.specs.Rows.{rowNext, rowSays}
 use Rattle.book.specs.Book.{bookNext, bookSays}
 use Rattle.book.specs.Demand3.{bookAnswers, bookAfter}
 use Rattle.checks.specs.Checks.{checked, hasRoom, sheetAfter}
@@ -27,7 +29,7 @@ use Rattle.cases.specs.Table.{Case, stationList, printed, asPrinted, tab
 
 -- the calls as rows of a run, and the book that they leave
 abbrev pub rowsOf : Case → List Row
-rowsOf c = map names (c .calls)
+rowsOf c = map Names (c .calls)
 
 abbrev pub bookOf : Case → Book
 bookOf c = bookAfter (networkOf stationList) (rowsOf c)

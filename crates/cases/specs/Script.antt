@@ -10,27 +10,30 @@ use lib.IntN.{ℤ, pos}
 use Rattle.words.specs.Bools.{and-left, and-right}
 use Rattle.lists.specs.All.{allBelow, all-at}
 use Rattle.integers.specs.Tables.{tabulate, getD-tabulate}
-use Rattle.book.specs.Rows.{Row, names}
-use Rattle.book.specs.Calls.{Call, add, replace, undo}
+use Rattle.book.specs.declared.Row.{Row}
+use Rattle.book.specs.declared.Row.the-variants.{Names}
+use Rattle.book.specs.declared.Change.the-variants.{Add, Replace}
+use Rattle.book.specs.declared.Call.{Call}
+use Rattle.book.specs.declared.Call.the-variants.{Edit, Undo}
 use Rattle.cases.specs.Table.{Case, level, baselineWith, table}
 use Rattle.cases.specs.Cases.{rowsOf, first, caseAt}
 
 unfoldable pub calls : List Call
 calls =
-    add (pos 1) (level 1000)
-    ∷ add (pos 2) (level 1100)
-    ∷ replace (pos 2) (level 1200)
-    ∷ undo
-    ∷ add (pos 2) (level 1276)
-    ∷ add (pos 2) (level 1278)
-    ∷ add (pos 3) (level 101000)
-    ∷ add (pos 3) (level 101001)
-    ∷ add (pos 3) (baselineWith 100)
+    Edit (pos 1) (Add (level 1000))
+    ∷ Edit (pos 2) (Add (level 1100))
+    ∷ Edit (pos 2) (Replace (level 1200))
+    ∷ Undo
+    ∷ Edit (pos 2) (Add (level 1276))
+    ∷ Edit (pos 2) (Add (level 1278))
+    ∷ Edit (pos 3) (Add (level 101000))
+    ∷ Edit (pos 3) (Add (level 101001))
+    ∷ Edit (pos 3) (Add (baselineWith 100))
     ∷ []
 
 -- the last, and for numbers beyond it
 abbrev pub callAt : ℕ → Call
-callAt c = getD calls c (add (pos 3) (baselineWith 99))
+callAt c = getD calls c (Edit (pos 3) (Add (baselineWith 99)))
 
 -- the numbers of the cases' calls, and where those of each case start and how many there are
 unfoldable pub numbers : List ℕ
@@ -44,7 +47,7 @@ counts = 2 ∷ 2 ∷ 2 ∷ 0 ∷ 3 ∷ 3 ∷ 4 ∷ 1 ∷ 2 ∷ 2 ∷ 3 ∷ 3 ∷
 
 -- `count` calls from `start` on
 unfoldable pub rowsFrom : ℕ → ℕ → List Row
-rowsFrom start count = tabulate count (λ i. names (callAt (getD numbers (start + i) 0)))
+rowsFrom start count = tabulate count (λ i. Names (callAt (getD numbers (start + i) 0)))
 
 -- X and M of each case
 unfoldable pub xs : List ℤ

@@ -4,7 +4,9 @@ use mathlib.Core.List.{List, [], _∷_, _++_}
 use lib.IntN.{ℤ, pos, negℤ}
 use Rattle.network.specs.declared.Record.{Record}
 use Rattle.network.specs.declared.Record.the-variants.{Baseline as baseline, Height as height}
-use Rattle.book.specs.Calls.{Call, add, replace, undo}
+use Rattle.book.specs.declared.Change.the-variants.{Add, Replace}
+use Rattle.book.specs.declared.Call.{Call}
+use Rattle.book.specs.declared.Call.the-variants.{Edit, Undo}
 
 -- ════ the night print's lines
 -- "S 1 K 0 0 100000", "S 2 V 0 0 101000": four words a station: kind (1 known, 3 height), E, N, U
@@ -41,7 +43,7 @@ baselineWith en = baselineOf (pos en)
 
 -- its two H lines, the second with a difference of the case's own
 abbrev pub printed : ℕ → List Call
-printed difference = add (pos 1) (level 1000) ∷ add (pos 2) (level difference) ∷ []
+printed difference = Edit (pos 1) (Add (level 1000)) ∷ Edit (pos 2) (Add (level difference)) ∷ []
 
 -- ════ a case: what is called and checked, and what is expected of it
 pub record Case : Type 0 where
@@ -112,19 +114,19 @@ table =
     -- "No records: 11, unknown 1."
     ∷ refused [] (pos 50) (pos 5368709) [] [] 11 1 (pos 0)
     -- "Record 2 replaced by 1200: X 50 is refused 16, X 100 accepted with T 2000000."
-    ∷ refused (printed 1100 ++ replace (pos 2) (level 1200) ∷ []) (pos 50) (pos 5368709) (0 ∷ 0 ∷ 0 ∷ []) (level 1000 ∷ level 1200 ∷ []) 16 0 (pos 53687090000)
-    ∷ accepted (printed 1100 ++ replace (pos 2) (level 1200) ∷ []) (0 ∷ 0 ∷ 0 ∷ []) 1200 100 0 2000000
+    ∷ refused (printed 1100 ++ Edit (pos 2) (Replace (level 1200)) ∷ []) (pos 50) (pos 5368709) (0 ∷ 0 ∷ 0 ∷ []) (level 1000 ∷ level 1200 ∷ []) 16 0 (pos 53687090000)
+    ∷ accepted (printed 1100 ++ Edit (pos 2) (Replace (level 1200)) ∷ []) (0 ∷ 0 ∷ 0 ∷ []) 1200 100 0 2000000
     -- "Undo then: X 50 accepted again."
-    ∷ asPrinted (printed 1100 ++ replace (pos 2) (level 1200) ∷ undo ∷ []) (0 ∷ 0 ∷ 0 ∷ 0 ∷ [])
+    ∷ asPrinted (printed 1100 ++ Edit (pos 2) (Replace (level 1200)) ∷ Undo ∷ []) (0 ∷ 0 ∷ 0 ∷ 0 ∷ [])
     -- "Undo on a new book: 8."
-    ∷ refused (undo ∷ []) (pos 50) (pos 5368709) (8 ∷ []) [] 11 1 (pos 0)
+    ∷ refused (Undo ∷ []) (pos 50) (pos 5368709) (8 ∷ []) [] 11 1 (pos 0)
     -- "Record 2 as 1276, X 138: both PASS."
     ∷ accepted (printed 1276) (0 ∷ 0 ∷ []) 1276 138 0 3808800
     -- "As 1278, X 139: both FAIL, T 3864200, global PASS."
     ∷ accepted (printed 1278) (0 ∷ 0 ∷ []) 1278 139 1 3864200
     -- "Difference 101000 enters": as a third record, with the solution and the inverse of the three, rounded
     ∷ record {
-      calls = printed 1100 ++ add (pos 3) (level 101000) ∷ [];
+      calls = printed 1100 ++ Edit (pos 3) (Add (level 101000)) ∷ [];
       x = pos 33367;
       m = pos 3579139;
       answers = 0 ∷ 0 ∷ 0 ∷ [];
@@ -138,12 +140,12 @@ table =
           ++ globalLine 666000666700 2 4;
     }
     -- "101001 is refused 6", and changes nothing
-    ∷ asPrinted (printed 1100 ++ add (pos 3) (level 101001) ∷ []) (0 ∷ 0 ∷ 6 ∷ [])
+    ∷ asPrinted (printed 1100 ++ Edit (pos 3) (Add (level 101001)) ∷ []) (0 ∷ 0 ∷ 6 ∷ [])
     -- "Weights 100, 100, 100 with EN 100: 5"
-    ∷ asPrinted (printed 1100 ++ add (pos 3) (baselineWith 100) ∷ []) (0 ∷ 0 ∷ 5 ∷ [])
+    ∷ asPrinted (printed 1100 ++ Edit (pos 3) (Add (baselineWith 100)) ∷ []) (0 ∷ 0 ∷ 5 ∷ [])
     -- "with EN 99: entered."
     ∷ record {
-      calls = printed 1100 ++ add (pos 3) (baselineWith 99) ∷ [];
+      calls = printed 1100 ++ Edit (pos 3) (Add (baselineWith 99)) ∷ [];
       x = pos 33;
       m = pos 3579139;
       answers = 0 ∷ 0 ∷ 0 ∷ [];

@@ -1,7 +1,8 @@
 // Document 01's cases that are proved, run through the calls that ship: a book opened on the stations of the night print, the case's edits, and a check with a sheet.
 use acceptance::Answer;
 use book::Book;
-use book::Edited;
+use book::Call;
+use book::Change;
 use network::Baseline;
 use network::Level;
 use network::Record;
@@ -11,7 +12,7 @@ ghost use Prim.Native.Nat.{_+_, _≤_, _<_};
 ghost use lib.IntN.{pos};
 ghost use lib.ListN.{length};
 ghost use Rattle.network.specs.Stations.{networkOf};
-ghost use Rattle.book.specs.Book.{openedBook, outcome, sound};
+ghost use Rattle.book.specs.Book.{openedBook, sound};
 ghost use Rattle.cases.specs.Table.{stationList, levelOf, baselineOf, table};
 ghost use Rattle.cases.specs.Cases.{CallsMade, Ran, caseAt, enough};
 ghost use Rattle.cases.specs.Script.{callAt, rowsFrom};
@@ -19,7 +20,7 @@ ghost use Rattle.cases.specs.Script.{callAt, rowsFrom};
 // The stations: kind, E, N, U.
 const STATIONS: [i64; 8] = [1, 0, 0, 100000, 3, 0, 0, 101000];
 
-// The calls of the cases by their numbers in `call`. Cases that begin alike share them: case k has COUNTS[k] of them, from STARTS[k] on.
+// The calls of the cases by their numbers in `call_at`. Cases that begin alike share them: case k has COUNTS[k] of them, from STARTS[k] on.
 const CALLS: [usize; 20] = [0, 1, 2, 3, 0, 4, 0, 5, 0, 1, 6, 0, 1, 7, 0, 1, 8, 0, 1, 9];
 
 const STARTS: [usize; 14] = [0, 0, 0, 0, 0, 0, 0, 3, 4, 6, 8, 11, 14, 17];
@@ -67,22 +68,27 @@ fn baseline_with(en: i64) -> Record
     })
 }
 
+fn add(place: i64, entry: Record) -> Call
+    ensures { λ r. ⌜ r ≡ Call.Edit place (Change.Add entry) ⌝ }
+{
+    Call::Edit(place, Change::Add(entry))
+}
+
 // The calls that the cases make.
-fn call(book: Book, c: usize) -> Edited
-    requires { ⌜ sound book ≡ true ⌝ }
-    ensures { λ e. ⌜ (e ≡ outcome book (callAt c)) × (sound (e .book) ≡ true) ⌝ }
+fn call_at(c: usize) -> Call
+    ensures { λ r. ⌜ r ≡ callAt c ⌝ }
 {
     match c {
-        0 => book.add(1, level(1000)),
-        1 => book.add(2, level(1100)),
-        2 => book.replace(2, level(1200)),
-        3 => book.undo(),
-        4 => book.add(2, level(1276)),
-        5 => book.add(2, level(1278)),
-        6 => book.add(3, level(101000)),
-        7 => book.add(3, level(101001)),
-        8 => book.add(3, baseline_with(100)),
-        _ => book.add(3, baseline_with(99)),
+        0 => add(1, level(1000)),
+        1 => add(2, level(1100)),
+        2 => Call::Edit(2, Change::Replace(level(1200))),
+        3 => Call::Undo,
+        4 => add(2, level(1276)),
+        5 => add(2, level(1278)),
+        6 => add(3, level(101000)),
+        7 => add(3, level(101001)),
+        8 => add(3, baseline_with(100)),
+        _ => add(3, baseline_with(99)),
     }
 }
 
@@ -111,7 +117,8 @@ fn make_calls(book: Book, start: usize, count: usize, answers: &mut [i64]) -> Bo
     let mut state = book;
     let mut i: usize = 0;
     while i < count {
-        let e = call(state, CALLS[start + i]);
+        let c = call_at(CALLS[start + i]);
+        let e = state.apply(c);
         let answer = answer_of(e.refusal);
         answers[i] = answer;
         let next = e.book;

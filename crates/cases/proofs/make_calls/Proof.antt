@@ -15,7 +15,8 @@ use Rattle.integers.specs.Tables.{length-tabulate, getD-tabulate}
 use Rattle.lists.specs.Filling.{Mapped, starts, goes-on}
 use Rattle.book.specs.Run.{final-zero, answers, length-answers}
 use Rattle.book.specs.Book.{bookNext, bookSays, sound}
-use Rattle.book.specs.Rows.{nameless, names, rowNext, rowSays}
+use Rattle.book.specs.Rows.{rowNext, rowSays}
+use Rattle.book.specs.declared.Row.the-variants.{Names, Nameless}
 use Rattle.book.specs.ReplayLaws.{filled, unfilled}
 use Rattle.cases.specs.Script.{numbers, callAt, rowsFrom}
 use Rattle.cases.proofs.Calls.{refusal-small, after, said, turn-says, turn-next}
@@ -34,27 +35,30 @@ rows-long : (start count : ℕ) → length (rowsFrom start count) ≡ count
 unfolding rowsFrom
 rows-long start count = length-tabulate count _
 
-row-at : (start count i : ℕ) → i < count → getD (rowsFrom start count) i nameless ≡ names (callAt (getD numbers (start + i) 0))
+row-at : (start count i : ℕ) → i < count → getD (rowsFrom start count) i Nameless ≡ Names (callAt (getD numbers (start + i) 0))
 unfolding rowsFrom
-row-at start count i h = getD-tabulate count _ i nameless h
+row-at start count i h = getD-tabulate count _ i Nameless h
 
 loop-holds : tie.Need-loop-holds Inv-loop μ-loop
 loop-holds c = (omega arith, starts (pos 0) _ _ _ refl, final-zero (rowNext bookNext) (c .args .book) (rowsFrom (c .args .start) (c .args .count)), c .pre .0)
 
-add-call : tie.Need-add-call Inv-loop μ-loop
-add-call c = search needs
+add-call-at : tie.Need-add-call-at Inv-loop μ-loop
+add-call-at c = search needs
 
-mul-call : tie.Need-mul-call Inv-loop μ-loop
-mul-call c = search needs
+mul-call-at : tie.Need-mul-call-at Inv-loop μ-loop
+mul-call-at c = search needs
 
-array-read-call : tie.Need-array-read-call Inv-loop μ-loop
-array-read-call c = search needs
+array-read-call-at : tie.Need-array-read-call-at Inv-loop μ-loop
+array-read-call-at c = search needs
 
-call-requires : tie.Need-call-requires Inv-loop μ-loop
-call-requires c κs = c .before .loop .inv .3
+call-at-requires : tie.Need-call-at-requires Inv-loop μ-loop
+call-at-requires c κs = search needs
+
+apply-requires : tie.Need-apply-requires Inv-loop μ-loop
+apply-requires c κs = c .before .before .loop .inv .3
 
 answer-of-requires : tie.Need-answer-of-requires Inv-loop μ-loop
-answer-of-requires c κs = refusal-small (c .before .before .loop .state) _ _ (c .call .ensures)
+answer-of-requires c κs = refusal-small (c .before .before .before .loop .state) _ _ (c .apply .ensures)
 
 mul-answer : tie.Need-mul-answer Inv-loop μ-loop
 mul-answer c = search needs
@@ -71,21 +75,22 @@ loop-less c = search needs
 loop-again : tie.Need-loop-again Inv-loop μ-loop
 unfolding numbers
 loop-again c =
-    let t = c .before .before .before .before in
+    let a = c .before .before in
+    let t = a .before .before .before in
     let s = t .before in
     let rows = rowsFrom (s .args .start) (s .args .count) in
-    let e = c .before .before .call in
+    let e = a .apply in
     let i = t .loop .i in
     let h : i < s .args .count = omega arith in
     let inside : i < length rows = let z : length rows ≡ s .args .count = rows-long (s .args .start) (s .args .count) in omega arith in
-    let row = row-at (s .args .start) (s .args .count) i h in
+    let row = row-at (s .args .start) (s .args .count) i h ∙ ap Names (sym (a .before .call-at .ensures)) in
     let room : s .args .count ≤ length (now (s .args .answers)) = s .pre .2 in (
       omega arith,
       goes-on (pos 0) _ (said (s .args .book) rows) (now (s .args .answers)) (t .loop .answers) i _ (omega arith) (t .loop .inv .1)
           (toZ-ofZ {w = w64} {z = c .before .answer-of .result} (search needs)
           ∙ c .before .answer-of .ensures
-          ∙ turn-says (s .args .book) rows i inside (callAt (getD numbers (s .args .start + i) 0)) row (t .loop .state) (t .loop .inv .2) (e .result) (e .ensures)),
-      turn-next (s .args .book) rows i inside (callAt (getD numbers (s .args .start + i) 0)) row (t .loop .state) (t .loop .inv .2) (e .result) (e .ensures),
+          ∙ turn-says (s .args .book) rows i inside (a .before .call-at .result) row (t .loop .state) (t .loop .inv .2) (e .result) (e .ensures)),
+      turn-next (s .args .book) rows i inside (a .before .call-at .result) row (t .loop .state) (t .loop .inv .2) (e .result) (e .ensures),
       e .ensures .1,
     )
 
@@ -119,10 +124,11 @@ make-calls-spec =
     Inv-loop
     μ-loop
     loop-holds
-    add-call
-    mul-call
-    array-read-call
-    call-requires
+    add-call-at
+    mul-call-at
+    array-read-call-at
+    call-at-requires
+    apply-requires
     answer-of-requires
     mul-answer
     slice-set-from-answer
