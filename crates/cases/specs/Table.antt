@@ -2,8 +2,8 @@
 use Prim.Native.Nat.{ℕ, _+_}
 use mathlib.Core.List.{List, [], _∷_, _++_}
 use lib.IntN.{ℤ, pos, negℤ}
+use Rattle.network.specs.Records.{baselineOf, heightOf}
 use Rattle.network.specs.declared.Record.{Record}
-use Rattle.network.specs.declared.Record.the-variants.{Baseline as baseline, Height as height}
 use Rattle.book.specs.declared.Change.the-variants.{Add, Replace}
 use Rattle.book.specs.declared.Call.{Call}
 use Rattle.book.specs.declared.Call.the-variants.{Edit, Undo}
@@ -14,32 +14,18 @@ unfoldable pub stationList : List ℤ
 stationList = pos 1 ∷ pos 0 ∷ pos 0 ∷ pos 100000 ∷ pos 3 ∷ pos 0 ∷ pos 0 ∷ pos 101000 ∷ []
 
 -- "H place 1 2 difference 100"
-abbrev pub levelOf : ℤ → Record
-levelOf difference = height (record { from = pos 1; to = pos 2; up = difference; weight = pos 100 })
+abbrev pub levelled : ℤ → Record
+levelled difference = heightOf (pos 1) (pos 2) difference (pos 100)
 
 abbrev pub level : ℕ → Record
-level difference = levelOf (pos difference)
+level difference = levelled (pos difference)
 
 -- "B place 1 2 0 0 1000 100 EN 0 100 0 100"
-abbrev pub baselineOf : ℤ → Record
-baselineOf en =
-    baseline
-    (record {
-      from = pos 1;
-      to = pos 2;
-      east = pos 0;
-      north = pos 0;
-      up = pos 1000;
-      ee = pos 100;
-      en = en;
-      eu = pos 0;
-      nn = pos 100;
-      nu = pos 0;
-      uu = pos 100;
-    })
+abbrev pub weighted : ℤ → Record
+weighted en = baselineOf (pos 1) (pos 2) (pos 0 ∷ pos 0 ∷ pos 1000 ∷ []) (pos 100 ∷ en ∷ pos 0 ∷ pos 100 ∷ pos 0 ∷ pos 100 ∷ [])
 
 abbrev pub baselineWith : ℕ → Record
-baselineWith en = baselineOf (pos en)
+baselineWith en = weighted (pos en)
 
 -- its two H lines, the second with a difference of the case's own
 abbrev pub printed : ℕ → List Call

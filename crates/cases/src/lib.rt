@@ -3,8 +3,6 @@ use acceptance::Answer;
 use book::Book;
 use book::Call;
 use book::Change;
-use network::Baseline;
-use network::Level;
 use network::Record;
 ghost use mathlib.Core.Path.{_≡_};
 ghost use mathlib.Core.Bool.{true};
@@ -13,7 +11,7 @@ ghost use lib.IntN.{pos};
 ghost use lib.ListN.{length};
 ghost use Rattle.network.specs.Stations.{networkOf};
 ghost use Rattle.book.specs.Book.{openedBook, sound};
-ghost use Rattle.cases.specs.Table.{stationList, levelOf, baselineOf, table};
+ghost use Rattle.cases.specs.Table.{stationList, levelled, weighted, table};
 ghost use Rattle.cases.specs.Cases.{CallsMade, Ran, caseAt, enough};
 ghost use Rattle.cases.specs.Script.{callAt, rowsFrom};
 
@@ -39,33 +37,16 @@ const M: [i64; 14] = [M2, M2, 0, M2, M2, M2, M2, M2, M2, M2, M3, M2, M2, M3];
 
 // A height difference from station 1 to station 2 of weight 100.
 fn level(up: i64) -> Record
-    ensures { λ r. ⌜ r ≡ levelOf up ⌝ }
+    ensures { λ r. ⌜ r ≡ levelled up ⌝ }
 {
-    Record::Height(Level {
-        from: 1,
-        to: 2,
-        up,
-        weight: 100,
-    })
+    network::height_of(1, 2, up, 100)
 }
 
 // A baseline from station 1 to station 2 of weights 100, with `en` in E and N.
 fn baseline_with(en: i64) -> Record
-    ensures { λ r. ⌜ r ≡ baselineOf en ⌝ }
+    ensures { λ r. ⌜ r ≡ weighted en ⌝ }
 {
-    Record::Baseline(Baseline {
-        from: 1,
-        to: 2,
-        east: 0,
-        north: 0,
-        up: 1000,
-        ee: 100,
-        en,
-        eu: 0,
-        nn: 100,
-        nu: 0,
-        uu: 100,
-    })
+    network::baseline_of(1, 2, [0, 0, 1000], [100, en, 0, 100, 0, 100])
 }
 
 fn add(place: i64, entry: Record) -> Call

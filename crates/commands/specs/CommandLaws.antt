@@ -105,14 +105,6 @@ pub station-bits :
     (k : Kind) (v : ℕ → ℤ) → SFits w64 (v 0) → SFits w64 (v 1) → SFits w64 (v 2) → stationWith k (bits v) ≡ stationWith k v
 station-bits k v a b c = rw (toZ-ofZ a, toZ-ofZ b, toZ-ofZ c)
 
-pub baseline-bits :
-    (v : ℕ → ℤ) →
-    SFits w64 (v 0) → SFits w64 (v 1) → SFits w64 (v 2) → SFits w64 (v 3) → SFits w64 (v 4) → SFits w64 (v 5) →
-    SFits w64 (v 6) → SFits w64 (v 7) → SFits w64 (v 8) → SFits w64 (v 9) → SFits w64 (v 10) → SFits w64 (v 11) →
-    baselineEntry (bits v) ≡ baselineEntry v
-baseline-bits v a b c d e f g h i j k l =
-    rw (toZ-ofZ a, toZ-ofZ b, toZ-ofZ c, toZ-ofZ d, toZ-ofZ e, toZ-ofZ f, toZ-ofZ g, toZ-ofZ h, toZ-ofZ i, toZ-ofZ j, toZ-ofZ k, toZ-ofZ l)
-
 -- ════ a record for a place
 module _ (e : Entry) where
   pub added-of : (place p : ℤ) (r : Record) → e ≡ entry.Of place r → p ≡ place → Call (Edit p (Add r)) ≡ added e

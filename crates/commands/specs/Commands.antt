@@ -8,9 +8,9 @@ use lib.Dec.{ltb, eqb}
 use lib.ListN.{length, getD}
 use lib.IntN.{ℤ, pos}
 use Rattle.words.specs.Signed.{eqZ}
+use Rattle.network.specs.Records.{baselineOf, heightOf}
 use Rattle.network.specs.declared.Kind.{Kind}
 use Rattle.network.specs.declared.Kind.the-variants as kind
-use Rattle.network.specs.declared.Record.the-variants as record-of
 use Rattle.book.specs.declared.Change.the-variants.{Add, Replace, Strike}
 use Rattle.book.specs.declared.Call.the-variants.{Edit, Undo}
 use Rattle.text.specs.Numbers.{numberOf}
@@ -31,14 +31,11 @@ exactly k other f (numbers vs) = cond (eqb (length vs) k) (f (λ i. getD vs i (p
 -- ════ H and B
 -- "H: place, from, to, difference, weight"
 abbrev pub levelEntry : (ℕ → ℤ) → Entry
-levelEntry v = entry.Of (v 0) (record-of.Height (record { from = v 1; to = v 2; up = v 3; weight = v 4 }))
+levelEntry v = entry.Of (v 0) (heightOf (v 1) (v 2) (v 3) (v 4))
 
 -- "B: place, from, to, three differences, weights EE EN EU NN NU UU"
 abbrev pub baselineEntry : (ℕ → ℤ) → Entry
-baselineEntry v =
-    entry.Of (v 0)
-    (record-of.Baseline
-    (record { from = v 1; to = v 2; east = v 3; north = v 4; up = v 5; ee = v 6; en = v 7; eu = v 8; nn = v 9; nu = v 10; uu = v 11 }))
+baselineEntry v = entry.Of (v 0) (baselineOf (v 1) (v 2) (v 3 ∷ v 4 ∷ v 5 ∷ []) (v 6 ∷ v 7 ∷ v 8 ∷ v 9 ∷ v 10 ∷ v 11 ∷ []))
 
 -- the fields after the letter
 unfoldable pub entryOf : ℕ → List (List ℕ) → Entry

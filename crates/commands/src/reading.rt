@@ -3,10 +3,7 @@ use super::Command;
 use super::Entry;
 use book::Call;
 use book::Change;
-use network::Baseline;
 use network::Kind;
-use network::Level;
-use network::Record;
 use network::Station;
 use text::Count;
 use text::Number;
@@ -32,13 +29,7 @@ fn level_entry(line: &[u8], from: usize) -> Entry
             if n != 5 {
                 return Entry::Unreadable;
             }
-            let level = Level {
-                from: a[1],
-                to: a[2],
-                up: a[3],
-                weight: a[4],
-            };
-            let of = Record::Height(level);
+            let of = network::height_of(a[1], a[2], a[3], a[4]);
             Entry::Of(a[0], of)
         }
     }
@@ -55,20 +46,7 @@ fn baseline_entry(line: &[u8], from: usize) -> Entry
             if n != 12 {
                 return Entry::Unreadable;
             }
-            let baseline = Baseline {
-                from: a[1],
-                to: a[2],
-                east: a[3],
-                north: a[4],
-                up: a[5],
-                ee: a[6],
-                en: a[7],
-                eu: a[8],
-                nn: a[9],
-                nu: a[10],
-                uu: a[11],
-            };
-            let of = Record::Baseline(baseline);
+            let of = network::baseline_in(&a, 0);
             Entry::Of(a[0], of)
         }
     }

@@ -41,11 +41,3 @@ edit s c = through s (λ b. outcome b c)
 unfoldable pub opens : List ℕ → List ℕ → Returned
 opens list s =
     cond (leb bookBytes (length s)) (cond (eqb (length list % 32) 0) (settled s (opening (wordsAt list 0 (length list / 8)))) (refused 1 s)) (refused 25 s)
-
--- the records that the numbers of a C call give, in the header's order
-abbrev pub baselineOf : ℤ → ℤ → ℤ → ℤ → ℤ → ℤ → ℤ → ℤ → ℤ → ℤ → ℤ → Record
-baselineOf from to east north up ee en eu nn nu uu =
-    baseline (record { from = from; to = to; east = east; north = north; up = up; ee = ee; en = en; eu = eu; nn = nn; nu = nu; uu = uu })
-
-abbrev pub heightOf : ℤ → ℤ → ℤ → ℤ → Record
-heightOf from to up weight = height (record { from = from; to = to; up = up; weight = weight })

@@ -2,11 +2,10 @@
 use super::changes;
 use book::Call;
 use book::Change;
-use network::Baseline;
-use network::Level;
-use network::Record;
 ghost use mathlib.Core.Path.{_≡_};
-ghost use Rattle.dombrelat.specs.Calls.{baselineOf, heightOf, edit};
+ghost use mathlib.Core.List.{[], _∷_};
+ghost use Rattle.network.specs.Records.{baselineOf, heightOf};
+ghost use Rattle.dombrelat.specs.Calls.{edit};
 
 // The book that the bytes hold, edited: 25 before all others.
 fn edit_bytes(book: &mut [u8], call: Call) -> i64
@@ -16,47 +15,6 @@ fn edit_bytes(book: &mut [u8], call: Call) -> i64
         return 25;
     }
     changes::apply(book, call)
-}
-
-fn baseline_of(
-    from: i64,
-    to: i64,
-    east: i64,
-    north: i64,
-    up: i64,
-    ee: i64,
-    en: i64,
-    eu: i64,
-    nn: i64,
-    nu: i64,
-    uu: i64,
-) -> Record
-    ensures { λ r. ⌜ r ≡ baselineOf from to east north up ee en eu nn nu uu ⌝ }
-{
-    Record::Baseline(Baseline {
-        from,
-        to,
-        east,
-        north,
-        up,
-        ee,
-        en,
-        eu,
-        nn,
-        nu,
-        uu,
-    })
-}
-
-fn height_of(from: i64, to: i64, up: i64, weight: i64) -> Record
-    ensures { λ r. ⌜ r ≡ heightOf from to up weight ⌝ }
-{
-    Record::Height(Level {
-        from,
-        to,
-        up,
-        weight,
-    })
 }
 
 // Fills an empty place with a baseline.
@@ -76,10 +34,10 @@ pub extern "C" fn dombrelat_add_baseline(
     nu: i64,
     uu: i64,
 ) -> i64
-    ensures { λ r. ⌜ r ≡ edit (now (book .entry)) (Call.Edit place (Change.Add (baselineOf from to east north up ee en eu nn nu uu))) .answer ⌝ }
-    ensures { λ _. ⌜ now (book .exit) ≡ edit (now (book .entry)) (Call.Edit place (Change.Add (baselineOf from to east north up ee en eu nn nu uu))) .bytes ⌝ }
+    ensures { λ r. ⌜ r ≡ edit (now (book .entry)) (Call.Edit place (Change.Add (baselineOf from to (east ∷ north ∷ up ∷ []) (ee ∷ en ∷ eu ∷ nn ∷ nu ∷ uu ∷ [])))) .answer ⌝ }
+    ensures { λ _. ⌜ now (book .exit) ≡ edit (now (book .entry)) (Call.Edit place (Change.Add (baselineOf from to (east ∷ north ∷ up ∷ []) (ee ∷ en ∷ eu ∷ nn ∷ nu ∷ uu ∷ [])))) .bytes ⌝ }
 {
-    let r = baseline_of(from, to, east, north, up, ee, en, eu, nn, nu, uu);
+    let r = network::baseline_of(from, to, [east, north, up], [ee, en, eu, nn, nu, uu]);
     edit_bytes(book, Call::Edit(place, Change::Add(r)))
 }
 
@@ -96,7 +54,7 @@ pub extern "C" fn dombrelat_add_height(
     ensures { λ r. ⌜ r ≡ edit (now (book .entry)) (Call.Edit place (Change.Add (heightOf from to up weight))) .answer ⌝ }
     ensures { λ _. ⌜ now (book .exit) ≡ edit (now (book .entry)) (Call.Edit place (Change.Add (heightOf from to up weight))) .bytes ⌝ }
 {
-    let r = height_of(from, to, up, weight);
+    let r = network::height_of(from, to, up, weight);
     edit_bytes(book, Call::Edit(place, Change::Add(r)))
 }
 
@@ -117,10 +75,10 @@ pub extern "C" fn dombrelat_replace_baseline(
     nu: i64,
     uu: i64,
 ) -> i64
-    ensures { λ r. ⌜ r ≡ edit (now (book .entry)) (Call.Edit place (Change.Replace (baselineOf from to east north up ee en eu nn nu uu))) .answer ⌝ }
-    ensures { λ _. ⌜ now (book .exit) ≡ edit (now (book .entry)) (Call.Edit place (Change.Replace (baselineOf from to east north up ee en eu nn nu uu))) .bytes ⌝ }
+    ensures { λ r. ⌜ r ≡ edit (now (book .entry)) (Call.Edit place (Change.Replace (baselineOf from to (east ∷ north ∷ up ∷ []) (ee ∷ en ∷ eu ∷ nn ∷ nu ∷ uu ∷ [])))) .answer ⌝ }
+    ensures { λ _. ⌜ now (book .exit) ≡ edit (now (book .entry)) (Call.Edit place (Change.Replace (baselineOf from to (east ∷ north ∷ up ∷ []) (ee ∷ en ∷ eu ∷ nn ∷ nu ∷ uu ∷ [])))) .bytes ⌝ }
 {
-    let r = baseline_of(from, to, east, north, up, ee, en, eu, nn, nu, uu);
+    let r = network::baseline_of(from, to, [east, north, up], [ee, en, eu, nn, nu, uu]);
     edit_bytes(book, Call::Edit(place, Change::Replace(r)))
 }
 
@@ -137,7 +95,7 @@ pub extern "C" fn dombrelat_replace_height(
     ensures { λ r. ⌜ r ≡ edit (now (book .entry)) (Call.Edit place (Change.Replace (heightOf from to up weight))) .answer ⌝ }
     ensures { λ _. ⌜ now (book .exit) ≡ edit (now (book .entry)) (Call.Edit place (Change.Replace (heightOf from to up weight))) .bytes ⌝ }
 {
-    let r = height_of(from, to, up, weight);
+    let r = network::height_of(from, to, up, weight);
     edit_bytes(book, Call::Edit(place, Change::Replace(r)))
 }
 

@@ -18,6 +18,7 @@ pub use opening::network_fits;
 pub use opening::network_of;
 pub use opening::open_no;
 pub use opening::opens;
+pub use record_codec::baseline_in;
 pub use record_codec::record_in;
 pub use record_codec::record_words;
 pub use records::acts_in;

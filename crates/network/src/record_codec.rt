@@ -16,7 +16,8 @@ impl Record {
     pub const LENGTH: usize = 14;
 }
 
-fn baseline_in(w: &[i64], at: usize) -> Record
+// The baseline whose numbers, from and to first, follow index at.
+pub fn baseline_in(w: &[i64], at: usize) -> Record
     requires { ⌜ at + 12 ≤ length (now w) ⌝ }
     ensures { λ r. ⌜ r ≡ recordOf 0 (now (w .entry)) at ⌝ }
 {

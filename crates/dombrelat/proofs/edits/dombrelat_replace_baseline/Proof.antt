@@ -1,9 +1,10 @@
 use mathlib.Core.Path.{_≡_, _∙_}
+use mathlib.Core.List.{[], _∷_}
 use mir.Syntax.{w64}
 use mir.Facts.{toZ-ofZ}
 use Rattle.book.specs.declared.Change.the-variants.{Replace}
 use Rattle.book.specs.declared.Call.the-variants.{Edit}
-use Rattle.dombrelat.specs.Calls.{baselineOf}
+use Rattle.network.specs.Records.{baselineOf}
 use Rattle.dombrelat.proofs.Lent.{answers-as}
 use borrow.Author.Needs.{needs, sfits-of}
 use Rattle.dombrelat.proofs.edits.dombrelat_replace_baseline.Statement.{statement}
@@ -23,7 +24,10 @@ returns c =
     let s = c .before .before .before .before .before .before in
     let p = c .before .before .edit-bytes in
     let r = c .before .before .before .before .baseline-of in
-    let made : r .result ≡ baselineOf (s .args .from) (s .args .to) (s .args .east) (s .args .north) (s .args .up) (s .args .ee) (s .args .en) (s .args .eu) (s .args .nn) (s .args .nu) (s .args .uu) = r .ensures ∙ (λ i. baselineOf (toZ-ofZ {w = w64} (s .fits .from) i) (toZ-ofZ {w = w64} (s .fits .to) i) (toZ-ofZ {w = w64} (s .fits .east) i) (toZ-ofZ {w = w64} (s .fits .north) i) (toZ-ofZ {w = w64} (s .fits .up) i) (toZ-ofZ {w = w64} (s .fits .ee) i) (toZ-ofZ {w = w64} (s .fits .en) i) (toZ-ofZ {w = w64} (s .fits .eu) i) (toZ-ofZ {w = w64} (s .fits .nn) i) (toZ-ofZ {w = w64} (s .fits .nu) i) (toZ-ofZ {w = w64} (s .fits .uu) i)) in
+    let made : r .result ≡ baselineOf (s .args .from) (s .args .to) (s .args .east ∷ s .args .north ∷ s .args .up ∷ []) (s .args .ee ∷ s .args .en ∷ s .args .eu ∷ s .args .nn ∷ s .args .nu ∷ s .args .uu ∷ []) =
+    r .ensures ∙ (λ i. baselineOf (toZ-ofZ {w = w64} (s .fits .from) i) (toZ-ofZ {w = w64} (s .fits .to) i)
+    (toZ-ofZ {w = w64} (s .fits .east) i ∷ toZ-ofZ {w = w64} (s .fits .north) i ∷ toZ-ofZ {w = w64} (s .fits .up) i ∷ [])
+    (toZ-ofZ {w = w64} (s .fits .ee) i ∷ toZ-ofZ {w = w64} (s .fits .en) i ∷ toZ-ofZ {w = w64} (s .fits .eu) i ∷ toZ-ofZ {w = w64} (s .fits .nn) i ∷ toZ-ofZ {w = w64} (s .fits .nu) i ∷ toZ-ofZ {w = w64} (s .fits .uu) i ∷ [])) in
     let w = answers-as (s .args .book .now) _ _ (λ i. Edit (toZ-ofZ {w = w64} (s .fits .place) i) (Replace (made i))) _ _ (p .ensures) in
     (toZ-ofZ {w = w64} {z = p .result} (sfits-of (p .ok)) ∙ w .0, w .1)
 

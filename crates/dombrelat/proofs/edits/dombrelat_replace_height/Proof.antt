@@ -3,7 +3,7 @@ use mir.Syntax.{w64}
 use mir.Facts.{toZ-ofZ}
 use Rattle.book.specs.declared.Change.the-variants.{Replace}
 use Rattle.book.specs.declared.Call.the-variants.{Edit}
-use Rattle.dombrelat.specs.Calls.{heightOf}
+use Rattle.network.specs.Records.{heightOf}
 use Rattle.dombrelat.proofs.Lent.{answers-as}
 use borrow.Author.Needs.{needs, sfits-of}
 use Rattle.dombrelat.proofs.edits.dombrelat_replace_height.Statement.{statement}
