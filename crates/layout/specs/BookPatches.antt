@@ -13,11 +13,11 @@ use Rattle.network.specs.declared.Place.{Place}
 use Rattle.network.specs.declared.Record.{Record}
 use Rattle.book.specs.declared.Reversal.{Reversal}
 use Rattle.book.specs.declared.Book.{Book}
-use Rattle.book.specs.Journal.{free}
+use Rattle.book.specs.Journal.{journalSize, free}
 use Rattle.book.specs.Sound.{Sized}
 use Rattle.words.specs.Concat.{concatBelow, length-concatBelow, concatBelow-ext}
 use Rattle.network.specs.RecordWords.{recordWords, recordLength}
-use Rattle.layout.specs.Layout.{reversalWords, countsPart, entriesPart, reversalLength, placesStart, countsStart, entriesStart, matrixStart, rightStart, bookBytes, slots}
+use Rattle.layout.specs.Layout.{reversalWords, countsPart, entriesPart, reversalLength, placesStart, countsStart, entriesStart, matrixStart, rightStart, bookBytes}
 use Rattle.network.specs.RecordWordLaws.{length-record}
 use Rattle.layout.specs.BookWords.{length-reversal, tail, toStations, toPlaces, toCounts, toEntries, length-toStations, length-toPlaces, length-toCounts, length-toEntries, at-places, at-counts, at-entries, at-matrix, at-right, length-book}
 use Rattle.layout.specs.Bytes.{putBook}
@@ -99,7 +99,7 @@ module _ (s : List ℕ) (room : bookBytes ≤ length s) (b : Book) (z : Sized b)
       (λ k d. ap (λ (q : Place). recordWords (q .entry)) (sym (getD-set-other (b .places) i k (record { entry = r }) vacant d))) h (length-toStations b z) fits
       ∙ ap (putWords s 0) (sym (at-places b′ z′))
 
-  pub put-slot : (k : ℕ) (u : Reversal) → k < slots → putWords (putBook s b) (8 * (entriesStart + k * reversalLength)) (reversalWords u) ≡ putBook s (withSlot b k u)
+  pub put-slot : (k : ℕ) (u : Reversal) → k < journalSize → putWords (putBook s b) (8 * (entriesStart + k * reversalLength)) (reversalWords u) ≡ putBook s (withSlot b k u)
   put-slot k u h =
       let b′ = withSlot b k u in
       let z′ : Sized b′ = record { places = z .places; entries = length-set (b .journal .entries) k _ ∙ z .entries; matrix = z .matrix; right = z .right } in
@@ -108,11 +108,11 @@ module _ (s : List ℕ) (room : bookBytes ≤ length s) (b : Book) (z : Sized b)
       let c : List ℤ = b .normals .matrix ++ b .normals .right in
       let long : k < length (b .journal .entries) = let e = z .entries in omega arith in
       let new : g k ≡ reversalWords u = ap reversalWords (getD-set-same (b .journal .entries) k u free long) in
-      let fits : 8 * (entriesStart + slots * reversalLength + length c) ≤ length s =
+      let fits : 8 * (entriesStart + journalSize * reversalLength + length c) ≤ length s =
       let l = length-book b z in let e = ap length (at-matrix b z) ∙ length-append (toEntries b z) c in let p = length-toEntries b z in omega arith in
       ap (λ (x : List ℤ). putWords (putWords s 0 x) (8 * (entriesStart + k * reversalLength)) (reversalWords u)) (at-entries b z)
-      ∙ ap (putWords (putWords s 0 (toCounts b z ++ (concatBelow slots f ++ c))) (8 * (entriesStart + k * reversalLength))) (sym new)
-      ∙ concatBelow-patch s (toCounts b z) c reversalLength slots k entriesStart f g (λ p. length-reversal _) (λ p. length-reversal _)
+      ∙ ap (putWords (putWords s 0 (toCounts b z ++ (concatBelow journalSize f ++ c))) (8 * (entriesStart + k * reversalLength))) (sym new)
+      ∙ concatBelow-patch s (toCounts b z) c reversalLength journalSize k entriesStart f g (λ p. length-reversal _) (λ p. length-reversal _)
       (λ j d. ap reversalWords (sym (getD-set-other (b .journal .entries) k j u free d))) h (length-toCounts b z) fits
       ∙ ap (putWords s 0) (sym (at-entries b′ z′))
 
@@ -145,7 +145,7 @@ module _ (s : List ℕ) (room : bookBytes ≤ length s) (b : Book) (z : Sized b)
       ∙ ap (putWords s 0) (ap (λ (x : List ℤ). (a ++ m) ++ x) (append-nil u) ∙ sym (at-right b′ z′))
 
 -- ════ all of them
-pub put-edit : (s : List ℕ) → bookBytes ≤ length s → (b : Book) → Sized b → (m v : List ℤ) → length m ≡ 2304 → length v ≡ 48 → (i : ℕ) (r : Record) (slot : ℕ) (u : Reversal) (next held : ℕ) → i < 256 → slot < slots
+pub put-edit : (s : List ℕ) → bookBytes ≤ length s → (b : Book) → Sized b → (m v : List ℤ) → length m ≡ 2304 → length v ≡ 48 → (i : ℕ) (r : Record) (slot : ℕ) (u : Reversal) (next held : ℕ) → i < 256 → slot < journalSize
     → (s₁ s₂ s₃ s₄ : List ℕ) → s₁ ≡ putBook s (withNormals b m v) → s₂ ≡ putWords s₁ (8 * (placesStart + i * recordLength)) (recordWords r) → s₃ ≡ putWords s₂ (8 * (entriesStart + slot * reversalLength)) (reversalWords u)
     → s₄ ≡ putWords s₃ (8 * countsStart) (signed next ∷ signed held ∷ [])
     → s₄ ≡ putBook s (withCounts (withSlot (withPlace (withNormals b m v) i r) slot u) next held)

@@ -14,13 +14,13 @@ use Rattle.network.specs.Records.{recordAt}
 use Rattle.network.specs.declared.Network.{Network}
 use Rattle.book.specs.declared.Reversal.{Reversal}
 use Rattle.book.specs.declared.Book.{Book}
-use Rattle.book.specs.Journal.{free}
+use Rattle.book.specs.Journal.{journalSize, free}
 use Rattle.book.specs.Sound.{Sized}
 use Rattle.words.specs.Concat.{length-concatBelow, concatBelow-between}
 use Rattle.network.specs.StationWords.{stationWords}
 use Rattle.network.specs.RecordWords.{recordWords, recordLength}
 use Rattle.network.specs.RecordWordLaws.{length-record}
-use Rattle.layout.specs.Layout.{stationPart, reversalWords, headWords, stationsPart, placesPart, countsPart, entriesPart, bookWords, slots, reversalLength, placesStart, countsStart, entriesStart, matrixStart, rightStart, bookLength, stationsStart}
+use Rattle.layout.specs.Layout.{stationPart, reversalWords, headWords, stationsPart, placesPart, countsPart, entriesPart, bookWords, reversalLength, placesStart, countsStart, entriesStart, matrixStart, rightStart, bookLength, stationsStart}
 
 -- ════ lengths
 pub length-reversal : (u : Reversal) → length (reversalWords u) ≡ reversalLength
@@ -47,8 +47,8 @@ module _ (b : Book) (z : Sized b) where
   pub length-places : length (placesPart b) ≡ 256 * recordLength
   length-places = length-concatBelow recordLength _ (λ p. length-record (recordAt (b .places) p)) 256
 
-  pub length-entries : length (entriesPart b) ≡ slots * reversalLength
-  length-entries = length-concatBelow reversalLength _ (λ k. length-reversal (getD (b .journal .entries) k free)) slots
+  pub length-entries : length (entriesPart b) ≡ journalSize * reversalLength
+  length-entries = length-concatBelow reversalLength _ (λ k. length-reversal (getD (b .journal .entries) k free)) journalSize
 
   -- what stands before each part
   abbrev pub toStations : List ℤ
@@ -133,10 +133,10 @@ module _ (b : Book) (z : Sized b) where
   pub held-word : word (countsStart + 1) ≡ signed (b .journal .held)
   held-word = behind toPlaces tail countsStart 1 at-counts length-toPlaces
 
-  pub slot-word : (k j : ℕ) → k < slots → j < reversalLength → word (entriesStart + k * reversalLength + j) ≡ getD (reversalWords (getD (b .journal .entries) k free)) j (pos 0)
+  pub slot-word : (k j : ℕ) → k < journalSize → j < reversalLength → word (entriesStart + k * reversalLength + j) ≡ getD (reversalWords (getD (b .journal .entries) k free)) j (pos 0)
   slot-word k j h l =
       ap (λ (x : List ℤ). getD x (entriesStart + k * reversalLength + j) (pos 0)) at-entries
-      ∙ concatBelow-between toCounts (b .normals .matrix ++ b .normals .right) reversalLength slots k j entriesStart _ (pos 0) (λ i. length-reversal (getD (b .journal .entries) i free)) length-toCounts h l
+      ∙ concatBelow-between toCounts (b .normals .matrix ++ b .normals .right) reversalLength journalSize k j entriesStart _ (pos 0) (λ i. length-reversal (getD (b .journal .entries) i free)) length-toCounts h l
 
   pub matrix-word : (k : ℕ) → k < 2304 → word (matrixStart + k) ≡ getD (b .normals .matrix) k (pos 0)
   matrix-word k h =

@@ -22,9 +22,9 @@ use Rattle.network.specs.declared.Place.{Place}
 use Rattle.network.specs.declared.Record.{Record}
 use Rattle.lists.specs.Same.{sameEntries}
 use Rattle.book.specs.declared.Reversal.{Reversal}
-use Rattle.book.specs.Journal.{free}
+use Rattle.book.specs.Journal.{journalSize, free}
 use Rattle.book.specs.Sound.{Sized}
-use Rattle.layout.specs.Layout.{stationPart, reversalWords, bookWords, reversalIn, networkIn, placeIn, bookIn, slots, reversalLength, placesStart, countsStart, entriesStart, matrixStart, rightStart, bookLength, stationsStart}
+use Rattle.layout.specs.Layout.{stationPart, reversalWords, bookWords, reversalIn, networkIn, placeIn, bookIn, reversalLength, placesStart, countsStart, entriesStart, matrixStart, rightStart, bookLength, stationsStart}
 use Rattle.layout.specs.BookWords.{head-word, count-word, station-word, place-word, next-word, held-word, slot-word, matrix-word, right-word}
 
 -- the words from index k on are those of the record that they give
@@ -40,7 +40,7 @@ partsLaid w =
     eqZ (getD w 0 (pos 0)) (pos 1)
     && allBelow 32 (stationLaid w)
     && allBelow 256 (λ p. recordLaid w (placesStart + p * recordLength))
-    && allBelow slots (λ k. recordLaid w (entriesStart + 1 + k * reversalLength))
+    && allBelow journalSize (λ k. recordLaid w (entriesStart + 1 + k * reversalLength))
 
 -- ════ the book that words give
 module _ (w : List ℤ) (long : length w ≡ bookLength) where
@@ -52,7 +52,7 @@ module _ (w : List ℤ) (long : length w ≡ bookLength) where
   sized-in =
       record {
         places = length-tabulate 256 _;
-        entries = length-tabulate slots _;
+        entries = length-tabulate journalSize _;
         matrix = length-take-le 2304 (drop matrixStart w) (omega (arith, length-left matrixStart));
         right = length-take-le 48 (drop rightStart w) (omega (arith, length-left rightStart));
       }
@@ -61,9 +61,9 @@ module _ (w : List ℤ) (long : length w ≡ bookLength) where
   unfolding bookIn
   record-in p h = ap (λ (q : Place). q .entry) (getD-tabulate 256 (placeIn w) p vacant h)
 
-  pub reversal-in : (k : ℕ) → k < slots → getD (bookIn w .journal .entries) k free ≡ reversalIn w (entriesStart + k * reversalLength)
+  pub reversal-in : (k : ℕ) → k < journalSize → getD (bookIn w .journal .entries) k free ≡ reversalIn w (entriesStart + k * reversalLength)
   unfolding bookIn
-  reversal-in k h = getD-tabulate slots (λ i. reversalIn w (entriesStart + i * reversalLength)) k free h
+  reversal-in k h = getD-tabulate journalSize (λ i. reversalIn w (entriesStart + i * reversalLength)) k free h
 
   -- ════ its words
   module _ (fits : (i : ℕ) → SFits w64 (getD w i (pos 0))) where
@@ -92,13 +92,13 @@ module _ (w : List ℤ) (long : length w ≡ bookLength) where
     place-new : (p j : ℕ) → p < 256 → j < recordLength → new (placesStart + p * recordLength + j) ≡ getD (recordWords (recordIn w (placesStart + p * recordLength))) j (pos 0)
     place-new p j h l = place-word (bookIn w) sized-in p j h l ∙ ap (λ (r : Record). getD (recordWords r) j (pos 0)) (record-in p h)
 
-    slot-first : (k : ℕ) → k < slots → getD w (entriesStart + k * reversalLength + 0) (pos 0) ≡ new (entriesStart + k * reversalLength + 0)
+    slot-first : (k : ℕ) → k < journalSize → getD w (entriesStart + k * reversalLength + 0) (pos 0) ≡ new (entriesStart + k * reversalLength + 0)
     unfolding reversalWords
     slot-first k h =
         let here : entriesStart + k * reversalLength + 0 ≡ entriesStart + k * reversalLength = omega arith in
         sym (slot-word (bookIn w) sized-in k 0 h (omega arith) ∙ ap (λ (u : Reversal). getD (reversalWords u) 0 (pos 0)) (reversal-in k h) ∙ kept (entriesStart + k * reversalLength) ∙ ap (λ (i : ℕ). getD w i (pos 0)) (sym here))
 
-    slot-new : (k j : ℕ) → k < slots → j < recordLength → new (entriesStart + 1 + k * reversalLength + j) ≡ getD (recordWords (recordIn w (entriesStart + 1 + k * reversalLength))) j (pos 0)
+    slot-new : (k j : ℕ) → k < journalSize → j < recordLength → new (entriesStart + 1 + k * reversalLength + j) ≡ getD (recordWords (recordIn w (entriesStart + 1 + k * reversalLength))) j (pos 0)
     unfolding reversalWords
     slot-new k j h l =
         let here : entriesStart + 1 + k * reversalLength + j ≡ entriesStart + k * reversalLength + suc j = omega arith in
@@ -130,14 +130,14 @@ module _ (w : List ℤ) (long : length w ≡ bookLength) where
         (eq-eqZ _ _ (at 0 (omega arith) ∙ head-word (bookIn w) sized-in))
         (all-by 32 _ (λ s h. all-by 4 _ (λ j l. eq-eqZ _ _ (at (stationsStart + s * 4 + j) (omega arith) ∙ station-new s j h l)))))
         (all-by 256 _ (λ p h. all-by recordLength _ (λ j l. eq-eqZ _ _ (at (placesStart + p * recordLength + j) (omega arith) ∙ place-new p j h l)))))
-        (all-by slots _ (λ k h. all-by recordLength _ (λ j l. eq-eqZ _ _ (at (entriesStart + 1 + k * reversalLength + j) (omega arith) ∙ slot-new k j h l))))
+        (all-by journalSize _ (λ k h. all-by recordLength _ (λ j l. eq-eqZ _ _ (at (entriesStart + 1 + k * reversalLength + j) (omega arith) ∙ slot-new k j h l))))
 
     back : partsLaid w ≡ true → Same ≡ true
     unfolding partsLaid stationLaid recordLaid
     back e =
         let stations = allBelow 32 (stationLaid w) in
         let places = allBelow 256 (λ p. recordLaid w (placesStart + p * recordLength)) in
-        let entries = allBelow slots (λ k. recordLaid w (entriesStart + 1 + k * reversalLength)) in
+        let entries = allBelow journalSize (λ k. recordLaid w (entriesStart + 1 + k * reversalLength)) in
         let first = eqZ (getD w 0 (pos 0)) (pos 1) in
         let three : first && stations && places ≡ true = and-left (first && stations && places) entries e in
         let two : first && stations ≡ true = and-left (first && stations) places three in
@@ -145,20 +145,20 @@ module _ (w : List ℤ) (long : length w ≡ bookLength) where
         λ s j h l. eqZ-true _ _ (all-at 4 _ j (all-at 32 _ s (and-right first stations two) h) l) ∙ sym (station-new s j h l) in
         let place : (p j : ℕ) → p < 256 → j < recordLength → getD w (placesStart + p * recordLength + j) (pos 0) ≡ new (placesStart + p * recordLength + j) =
         λ p j h l. eqZ-true _ _ (all-at recordLength _ j (all-at 256 _ p (and-right (first && stations) places three) h) l) ∙ sym (place-new p j h l) in
-        let slot : (k j : ℕ) → k < slots → j < recordLength → getD w (entriesStart + 1 + k * reversalLength + j) (pos 0) ≡ new (entriesStart + 1 + k * reversalLength + j) =
-        λ k j h l. eqZ-true _ _ (all-at recordLength _ j (all-at slots _ k (and-right (first && stations && places) entries e) h) l) ∙ sym (slot-new k j h l) in
+        let slot : (k j : ℕ) → k < journalSize → j < recordLength → getD w (entriesStart + 1 + k * reversalLength + j) (pos 0) ≡ new (entriesStart + 1 + k * reversalLength + j) =
+        λ k j h l. eqZ-true _ _ (all-at recordLength _ j (all-at journalSize _ k (and-right (first && stations && places) entries e) h) l) ∙ sym (slot-new k j h l) in
         let head : getD w 0 (pos 0) ≡ new 0 = eqZ-true _ _ (and-left first stations two) ∙ sym (head-word (bookIn w) sized-in) in
         all-by bookLength (λ k. eqZ (getD w k (pos 0)) (new k)) (λ k h. eq-eqZ _ _ (word k h head station place slot))
       where
         word : (k : ℕ) → k < bookLength → getD w 0 (pos 0) ≡ new 0 → ((s j : ℕ) → s < 32 → j < 4 → getD w (stationsStart + s * 4 + j) (pos 0) ≡ new (stationsStart + s * 4 + j))
             → ((p j : ℕ) → p < 256 → j < recordLength → getD w (placesStart + p * recordLength + j) (pos 0) ≡ new (placesStart + p * recordLength + j))
-            → ((i j : ℕ) → i < slots → j < recordLength → getD w (entriesStart + 1 + i * reversalLength + j) (pos 0) ≡ new (entriesStart + 1 + i * reversalLength + j)) → getD w k (pos 0) ≡ new k
+            → ((i j : ℕ) → i < journalSize → j < recordLength → getD w (entriesStart + 1 + i * reversalLength + j) (pos 0) ≡ new (entriesStart + 1 + i * reversalLength + j)) → getD w k (pos 0) ≡ new k
         word k h head station place slot = go (decLt k 1) (decLt k stationsStart) (decLt k placesStart) (decLt k countsStart) (decLt k (countsStart + 1)) (decLt k entriesStart) (decLt k matrixStart) (decLt k rightStart)
           where
             moved : (i : ℕ) → i ≡ k → getD w i (pos 0) ≡ new i → getD w k (pos 0) ≡ new k
             moved i e q = subst (λ (m : ℕ). getD w m (pos 0) ≡ new m) e q
 
-            inSlot : (i j : ℕ) → entriesStart + i * reversalLength + j ≡ k → i < slots → j < reversalLength → Dec (j < 1) → getD w k (pos 0) ≡ new k
+            inSlot : (i j : ℕ) → entriesStart + i * reversalLength + j ≡ k → i < journalSize → j < reversalLength → Dec (j < 1) → getD w k (pos 0) ≡ new k
             inSlot i j e a b (yes z) = moved (entriesStart + i * reversalLength + 0) (omega arith) (slot-first i a)
             inSlot i j e a b (no z) = moved (entriesStart + 1 + i * reversalLength + (j - 1)) (omega arith) (slot i (j - 1) a (omega arith))
 

@@ -18,14 +18,11 @@ use Rattle.normals.specs.declared.Normals.{Normals}
 use Rattle.book.specs.declared.Reversal.{Reversal}
 use Rattle.book.specs.declared.Journal.{Journal}
 use Rattle.book.specs.declared.Book.{Book}
-use Rattle.book.specs.Journal.{free}
+use Rattle.book.specs.Journal.{journalSize, free}
 use Rattle.words.specs.Concat.{concatBelow}
 
 -- ════ where each part begins, counted in words from 0, and the lengths
--- slots of the journal, and the words of each: the place, and the record to restore
-abbrev pub slots : ℕ
-slots = 64
-
+-- the words of a slot of the journal: the place, and the record to restore
 abbrev pub reversalLength : ℕ
 reversalLength = 1 + recordLength
 
@@ -45,7 +42,7 @@ entriesStart = countsStart + 2
 
 -- N, then u
 abbrev pub matrixStart : ℕ
-matrixStart = entriesStart + slots * reversalLength
+matrixStart = entriesStart + journalSize * reversalLength
 
 abbrev pub rightStart : ℕ
 rightStart = matrixStart + 48 * 48
@@ -85,7 +82,7 @@ abbrev pub countsPart : Book → List ℤ
 countsPart b = signed (b .journal .next) ∷ signed (b .journal .held) ∷ []
 
 abbrev pub entriesPart : Book → List ℤ
-entriesPart b = concatBelow slots (λ k. reversalWords (getD (b .journal .entries) k free))
+entriesPart b = concatBelow journalSize (λ k. reversalWords (getD (b .journal .entries) k free))
 
 unfoldable pub bookWords : Book → List ℤ
 bookWords b = headWords b ++ (stationsPart b ++ (placesPart b ++ (countsPart b ++ (entriesPart b ++ (b .normals .matrix ++ b .normals .right)))))
@@ -108,7 +105,7 @@ abbrev pub placesIn : List ℤ → List Place
 placesIn w = tabulate 256 (placeIn w)
 
 abbrev pub entriesIn : List ℤ → List Reversal
-entriesIn w = tabulate slots (λ k. reversalIn w (entriesStart + k * reversalLength))
+entriesIn w = tabulate journalSize (λ k. reversalIn w (entriesStart + k * reversalLength))
 
 abbrev pub journalIn : List ℤ → Journal
 journalIn w = record { entries = entriesIn w; next = countIn w countsStart; held = countIn w (countsStart + 1) }

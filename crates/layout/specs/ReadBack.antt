@@ -29,14 +29,14 @@ use Rattle.network.specs.declared.Record.{Record}
 use Rattle.normals.specs.declared.Normals.{Normals}
 use Rattle.book.specs.declared.Reversal.{Reversal}
 use Rattle.book.specs.declared.Book.{Book}
-use Rattle.book.specs.Journal.{free, isFree, before, entriesBefore}
+use Rattle.book.specs.Journal.{journalSize, age, free, isFree, before, entriesBefore}
 use Rattle.book.specs.Book.{undoable}
 use Rattle.book.specs.Sound.{Sized, Sound, Undoes, undoable-first}
 use Rattle.words.specs.Concat.{concatBelow-at}
 use Rattle.layout.specs.BookWords.{length-station, toEntries, length-toEntries, length-toMatrix, at-matrix, at-right, place-word, next-word, held-word, slot-word, stations-part}
 use Rattle.network.specs.StationWords.{stationWords, kind-back}
 use Rattle.network.specs.RecordWordLaws.{record-back}
-use Rattle.layout.specs.Layout.{stationPart, reversalWords, stationsPart, bookWords, reversalIn, networkIn, placeIn, placesIn, entriesIn, journalIn, normalsIn, bookIn, reversalLength, placesStart, countsStart, entriesStart, matrixStart, rightStart, slots}
+use Rattle.layout.specs.Layout.{stationPart, reversalWords, stationsPart, bookWords, reversalIn, networkIn, placeIn, placesIn, entriesIn, journalIn, normalsIn, bookIn, reversalLength, placesStart, countsStart, entriesStart, matrixStart, rightStart}
 
 -- ════ a reversal
 reversal-back : (w : List ℤ) (at : ℕ) (u : Reversal) → ((j : ℕ) → j < reversalLength → getD w (at + j) (pos 0) ≡ getD (reversalWords u) j (pos 0)) → u .place < 2 ^ 64 → reversalIn w at ≡ u
@@ -53,7 +53,7 @@ pub record Restores (net : Network) (u : Reversal) : Type 0 where
   pub inside : u .place < 256
   pub fits : recordFits net (u .prior) ≡ true
 
-held-restores : (net : Network) (entries : List Reversal) (n slot t : ℕ) (at : ℕ → Record) → slot < slots → t < slots → (slot + 63 - t) % slots < n
+held-restores : (net : Network) (entries : List Reversal) (n slot t : ℕ) (at : ℕ → Record) → slot < journalSize → t < journalSize → age slot t < n
     → undoable net at (entriesBefore entries slot n) ≡ true → Restores net (getD entries t free)
 unfolding entriesBefore
 held-restores net entries zero slot t at s h l e = absurd (omega arith)
@@ -74,10 +74,10 @@ free-restores net u e =
       fits = ap (recordFits net) (empty-is (u .prior) (and-right (eqb (u .place) 0) (isEmpty (u .prior)) e)) ∙ fits-empty net;
     }
 
-pub entry-restores : (b : Book) → Sound b → (k : ℕ) → k < slots → Restores (b .network) (getD (b .journal .entries) k free)
-entry-restores b o k h = go (decLt ((b .journal .next + 63 - k) % slots) (b .journal .held))
+pub entry-restores : (b : Book) → Sound b → (k : ℕ) → k < journalSize → Restores (b .network) (getD (b .journal .entries) k free)
+entry-restores b o k h = go (decLt (age (b .journal .next) k) (b .journal .held))
   where
-    go : Dec ((b .journal .next + 63 - k) % slots < b .journal .held) → Restores (b .network) (getD (b .journal .entries) k free)
+    go : Dec (age (b .journal .next) k < b .journal .held) → Restores (b .network) (getD (b .journal .entries) k free)
     go (yes l) = held-restores (b .network) (b .journal .entries) (b .journal .held) (b .journal .next) k (recordAt (b .places)) (o .journal .next) h l (o .undoes)
     go (no l) = free-restores (b .network) _ (o .journal .blank k h (omega arith))
 
@@ -176,7 +176,7 @@ module _ (b : Book) (o : Sound b) (long : length (b .network .stations) ≡ 32) 
 
   entries-back : entriesIn w ≡ b .journal .entries
   entries-back =
-      sym (is-tabulate slots (λ k. reversalIn w (entriesStart + k * reversalLength)) (b .journal .entries) free (o .entries)
+      sym (is-tabulate journalSize (λ k. reversalIn w (entriesStart + k * reversalLength)) (b .journal .entries) free (o .entries)
       (λ k h. sym (reversal-back w (entriesStart + k * reversalLength) (getD (b .journal .entries) k free)
       (λ j l. slot-word b sized k j h l)
       (let q = entry-restores b o k h .inside in omega arith))))

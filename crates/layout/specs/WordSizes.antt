@@ -32,12 +32,12 @@ use Rattle.normals.specs.Sizes.{N-entry, u-entry}
 use Rattle.normals.specs.Sound as normals
 use Rattle.book.specs.declared.Reversal.{Reversal}
 use Rattle.book.specs.declared.Book.{Book}
-use Rattle.book.specs.Journal.{free}
+use Rattle.book.specs.Journal.{journalSize, free}
 use Rattle.book.specs.Sound.{Sound}
 use Rattle.words.specs.Concat.{concatBelow}
 use Rattle.network.specs.StationWords.{kindWord, stationWords}
 use Rattle.network.specs.RecordWords.{recordWords}
-use Rattle.layout.specs.Layout.{stationPart, reversalWords, stationsPart, placesPart, countsPart, entriesPart, bookWords, slots}
+use Rattle.layout.specs.Layout.{stationPart, reversalWords, stationsPart, placesPart, countsPart, entriesPart, bookWords}
 use Rattle.layout.specs.ReadBack.{Restores, entry-restores}
 
 -- the largest of the limits: that of u
@@ -141,7 +141,7 @@ module _ (b : Book) (o : Sound b) where
       let held = o .journal .held in
       let one : 1 ≤ L = omega arith in
       let tail : Small L (entriesPart b ++ (b .normals .matrix ++ b .normals .right)) =
-      small-append (entriesPart b) _ (small-concatBelow slots _ (λ k h. reversal-small (b .network) (o .network) (getD (b .journal .entries) k free) (entry-restores b o k h)))
+      small-append (entriesPart b) _ (small-concatBelow journalSize _ (λ k h. reversal-small (b .network) (o .network) (getD (b .journal .entries) k free) (entry-restores b o k h)))
       (small-append (b .normals .matrix) (b .normals .right) matrix-small right-small) in
       let counts : Small L (countsPart b ++ (entriesPart b ++ (b .normals .matrix ++ b .normals .right))) =
       (count-small (b .journal .next) (omega arith), (count-small (b .journal .held) (omega arith), tail)) in (

@@ -2,6 +2,7 @@
 use super::offsets::Layout;
 use super::reading;
 use super::writing::station_part;
+use book::Journal;
 use network::Record;
 use network::Unit;
 use normals::Normals;
@@ -70,7 +71,7 @@ fn laid_out(s: &[u8]) -> bool
     words::same(first, 1)
         & stations_laid(s)
         & records_laid(s, Layout::PLACES_START, Record::LENGTH, Unit::PLACES)
-        & records_laid(s, prior, Layout::REVERSAL_LENGTH, Layout::SLOTS)
+        & records_laid(s, prior, Layout::REVERSAL_LENGTH, Journal::SIZE)
 }
 
 // Bytes long enough for a book pass the rest of what 25 tests.

@@ -1,4 +1,5 @@
 // Where each part of a book begins, counted in words from 0, and the lengths. Layout.antt has the same names, docs/BOOK.md the same table.
+use book::Journal;
 use network::Record;
 use network::Unit;
 use normals::Normals;
@@ -6,9 +7,7 @@ use normals::Normals;
 pub struct Layout {}
 
 impl Layout {
-    // Slots of the journal, and the words of each: the place, and the record to restore.
-    pub const SLOTS: usize = 64;
-
+    // The words of a slot of the journal: the place, and the record to restore.
     pub const REVERSAL_LENGTH: usize = 1 + Record::LENGTH;
 
     // The station list follows the layout's number and the station count: 4 words a station.
@@ -20,7 +19,7 @@ impl Layout {
 
     pub const ENTRIES_START: usize = Layout::COUNTS_START + 2;
     // N, then u.
-    pub const MATRIX_START: usize = Layout::ENTRIES_START + Layout::SLOTS * Layout::REVERSAL_LENGTH;
+    pub const MATRIX_START: usize = Layout::ENTRIES_START + Journal::SIZE * Layout::REVERSAL_LENGTH;
 
     pub const RIGHT_START: usize = Layout::MATRIX_START + Normals::ENTRIES;
 

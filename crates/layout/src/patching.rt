@@ -9,8 +9,8 @@ ghost use mathlib.Core.Bool.{true};
 ghost use Prim.Native.Nat.{_<_};
 ghost use lib.ListN.{set};
 ghost use Rattle.network.specs.Rules.{recordFits};
+ghost use Rattle.book.specs.Journal.{journalSize};
 ghost use Rattle.book.specs.Book.{withEntry, withRecord};
-ghost use Rattle.layout.specs.Layout.{slots};
 ghost use Rattle.layout.specs.Bytes.{bookOf, putBook, bytesFit};
 ghost use Rattle.layout.specs.BookPatches.{withNormals};
 
@@ -29,7 +29,7 @@ fn exchange(s: &mut [u8], i: usize, r: Record)
 
 // The book's core edit: r at place i, N and u with it, u in a slot of the journal, and its counters.
 pub fn put(s: &mut [u8], i: usize, r: Record, slot: usize, u: Reversal, next: usize, held: usize)
-    requires { ⌜ (bytesFit (now s) ≡ true) × (i < 256) × (recordFits (bookOf (now s) .network) r ≡ true) × (slot < slots) ⌝ }
+    requires { ⌜ (bytesFit (now s) ≡ true) × (i < 256) × (recordFits (bookOf (now s) .network) r ≡ true) × (slot < journalSize) ⌝ }
     ensures { λ _. ⌜ now (s .exit) ≡ putBook (now (s .entry)) (withEntry (bookOf (now (s .entry))) i r (record { entries = set (bookOf (now (s .entry)) .journal .entries) slot u; next = next; held = held })) ⌝ }
 {
     exchange(s, i, r);

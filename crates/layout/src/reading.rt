@@ -14,8 +14,8 @@ ghost use lib.ListN.{getD, length, take, drop};
 ghost use Rattle.words.specs.Runs.{wordsAt};
 ghost use Rattle.network.specs.Records.{recordAt};
 ghost use Rattle.network.specs.RecordWords as words;
-ghost use Rattle.book.specs.Journal.{free};
-ghost use Rattle.layout.specs.Layout.{countIn, placesIn, entriesIn, journalIn, slots, stationsStart, bookLength, bookBytes};
+ghost use Rattle.book.specs.Journal.{journalSize, free};
+ghost use Rattle.layout.specs.Layout.{countIn, placesIn, entriesIn, journalIn, stationsStart, bookLength, bookBytes};
 ghost use Rattle.layout.specs.Bytes.{wordsOf, bookOf};
 
 // Word k.
@@ -117,7 +117,7 @@ pub fn places_in(s: &[u8]) -> [Place; 256]
 
 // What slot k of the journal holds.
 pub fn slot_in(s: &[u8], k: usize) -> Reversal
-    requires { ⌜ (bookBytes ≤ length (now s)) × (k < slots) ⌝ }
+    requires { ⌜ (bookBytes ≤ length (now s)) × (k < journalSize) ⌝ }
     ensures { λ r. ⌜ r ≡ getD (bookOf (now (s .entry)) .journal .entries) k free ⌝ }
 {
     let at = Layout::ENTRIES_START + k * Layout::REVERSAL_LENGTH;
@@ -126,7 +126,7 @@ pub fn slot_in(s: &[u8], k: usize) -> Reversal
     Reversal { place, prior }
 }
 
-fn entries_in(s: &[u8]) -> [Reversal; Layout::SLOTS]
+fn entries_in(s: &[u8]) -> [Reversal; Journal::SIZE]
     requires { ⌜ bookBytes ≤ length (now s) ⌝ }
     ensures { λ r. ⌜ r ≡ entriesIn (wordsOf (now (s .entry))) ⌝ }
 {
@@ -135,9 +135,9 @@ fn entries_in(s: &[u8]) -> [Reversal; Layout::SLOTS]
         place: 0,
         prior: none,
     };
-    let mut entries = [free; Layout::SLOTS];
+    let mut entries = [free; Journal::SIZE];
     let mut k: usize = 0;
-    while k < Layout::SLOTS {
+    while k < Journal::SIZE {
         let u = slot_in(s, k);
         entries[k] = u;
         k += 1;

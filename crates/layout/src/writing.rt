@@ -1,6 +1,7 @@
 // The words of a book put into bytes: each function puts one part where it stands.
 use super::offsets::Layout;
 use book::Book;
+use book::Journal;
 use book::Reversal;
 use network::Network;
 use network::Place;
@@ -18,10 +19,10 @@ ghost use Rattle.words.specs.Signed.{signed};
 ghost use Rattle.words.specs.Runs.{putWords};
 ghost use Rattle.network.specs.Records.{recordAt};
 ghost use Rattle.network.specs.RecordWords.{recordWords, recordLength};
-ghost use Rattle.book.specs.Journal.{free};
+ghost use Rattle.book.specs.Journal.{journalSize, free};
 ghost use Rattle.words.specs.Concat.{concatBelow};
 ghost use Rattle.network.specs.StationWords.{stationWords};
-ghost use Rattle.layout.specs.Layout.{stationPart, reversalWords, slots, reversalLength, stationsStart, placesStart, countsStart, entriesStart, matrixStart, rightStart, bookLength, bookBytes};
+ghost use Rattle.layout.specs.Layout.{stationPart, reversalWords, reversalLength, stationsStart, placesStart, countsStart, entriesStart, matrixStart, rightStart, bookLength, bookBytes};
 ghost use Rattle.layout.specs.Bytes.{putBook};
 
 // The words of station k, which is x, of a list of `count`: 0 beyond it.
@@ -89,12 +90,12 @@ pub fn put_reversal(s: &mut [u8], k: usize, u: Reversal)
     put_record(s, k + 1, r);
 }
 
-fn put_entries(s: &mut [u8], entries: [Reversal; Layout::SLOTS])
+fn put_entries(s: &mut [u8], entries: [Reversal; Journal::SIZE])
     requires { ⌜ bookBytes ≤ length (now s) ⌝ }
-    ensures { λ _. ⌜ now (s .exit) ≡ putWords (now (s .entry)) (8 * entriesStart) (concatBelow slots (λ k. reversalWords (getD entries k free))) ⌝ }
+    ensures { λ _. ⌜ now (s .exit) ≡ putWords (now (s .entry)) (8 * entriesStart) (concatBelow journalSize (λ k. reversalWords (getD entries k free))) ⌝ }
 {
     let mut k: usize = 0;
-    while k < Layout::SLOTS {
+    while k < Journal::SIZE {
         let u = entries[k];
         put_reversal(s, Layout::ENTRIES_START + k * Layout::REVERSAL_LENGTH, u);
         k += 1;

@@ -5,8 +5,8 @@ use native.Mathlib.Omega.{arith}
 use lib.ListN.{length, getD}
 use Rattle.words.specs.Runs.{putWords}
 use Rattle.words.specs.Concat.{concatBelow}
-use Rattle.book.specs.Journal.{free}
-use Rattle.layout.specs.Layout.{reversalWords, slots, entriesStart, reversalLength}
+use Rattle.book.specs.Journal.{journalSize, free}
+use Rattle.layout.specs.Layout.{reversalWords, entriesStart, reversalLength}
 use Rattle.layout.specs.BookWords.{length-reversal}
 use Rattle.layout.proofs.Parts.{parts-none, parts-more}
 use borrow.Author.Needs.{needs}
@@ -14,10 +14,10 @@ use Rattle.layout.proofs.writing.put_entries.Statement.{statement}
 use Rattle.layout.proofs.writing.put_entries.Tie as tie
 
 abbrev Inv-loop : tie.InvT-loop
-Inv-loop s₀ entries k₀ s k = (s ≡ putWords s₀ (8 * entriesStart) (concatBelow k (λ q. reversalWords (getD entries q free)))) × (length s ≡ length s₀) × (k ≤ slots)
+Inv-loop s₀ entries k₀ s k = (s ≡ putWords s₀ (8 * entriesStart) (concatBelow k (λ q. reversalWords (getD entries q free)))) × (length s ≡ length s₀) × (k ≤ journalSize)
 
 abbrev μ-loop : tie.MeasureT-loop
-μ-loop s₀ entries k₀ s k = slots - k
+μ-loop s₀ entries k₀ s k = journalSize - k
 
 loop-holds : tie.Need-loop-holds Inv-loop μ-loop
 loop-holds c = (parts-none _ (8 * entriesStart) _, refl, omega arith)
@@ -57,7 +57,7 @@ same-length : tie.Need-same-length Inv-loop μ-loop
 same-length c = search needs
 
 returns : tie.Need-returns Inv-loop μ-loop
-returns c = let e : c .before .loop .k ≡ slots = omega arith in rw e at (c .before .loop .inv .0)
+returns c = let e : c .before .loop .k ≡ journalSize = omega arith in rw e at (c .before .loop .inv .0)
 
 pub put-entries-spec : {M : Type 1} → statement M
 put-entries-spec =
