@@ -1,16 +1,14 @@
 -- A row by the number of its first word, and what the code has shown of its answer. Assumes nothing.
-use Prim.Native.Nat.{ℕ, zero, suc, _≤_}
-use mathlib.Core.Path.{_≡_, refl, sym, ap, _∙_, subst}
+use Prim.Native.Nat.{ℕ, zero, suc}
+use mathlib.Core.Path.{_≡_, refl, ap, _∙_}
 use mathlib.Core.Bool.{true}
 use lib.IntN.{ℤ, pos, negsuc}
-use Rattle.network.specs.Records.{recordAt}
 use Rattle.network.specs.declared.Record.{Record}
 use Rattle.book.specs.declared.Book.{Book}
 use Rattle.book.specs.declared.Edited.{Edited}
 use Rattle.book.specs.declared.Answered.{Answered}
 use Rattle.book.specs.declared.Call.{Call}
 use Rattle.book.specs.declared.Row.the-variants.{Names, Nameless}
-use Rattle.book.specs.CallLaws.{call-small}
 use Rattle.book.specs.Book.{outcome, sound}
 use Rattle.book.specs.Rows.{rowNext, rowSays, rowOf}
 use Rattle.book.specs.Replay.{Answers}
@@ -28,9 +26,6 @@ other-row (suc (suc (suc zero))) p r w x y z = absurd (z refl)
 other-row (suc (suc (suc (suc k)))) p r w x y z = refl
 
 -- ════ the answer
-pub refusal-small : (b : Book) (c : Call) (e : Edited) → (e ≡ outcome b c) × (sound (e .book) ≡ true) → e .refusal ≤ 9
-refusal-small b c e w = subst (λ (x : Edited). x .refusal ≤ 9) (sym (w .0)) (call-small (b .network) (recordAt (b .places)) (b .journal .held) c)
-
 pub call-answered : (b : Book) (c : Call) (e : Edited) (a : Answered) → (e ≡ outcome b c) × (sound (e .book) ≡ true) → (a .answer ≡ pos (e .refusal)) × (a .book ≡ e .book)
     → Answers b (Names c) a
 unfolding rowSays rowNext

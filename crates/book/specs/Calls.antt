@@ -1,4 +1,4 @@
--- The calls that edit a book, and the numbers of document 01's table for them. One table, by which the book and the ledger are both judged:
+-- The numbers of document 01's table for the calls that src/lib.rt declares. One table, by which the book and the ledger are both judged:
 -- it goes by the station list, the record at each place (counted from 0), and the number of edits that can be taken back. Assumes nothing.
 use Prim.Native.Nat.{ℕ, zero, suc}
 use mathlib.Core.Bool.{cond}

@@ -3,7 +3,7 @@
 --   openedBook, bookNext, bookSays   specs/Book.antt     the book's calls: what their contracts promise
 --   nothing, ledgerNext, ledgerSays  specs/Ledger.antt   the ledger; standing: its record at a place; ledgerNormals: its N and u, worked out afresh
 --   final, answers                   specs/Run.antt      the state after a run, and the answers along it
---   Names, Nameless                  specs/Rows.antt     a row is a call, or words that name none: answered −1, and nothing changes
+--   rowNext, rowSays                 specs/Rows.antt     a row is a call (Names), or words that name none (Nameless): answered −1, and nothing changes
 use Prim.Native.Nat.{ℕ, _<_, _≤_}
 use mathlib.Core.Path.{_≡_}
 use mathlib.Core.Bool.{true}

@@ -1,6 +1,5 @@
--- Calls in rows of 14 words: the call (1 add, 2 replace, 3 strike, 4 undo), the place, the record's kind (1 baseline, 2 height difference, any
--- other: Empty), from, to, three observed differences (E, N, U), six weights (EE, EN, EU, NN, NU, UU). A height difference has the U and UU words;
--- words that a call does not use are not looked at. A row whose first word is none of 1 to 4 names no call. Assumes nothing.
+-- Calls in rows of 14 words: the call (1 add, 2 replace, 3 strike, 4 undo), the place, and the 12 words of a record (network, specs/RecordWords.antt).
+-- Words that a call does not use are not looked at. A row whose first word is none of 1 to 4 names no call. Assumes nothing.
 use Prim.Native.Nat.{ℕ, zero, suc, _+_, _*_}
 use mathlib.Core.List.{List}
 use lib.IntN.{ℤ, pos, negsuc}

@@ -1,5 +1,5 @@
 -- Every edit and undo of a sound book leaves a sound book. Assumes nothing.
-use Prim.Native.Nat.{ℕ, zero, suc, _<_}
+use Prim.Native.Nat.{ℕ, zero, suc, _-_, _<_, _≤_}
 use mathlib.Core.Path.{_≡_, refl, sym, ap, _∙_, subst}
 use mathlib.Core.Bool.{Bool, true, false, not, _&&_}
 use mathlib.Core.List.{List, [], _∷_}
@@ -15,17 +15,18 @@ use Rattle.network.specs.declared.Place.{Place}
 use Rattle.network.specs.declared.Record.{Record}
 use Rattle.book.specs.declared.Reversal.{Reversal}
 use Rattle.book.specs.declared.Book.{Book}
+use Rattle.book.specs.declared.Edited.{Edited}
 use Rattle.book.specs.declared.Change.{Change}
 use Rattle.book.specs.declared.Change.the-variants.{Add, Replace, Strike}
 use Rattle.book.specs.declared.Call.{Call}
 use Rattle.book.specs.declared.Call.the-variants.{Edit, Undo}
 use Rattle.book.specs.Calls.{placeOf, first, placeNo, changeNo, callNo, changed, puts}
 use Rattle.book.specs.Journal.{journalSize, reversals, popped, latest}
-use Rattle.book.specs.Book.{edited, undone, bookAccepts, bookSays, bookNext, undoable}
+use Rattle.book.specs.Book.{edited, undone, bookAccepts, bookSays, bookNext, outcome, undoable}
 use Rattle.network.specs.RuleLaws.{fits-empty, accepted-fits, accepted-filled}
 use Rattle.book.specs.PlaceLaws.{changed-same, changed-ext, changed-each, changed-back, record-set}
 use Rattle.book.specs.JournalLaws.{reversals-push, reversals-pop, tidy-pushed, tidy-popped}
-use Rattle.book.specs.CallLaws.{first-zero, place-inside, empty-is, undo-some, unless-either}
+use Rattle.book.specs.CallLaws.{first-zero, place-inside, empty-is, undo-some, unless-either, call-small}
 use Rattle.book.specs.Sound.{Sound, Undoes, undoable-first, first-undoable}
 
 -- ════ an edit that is not refused
@@ -52,6 +53,10 @@ module _ (b : Book) (p : ℕ) (inside : p < 256) where
 pub enters-edit : (b : Book) (p : ℤ) (c : Change) (i : ℕ) (r : Record) → i ≡ placeOf p → r ≡ puts c → bookSays b (Edit p c) ≡ 0 → Enters b i r
 unfolding callNo
 enters-edit b p c i r at is e = let x = first-zero (placeNo p) _ e in rw (at, is) (enters-change b (placeOf p) (place-inside p (x .0)) c (x .1))
+
+-- ════ no call on a book is answered with a number above 9
+pub refusal-small : (b : Book) (c : Call) (e : Edited) → e ≡ outcome b c → e .refusal ≤ 9
+refusal-small b c e w = subst (λ (x : Edited). x .refusal ≤ 9) (sym w) (call-small (b .network) (recordAt (b .places)) (b .journal .held) c)
 
 -- ════ the journal's reversals over the same records, and fewer of them
 pub undoable-ext : (net : Network) (f g : ℕ → Record) (h : List Reversal) → ((k : ℕ) → f k ≡ g k) → undoable net f h ≡ undoable net g h

@@ -9,7 +9,6 @@ use network::Record;
 ghost use mathlib.Core.Path.{_≡_};
 ghost use mathlib.Core.Bool.{true};
 ghost use Prim.Native.Nat.{_+_, _*_, _≤_, min};
-ghost use lib.IntN.{pos};
 ghost use lib.ListN.{length};
 ghost use Rattle.book.specs.Book.{sound};
 ghost use Rattle.book.specs.Rows.{rowOf, rowIn};

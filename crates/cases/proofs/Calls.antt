@@ -1,6 +1,6 @@
 -- The book's calls one after the other. Assumes nothing.
 use Prim.Native.Nat.{ℕ, suc, _+_, _≤_, _<_}
-use mathlib.Core.Path.{_≡_, sym, ap, _∙_, subst}
+use mathlib.Core.Path.{_≡_, sym, ap, _∙_}
 use mathlib.Core.Bool.{Bool, true, cond}
 use mathlib.Core.List.{List, []}
 use native.Mathlib.Numerals.{add-one}
@@ -8,7 +8,6 @@ use native.Mathlib.Omega.{arith}
 use lib.ListN.{length, take, getD}
 use lib.IntN.{ℤ, pos}
 use Rattle.network.specs.Stations.{networkOf, opens}
-use Rattle.network.specs.Records.{recordAt}
 use Rattle.book.specs.declared.Book.{Book}
 use Rattle.book.specs.declared.Edited.{Edited}
 use Rattle.book.specs.Run.{final, answers, final-suc, answer-at}
@@ -16,7 +15,6 @@ use Rattle.book.specs.declared.Row.{Row}
 use Rattle.book.specs.declared.Row.the-variants.{Names, Nameless}
 use Rattle.book.specs.declared.Call.{Call}
 use Rattle.book.specs.Rows.{rowNext, rowSays}
-use Rattle.book.specs.CallLaws.{call-small}
 use Rattle.book.specs.Book.{openedBook, opening, outcome, bookSays, bookNext, sound}
 
 -- ════ an opening that is not refused
@@ -25,13 +23,9 @@ opened-book list e o t =
     ap (λ (x : Edited). x .book) o
     ∙ ap (λ (b : Bool). cond {A = Edited} b (record { refusal = 0; book = openedBook (networkOf list) }) (record { refusal = 1; book = openedBook (networkOf []) }) .book) t
 
--- ════ a call that a number stands for
 -- a number that is at least k and is not k
 pub above : (k c : ℕ) → k ≤ c → (c ≡ k → ⊥) → suc k ≤ c
 above k c h n = omega (arith, n)
-
-pub refusal-small : (b : Book) (c : Call) (e : Edited) → (e ≡ outcome b c) × (sound (e .book) ≡ true) → e .refusal ≤ 9
-refusal-small b c e w = subst (λ (x : Edited). x .refusal ≤ 9) (sym (w .0)) (call-small (b .network) (recordAt (b .places)) (b .journal .held) c)
 
 -- ════ one row more, where the state t is that after the first k
 abbrev pub after : Book → List Row → Book

@@ -52,7 +52,7 @@ use Rattle.layout.specs.CodecLaws.{read-sized, read-stations, fits-sound}
 use Rattle.lent_checks.specs.LentChecks.{allWords}
 use Rattle.dombrelat.specs.Calls.{Returned, settled, edit, opens}
 use Rattle.dombrelat.specs.Reading.{numbered, gives, listWords, stationsCall, recordCall}
-use Rattle.dombrelat.specs.Demand3.{bytesNext, bytesSays, bytesAfter}
+use Rattle.dombrelat.specs.Demand3.{bytesNext, bytesAfter}
 use Rattle.dombrelat.specs.Demand3Holds.{edited-next, opened-after}
 
 -- ════ the words of a station list

@@ -4,7 +4,7 @@ use mathlib.Core.Bool.{Bool, true, false, cond}
 use mathlib.Core.List.{List, [], _∷_, _++_}
 use lib.Dec.{eqb, leb}
 use lib.ListN.{length}
-use lib.IntN.{ℤ, pos}
+use lib.IntN.{ℤ}
 use Rattle.network.specs.StationWords.{stationWords}
 use Rattle.network.specs.declared.Station as station
 use Rattle.book.specs.declared.Book.{Book}

@@ -17,9 +17,10 @@ use Rattle.book.specs.Run.{final-zero, answers, length-answers}
 use Rattle.book.specs.Book.{bookNext, bookSays, sound}
 use Rattle.book.specs.Rows.{rowNext, rowSays}
 use Rattle.book.specs.declared.Row.the-variants.{Names, Nameless}
+use Rattle.book.specs.SoundLaws.{refusal-small}
 use Rattle.book.specs.ReplayLaws.{filled, unfilled}
 use Rattle.cases.specs.Script.{numbers, callAt, rowsFrom}
-use Rattle.cases.proofs.Calls.{refusal-small, after, said, turn-says, turn-next}
+use Rattle.cases.proofs.Calls.{after, said, turn-says, turn-next}
 use Rattle.cases.proofs.make_calls.Statement.{statement}
 use Rattle.cases.proofs.make_calls.Tie as tie
 
@@ -58,7 +59,7 @@ apply-requires : tie.Need-apply-requires Inv-loop μ-loop
 apply-requires c κs = c .before .before .loop .inv .3
 
 answer-of-requires : tie.Need-answer-of-requires Inv-loop μ-loop
-answer-of-requires c κs = refusal-small (c .before .before .before .loop .state) _ _ (c .apply .ensures)
+answer-of-requires c κs = refusal-small (c .before .before .before .loop .state) _ _ (c .apply .ensures .0)
 
 mul-answer : tie.Need-mul-answer Inv-loop μ-loop
 mul-answer c = search needs

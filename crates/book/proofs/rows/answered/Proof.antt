@@ -4,13 +4,14 @@ use mathlib.Core.Path.{refl}
 use native.Mathlib.Omega.{arith}
 use mir.Syntax.{w64}
 use mir.Facts.{toZ-ofZ}
-use Rattle.book.proofs.RowCases.{refusal-small, call-answered}
+use Rattle.book.specs.SoundLaws.{refusal-small}
+use Rattle.book.proofs.RowCases.{call-answered}
 use borrow.Author.Needs.{needs}
 use Rattle.book.proofs.rows.answered.Statement.{statement}
 use Rattle.book.proofs.rows.answered.Tie as tie
 
 small : (a : tie.After-apply) → a .apply .result .refusal < 2 ^ 63
-small a = let n : a .apply .result .refusal ≤ 9 = refusal-small (a .before .args .book) (a .before .args .call) _ (a .apply .ensures) in omega arith
+small a = let n : a .apply .result .refusal ≤ 9 = refusal-small (a .before .args .book) (a .before .args .call) _ (a .apply .ensures .0) in omega arith
 
 apply-requires : tie.Need-apply-requires
 apply-requires c κs = search needs
