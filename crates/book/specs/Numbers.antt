@@ -1,40 +1,39 @@
--- The number of an edit, from what the code of a call has at hand: the station list, the edit, and what its place holds. The other records matter
--- to 9 alone, which never comes, so the number is the same over any records by the rules. Assumes nothing.
+-- The number of an edit, from what the code of a call has at hand: the station list, the edit, and what its place holds. 9 is left out, since on a
+-- sound book it never comes. Assumes nothing.
 use Prim.Native.Nat.{ℕ}
-use mathlib.Core.Path.{_≡_, refl, ap, _∙_}
+use mathlib.Core.Path.{_≡_, refl}
 use mathlib.Core.Bool.{true}
 use lib.IntN.{ℤ}
+use Rattle.words.specs.Signed.{indexIn}
 use Rattle.network.specs.Stations.{networkFits}
+use Rattle.network.specs.Records.{recordAt}
 use Rattle.network.specs.Rules.{recordNo, recordFits}
 use Rattle.network.specs.declared.Network.{Network}
 use Rattle.network.specs.declared.Record.{Record}
+use Rattle.book.specs.declared.Book.{Book}
 use Rattle.book.specs.declared.Change.{Change}
 use Rattle.book.specs.declared.Change.the-variants.{Add, Replace, Strike}
 use Rattle.book.specs.declared.Call.the-variants.{Edit}
 use Rattle.book.specs.Calls.{placeOf, first, placeNo, filledNo, emptyNo, changeNo, callNo}
+use Rattle.book.specs.Book.{bookSays}
+use Rattle.book.specs.Sound.{Sound}
 use Rattle.book.specs.SizeLaws.{untested}
 
--- n is the number of a change to a place that holds `held`
-abbrev pub ChangeNumber : Network → Change → Record → ℕ → Type 0
-ChangeNumber net c held n = (at : ℕ → Record) (p : ℕ) → held ≡ at p → ((k : ℕ) → recordFits net (at k) ≡ true) → n ≡ changeNo net at p c
+-- the number of a change to a place that holds q, 9 left out
+unfoldable pub heldNo : Network → Record → Change → ℕ
+heldNo net q (Add r) = first (recordNo net r) (filledNo q)
+heldNo net q (Replace r) = first (recordNo net r) (emptyNo q)
+heldNo net q Strike = emptyNo q
 
--- n is the number of an edit whose place holds `held`
-abbrev pub EditNumber : Network → ℤ → Change → Record → ℕ → Type 0
-EditNumber net p c held n = (at : ℕ → Record) (count : ℕ) → held ≡ at (placeOf p) → ((k : ℕ) → recordFits net (at k) ≡ true) → n ≡ callNo net at count (Edit p c)
+-- over records by the rules it is that of the table
+pub held-number : (net : Network) (at : ℕ → Record) → networkFits net ≡ true → ((k : ℕ) → recordFits net (at k) ≡ true) → (p : ℕ) (c : Change) → heldNo net (at p) c ≡ changeNo net at p c
+unfolding heldNo changeNo
+held-number net at g each p (Add r) = untested net at g each p r _ _ refl
+held-number net at g each p (Replace r) = untested net at g each p r _ _ refl
+held-number net at g each p Strike = refl
 
-module _ (net : Network) (g : networkFits net ≡ true) (held : Record) (n : ℕ) where
-  pub add-number : (r : Record) → n ≡ first (recordNo net r) (filledNo held) → ChangeNumber net (Add r) held n
-  unfolding changeNo
-  add-number r e at p h each = e ∙ ap (λ (q : Record). first (recordNo net r) (filledNo q)) h ∙ untested net at g each p r _ _ refl
-
-  pub replace-number : (r : Record) → n ≡ first (recordNo net r) (emptyNo held) → ChangeNumber net (Replace r) held n
-  unfolding changeNo
-  replace-number r e at p h each = e ∙ ap (λ (q : Record). first (recordNo net r) (emptyNo q)) h ∙ untested net at g each p r _ _ refl
-
-  pub strike-number : n ≡ emptyNo held → ChangeNumber net Strike held n
-  unfolding changeNo
-  strike-number e at p h each = e ∙ ap emptyNo h
-
-pub edit-number : (net : Network) (p p′ : ℤ) (c : Change) (held : Record) (n m : ℕ) → p′ ≡ p → m ≡ first (placeNo p′) n → ChangeNumber net c held n → EditNumber net p c held m
+-- so the code's number, of its own list, place, index and record, is the book's
+pub edit-number : (b : Book) → Sound b → (net : Network) (p p′ : ℤ) (c : Change) (i n : ℕ) (held : Record) → net ≡ b .network → p′ ≡ p → i ≡ indexIn p′ 256 → held ≡ recordAt (b .places) i
+    → n ≡ first (placeNo p′) (heldNo net held c) → n ≡ bookSays b (Edit p c)
 unfolding callNo
-edit-number net p p′ c held n m same e number at count h each = cc (number at (placeOf p) h each)
+edit-number b o net p p′ c i n held is same at holds e = cc (held-number (b .network) (recordAt (b .places)) (o .network) (o .records) (placeOf p) c)

@@ -4,10 +4,11 @@ use network::Network;
 use network::Record;
 ghost use mathlib.Core.Path.{_≡_};
 ghost use mathlib.Core.Bool.{true};
-ghost use Rattle.network.specs.Stations.{networkFits};
+ghost use Prim.Native.Nat.{_≤_};
+ghost use Rattle.network.specs.Stations.{coordinatesFit};
 ghost use Rattle.network.specs.Rules.{recordNo};
 ghost use Rattle.book.specs.Calls.{first, placeNo, filledNo, emptyNo, puts};
-ghost use Rattle.book.specs.Numbers.{ChangeNumber, EditNumber};
+ghost use Rattle.book.specs.Numbers.{heldNo};
 
 fn first_no(a: u64, b: u64) -> u64
     ensures { λ n. ⌜ n ≡ first a b ⌝ }
@@ -35,7 +36,7 @@ fn empty_no(r: Record) -> u64
 
 // Of a record that an edit gives: the number of its rules, then that of what its place holds.
 fn entry_no(net: Network, r: Record, holds: u64) -> u64
-    requires { ⌜ networkFits net ≡ true ⌝ }
+    requires { ⌜ (net .count ≤ 32) × (coordinatesFit (net .stations) ≡ true) ⌝ }
     ensures { λ n. ⌜ n ≡ first (recordNo net r) holds ⌝ }
 {
     let rules = network::record_no(net, r);
@@ -44,8 +45,8 @@ fn entry_no(net: Network, r: Record, holds: u64) -> u64
 
 // Of a change to a place that holds this.
 fn change_no(net: Network, change: Change, held: Record) -> u64
-    requires { ⌜ networkFits net ≡ true ⌝ }
-    ensures { λ n. ⌜ ChangeNumber net change held n ⌝ }
+    requires { ⌜ (net .count ≤ 32) × (coordinatesFit (net .stations) ≡ true) ⌝ }
+    ensures { λ n. ⌜ n ≡ heldNo net held change ⌝ }
 {
     let filled = filled_no(held);
     let empty = empty_no(held);
@@ -58,8 +59,8 @@ fn change_no(net: Network, change: Change, held: Record) -> u64
 
 // Of an edit whose place holds this.
 pub fn edit_no(net: Network, place: i64, change: Change, held: Record) -> u64
-    requires { ⌜ networkFits net ≡ true ⌝ }
-    ensures { λ n. ⌜ EditNumber net place change held n ⌝ }
+    requires { ⌜ (net .count ≤ 32) × (coordinatesFit (net .stations) ≡ true) ⌝ }
+    ensures { λ n. ⌜ n ≡ first (placeNo place) (heldNo net held change) ⌝ }
 {
     let n = change_no(net, change, held);
     let p = place_no(place);

@@ -8,34 +8,27 @@ use lib.IntN.{ℤ}
 use Rattle.words.specs.SignedLaws.{index-test}
 use Rattle.network.specs.Stations.{networkFits}
 use Rattle.network.specs.Records.{recordAt}
-use Rattle.network.specs.Rules.{inList, recordNo}
+use Rattle.network.specs.Rules.{inList}
 use Rattle.network.specs.declared.Network.{Network}
 use Rattle.network.specs.declared.Record.{Record}
 use Rattle.book.specs.declared.Book.{Book}
-use Rattle.book.specs.declared.Change.{Change}
-use Rattle.book.specs.declared.Change.the-variants.{Add, Replace, Strike}
 use Rattle.book.specs.declared.Call.{Call}
 use Rattle.book.specs.declared.Call.the-variants.{Edit, Undo}
 use Rattle.book.specs.declared.Row.{Row}
 use Rattle.book.specs.declared.Row.the-variants.{Names, Nameless}
-use Rattle.book.specs.Calls.{placeOf, placesOf, first, placeNo, filledNo, emptyNo, undoNo, callNo, unless}
+use Rattle.book.specs.Calls.{placeOf, placesOf, first, placeNo, undoNo, callNo, unless}
 use Rattle.book.specs.Run.{final, answers, Alike, run-answers, run-final}
 use Rattle.book.specs.Rows.{rowNext, rowSays}
 use Rattle.book.specs.Book.{openedBook, bookNext, bookSays}
 use Rattle.book.specs.Ledger.{Ledger, nothing, standing, accepted, ledgerSays}
-use Rattle.book.specs.Numbers.{ChangeNumber, add-number, replace-number, strike-number}
+use Rattle.book.specs.Numbers.{heldNo, held-number}
 use Rattle.book.specs.Follows.{Follows, says, follows-next, follows-opened}
 use Rattle.book.specs.PlaceLaws.{is-placesOf}
 use Rattle.book.specs.Demand3.{bookAfter, bookAnswers}
 
--- the number of a change to a place that holds q, and of a call on a ledger, 9 left out
-unfoldable pub briefChange : Network → Record → Change → ℕ
-briefChange net q (Add r) = first (recordNo net r) (filledNo q)
-briefChange net q (Replace r) = first (recordNo net r) (emptyNo q)
-briefChange net q Strike = emptyNo q
-
+-- the number of a call on a ledger, 9 left out
 unfoldable pub briefNo : Network → Ledger → Call → ℕ
-briefNo net l (Edit p c) = first (placeNo p) (briefChange net (standing (l .edits) (placeOf p)) c)
+briefNo net l (Edit p c) = first (placeNo p) (heldNo net (standing (l .edits) (placeOf p)) c)
 briefNo net l Undo = undoNo (l .count)
 
 abbrev pub briefNext : Network → Ledger → Call → Ledger
@@ -56,21 +49,14 @@ judged f g same h p = go (inList 256 p) refl
     go true e = ap h (same (placeOf p) (ltb-true _ _ (index-test p 256 ∙ e)))
     go false e = refl
 
-brief-number : (net : Network) → networkFits net ≡ true → (q : Record) (c : Change) → ChangeNumber net c q (briefChange net q c)
-unfolding briefChange
-brief-number net g q (Add r) = add-number net g q _ r refl
-brief-number net g q (Replace r) = replace-number net g q _ r refl
-brief-number net g q Strike = strike-number net g q _ refl
-
 module _ (net : Network) (b : Book) (l : Ledger) (o : Follows net b l) where
   brief-says : (c : Call) → bookSays b c ≡ briefNo net l c
   unfolding briefNo callNo
   brief-says (Edit p c) =
       let at = recordAt (b .places) in
-      let q = at (placeOf p) in
-      ap (first (placeNo p)) (sym (brief-number (b .network) (o .sound .network) q c at (placeOf p) refl (o .sound .records)))
-      ∙ ap (λ (n : Network). first (placeNo p) (briefChange n q c)) (o .network)
-      ∙ judged at (standing (l .edits)) (o .holds) (λ x. briefChange net x c) p
+      ap (first (placeNo p)) (sym (held-number (b .network) at (o .sound .network) (o .sound .records) (placeOf p) c))
+      ∙ ap (λ (n : Network). first (placeNo p) (heldNo n (at (placeOf p)) c)) (o .network)
+      ∙ judged at (standing (l .edits)) (o .holds) (λ q. heldNo net q c) p
   brief-says Undo = says net b l o Undo
 
   brief-next : (c : Call) → Follows net (bookNext b c) (briefNext net l c)

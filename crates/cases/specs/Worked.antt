@@ -27,6 +27,7 @@ use Rattle.acceptance.specs.Tests.{lengthsFit, correctionsSmall, inverseSmall, 
 use Rattle.acceptance.specs.Judge.{numberOf, unknownOf, judge, judgeNumbers}
 use Rattle.acceptance.specs.Exactly.{answer}
 use Rattle.book.specs.Calls.{placesOf, first, placeNo, filledNo, emptyNo, undoNo, puts, unless}
+use Rattle.book.specs.Numbers.{heldNo}
 use Rattle.book.specs.Run.{final, answers}
 use Rattle.book.specs.Rows.{rowNext, rowSays}
 use Rattle.book.specs.Ledger.{standing, accepted}
@@ -36,7 +37,7 @@ use Rattle.sheet.specs.Sheet.{stationWords, verdictAt, recordWords, stationLine
 use Rattle.checks.specs.Checks.{onAcceptance}
 use Rattle.cases.specs.Table.{Case, stationList, table}
 use Rattle.cases.specs.Cases.{filled, rowsOf, xOf, mOf, refinedAt, enough}
-use Rattle.cases.specs.Brief.{briefChange, briefNo, briefAfter, briefAnswers}
+use Rattle.cases.specs.Brief.{briefNo, briefAfter, briefAnswers}
 
 -- ════ a case worked out on the ledger's records
 pub record Outcome : Type 0 where
@@ -87,9 +88,9 @@ unfolding opens stationList wholeStations kindsFit coordinatesFit unknownsFit al
 list-opens = refl
 
 pub all-places : map (placesIn network) table ≡ map (λ c. filled (c .records)) table
-unfolding filled network table final rowNext briefNo briefChange puts first placeNo filledNo emptyNo undoNo recordNo recordNoOver endsFit baselineInRange weightsInRange heightInRange minorsPositive adjugateFits matrixFits misclosureFits misclosures misclosureIn observed acts actsOf misclosureAt fromOf toOf indexIn tabulate coordinate coordinateIn allBelow standing accepted unless isEmpty observations
+unfolding filled network table final rowNext briefNo heldNo puts first placeNo filledNo emptyNo undoNo recordNo recordNoOver endsFit baselineInRange weightsInRange heightInRange minorsPositive adjugateFits matrixFits misclosureFits misclosures misclosureIn observed acts actsOf misclosureAt fromOf toOf indexIn tabulate coordinate coordinateIn allBelow standing accepted unless isEmpty observations
 all-places = refl
 
 pub all-worked : map (λ c. workedOn network (filled (c .records)) c) table ≡ map expected table
-unfolding workedOn filled expected network table final answers rowNext rowSays briefNo briefChange puts first placeNo filledNo emptyNo undoNo recordNo recordNoOver endsFit baselineInRange weightsInRange heightInRange minorsPositive adjugateFits matrixFits misclosureFits misclosures misclosureIn observed acts actsOf misclosureAt fromOf toOf indexIn tabulate coordinate coordinateIn allBelow standing accepted unless isEmpty answer sum sumN entryN shareN entryU shareU A isUnknown unknown unknownIn number joins weights judge judgeNumbers lengthsFit correctionsSmall inverseSmall defectSmall residualSmall refinementSmall allTied isTied tiedSet edge firstUntied firstFailing search pass join setOf setBit digit workedOut onAcceptance room wordsOf stationWords verdictAt recordWords stationLines recordLines globalWords sheetWords verdictWord localVerdict globalVerdict chiSquare correction adjusted covariance residual unknownAtEnd inAdjustment weightedSquares shareT T observations shareD isRecord recordCount D observationVariance differenceVariance residualVariance adjugate
+unfolding workedOn filled expected network table final answers rowNext rowSays briefNo heldNo puts first placeNo filledNo emptyNo undoNo recordNo recordNoOver endsFit baselineInRange weightsInRange heightInRange minorsPositive adjugateFits matrixFits misclosureFits misclosures misclosureIn observed acts actsOf misclosureAt fromOf toOf indexIn tabulate coordinate coordinateIn allBelow standing accepted unless isEmpty answer sum sumN entryN shareN entryU shareU A isUnknown unknown unknownIn number joins weights judge judgeNumbers lengthsFit correctionsSmall inverseSmall defectSmall residualSmall refinementSmall allTied isTied tiedSet edge firstUntied firstFailing search pass join setOf setBit digit workedOut onAcceptance room wordsOf stationWords verdictAt recordWords stationLines recordLines globalWords sheetWords verdictWord localVerdict globalVerdict chiSquare correction adjusted covariance residual unknownAtEnd inAdjustment weightedSquares shareT T observations shareD isRecord recordCount D observationVariance differenceVariance residualVariance adjugate
 all-worked = refl

@@ -5,9 +5,8 @@ use mathlib.Core.Bool.{true}
 use mathlib.Core.List.{List}
 use lib.ListN.{getD, set}
 use lib.IntN.{ℤ, pos}
-use Rattle.words.specs.Signed.{indexIn}
 use Rattle.network.specs.Records.{recordAt}
-use Rattle.network.specs.Stations.{networkFits, coordinatesFit}
+use Rattle.network.specs.Stations.{coordinatesFit}
 use Rattle.network.specs.RuleLaws.{network-few, network-coordinates}
 use Rattle.network.specs.declared.Network.{Network}
 use Rattle.network.specs.declared.Record.{Record}
@@ -20,7 +19,6 @@ use Rattle.book.specs.declared.Call.the-variants as call
 use Rattle.book.specs.Calls.{placeOf, puts, undoNo, callNo, unless}
 use Rattle.book.specs.CallLaws.{call-small}
 use Rattle.book.specs.SoundLaws.{Enters, enters-edit}
-use Rattle.book.specs.Numbers.{EditNumber}
 use Rattle.book.specs.Book.{withEntry, edited, undone, bookAccepts, bookSays, outcome}
 use Rattle.layout.specs.Bytes.{bookOf, putBook, bytesFit}
 use Rattle.layout.specs.CodecLaws.{fits-sound}
@@ -76,20 +74,12 @@ module _ (s : List ℕ) (fit : bytesFit s ≡ true) where
   undo-done zero t e z h = absurd (z refl)
   undo-done (suc held) t e z h = changed call.Undo 0 (pos 0) t (ap undoNo e) refl h
 
--- ════ what the code of an edit has at hand: the station list, the place's index, what the place holds, the number, and the record
+-- ════ what the code of an edit has at hand: the station list, the number, the place's index, and the record
 module _ (s : List ℕ) (fit : bytesFit s ≡ true) where
-  pub network-fits : (net : Network) → net ≡ bookOf s .network → networkFits net ≡ true
-  network-fits net is = ap networkFits is ∙ fits-sound s fit .network
-
   pub network-ready : (net : Network) → net ≡ bookOf s .network → (net .count ≤ 32) × (coordinatesFit (net .stations) ≡ true)
-  network-ready net is = let g = network-fits net is in (network-few net g, network-coordinates net g)
-
-  pub number-is : (net : Network) (p p′ : ℤ) (c : Change) (i : ℕ) (held : Record) (n : ℕ) → net ≡ bookOf s .network → p′ ≡ p → i ≡ indexIn p′ 256 → held ≡ recordAt (bookOf s .places) i
-      → EditNumber net p′ c held n → n ≡ bookSays (bookOf s) (call.Edit p c)
-  number-is net p p′ c i held n is same at holds number =
-      let b = bookOf s in
-      subst (λ (x : Network). EditNumber x p′ c held n) is number (recordAt (b .places)) (b .journal .held) (holds ∙ ap (recordAt (b .places)) at) (fits-sound s fit .records)
-      ∙ ap (λ (z : ℤ). bookSays b (call.Edit z c)) same
+  network-ready net is =
+      let g = fits-sound s fit .network in
+      subst (λ (x : Network). (x .count ≤ 32) × (coordinatesFit (x .stations) ≡ true)) (sym is) (network-few _ g, network-coordinates _ g)
 
   pub settle-ready : (p : ℤ) (c : Change) (n i : ℕ) (r : Record) → n ≡ bookSays (bookOf s) (call.Edit p c) → i ≡ placeOf p → r ≡ puts c
       → (bytesFit s ≡ true) × (n ≤ 9) × (n ≡ 0 → Enters (bookOf s) i r)

@@ -1,16 +1,17 @@
 -- `Book::edit` meets its contract. Assumes nothing.
-use mathlib.Core.Path.{_≡_, sym, ap, _∙_}
+use mathlib.Core.Path.{_≡_, refl, sym, ap, _∙_}
 use mir.Syntax.{w64}
 use mir.Facts.{toZ-ofZ}
 use lib.IntN.{ℤ}
 use Rattle.words.specs.Signed.{indexIn}
 use Rattle.lists.specs.Filling.{length-mapped}
-use Rattle.network.specs.Records.{recordAt}
+use Rattle.network.specs.RuleLaws.{network-few, network-coordinates}
 use Rattle.book.specs.declared.Call.the-variants.{Edit}
 use Rattle.book.specs.Calls.{placeOf}
 use Rattle.book.specs.Book.{bookSays}
 use Rattle.book.specs.Sound.{Sound, sound-parts}
 use Rattle.book.specs.SoundLaws.{enters-edit}
+use Rattle.book.specs.Numbers.{edit-number}
 use Rattle.book.proofs.Done.{edit-done}
 use borrow.Author.Needs.{needs}
 use Rattle.book.proofs.Book.edit.Statement.{statement}
@@ -29,9 +30,8 @@ at-place c = c .before .before .before .index-in .ensures ∙ ap (λ (z : ℤ). 
 number : (c : tie.After-puts-of) → c .before .edit-no .result ≡ bookSays (start c .args .self) (Edit (start c .args .place) (start c .args .change))
 number c =
     let s = start c in
-    let b = s .args .self in
-    c .before .edit-no .ensures (recordAt (b .places)) (b .journal .held) (c .before .before .record-at .ensures ∙ ap (recordAt (b .places)) (c .before .before .before .index-in .ensures)) (sound-self s .records)
-    ∙ ap (λ (p : ℤ). bookSays b (Edit p (s .args .change))) (toZ-ofZ {w = w64} (s .fits .place))
+    let i = c .before .before .before in
+    edit-number (s .args .self) (sound-self s) _ (s .args .place) _ (s .args .change) _ _ _ refl (toZ-ofZ {w = w64} (s .fits .place)) (i .index-in .ensures) (c .before .before .record-at .ensures) (c .before .edit-no .ensures)
 
 index-in-requires : tie.Need-index-in-requires
 index-in-requires c κs = search needs
@@ -40,7 +40,7 @@ record-at-requires : tie.Need-record-at-requires
 record-at-requires c κs = search needs
 
 edit-no-requires : tie.Need-edit-no-requires
-edit-no-requires c κs = sound-self (c .before .before .before) .network
+edit-no-requires c κs = let g = sound-self (c .before .before .before) .network in (network-few _ g, network-coordinates _ g)
 
 puts-of-requires : tie.Need-puts-of-requires
 puts-of-requires c κs = search needs

@@ -1,10 +1,6 @@
 -- `refusals::edit_no` meets its contract. Assumes nothing.
-use Prim.Native.Nat.{ℕ}
-use mathlib.Core.Path.{ap, _∙_}
 use mir.Syntax.{w64}
 use mir.Facts.{toZ-ofZ}
-use Rattle.book.specs.Calls.{first}
-use Rattle.book.specs.Numbers.{edit-number}
 use borrow.Author.Needs.{needs}
 use Rattle.book.proofs.refusals.edit_no.Statement.{statement}
 use Rattle.book.proofs.refusals.edit_no.Tie as tie
@@ -19,7 +15,7 @@ first-no-requires : tie.Need-first-no-requires
 first-no-requires c κs = search needs
 
 returns : tie.Need-returns
-returns c = let s = c .before .before .before in edit-number _ _ _ _ _ _ _ (toZ-ofZ {w = w64} (s .fits .place)) (c .first-no .ensures ∙ ap (λ (n : ℕ). first n (c .before .before .change-no .result)) (c .before .place-no .ensures)) (c .before .before .change-no .ensures)
+returns c = cc (toZ-ofZ {w = w64} (c .before .before .before .fits .place))
 
 pub edit-no-spec : {M : Type 1} → statement M
 edit-no-spec = tie.close (tie.spec change-no-requires place-no-requires first-no-requires returns)

@@ -1,14 +1,13 @@
 -- `refusals::entry_no` meets its contract. Assumes nothing.
 use Prim.Native.Nat.{ℕ}
 use mathlib.Core.Path.{ap, _∙_}
-use Rattle.network.specs.RuleLaws.{network-few, network-coordinates}
 use Rattle.book.specs.Calls.{first}
 use borrow.Author.Needs.{needs}
 use Rattle.book.proofs.refusals.entry_no.Statement.{statement}
 use Rattle.book.proofs.refusals.entry_no.Tie as tie
 
 record-no-requires : tie.Need-record-no-requires
-record-no-requires c κs = let g = c .pre in (network-few _ g, network-coordinates _ g)
+record-no-requires c κs = search needs
 
 first-no-requires : tie.Need-first-no-requires
 first-no-requires c κs = search needs

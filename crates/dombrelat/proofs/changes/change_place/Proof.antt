@@ -9,9 +9,10 @@ use Rattle.words.specs.Signed.{indexIn}
 use Rattle.book.specs.declared.Call.the-variants.{Edit}
 use Rattle.book.specs.Calls.{placeOf}
 use Rattle.book.specs.Book.{bookSays}
+use Rattle.book.specs.Numbers.{edit-number}
 use Rattle.layout.specs.Bytes.{bookOf}
-use Rattle.layout.specs.CodecLaws.{fits-room}
-use Rattle.dombrelat.proofs.Changed.{network-fits, number-is, settle-ready, edit-changed}
+use Rattle.layout.specs.CodecLaws.{fits-room, fits-sound}
+use Rattle.dombrelat.proofs.Changed.{network-ready, settle-ready, edit-changed}
 use borrow.Author.Needs.{needs, sfits-of}
 use Rattle.dombrelat.proofs.changes.change_place.Statement.{statement}
 use Rattle.dombrelat.proofs.changes.change_place.Tie as tie
@@ -31,7 +32,8 @@ number c =
     let s = start c in
     let e = c .before in
     let i = e .before .before .before in
-    number-is (s .args .s .now) (s .pre) _ (s .args .place) _ (s .args .change) _ _ _ (i .before .network-in .ensures) (toZ-ofZ {w = w64} (s .fits .place)) (i .index-in .ensures) (e .before .record-in .ensures) (e .edit-no .ensures)
+    let t = s .args .s .now in
+    edit-number (bookOf t) (fits-sound t (s .pre)) _ (s .args .place) _ (s .args .change) _ _ _ (i .before .network-in .ensures) (toZ-ofZ {w = w64} (s .fits .place)) (i .index-in .ensures) (e .before .record-in .ensures) (e .edit-no .ensures)
 
 network-in-requires : tie.Need-network-in-requires
 network-in-requires c κs = room (c .before .before)
@@ -46,7 +48,7 @@ edit-no-requires : tie.Need-edit-no-requires
 edit-no-requires c κs =
     let n = c .before .before .before in
     let s = n .before .before .before in
-    network-fits (s .args .s .now) (s .pre) _ (n .network-in .ensures)
+    network-ready (s .args .s .now) (s .pre) _ (n .network-in .ensures)
 
 puts-of-requires : tie.Need-puts-of-requires
 puts-of-requires c κs = search needs
