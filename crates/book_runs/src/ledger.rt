@@ -98,39 +98,10 @@ fn at_most(n: usize, limit: usize) -> usize
     if n < limit { n } else { limit }
 }
 
-// A record in words.
-fn words_of(r: Record) -> [i64; 12] {
-    match r {
-        Record::Empty => [0, 0, 0, 0, 0, 0, 0, 0, 0, 0, 0, 0],
-        Record::Baseline(b) => [
-            1,
-            b.from,
-            b.to,
-            b.east,
-            b.north,
-            b.up,
-            b.ee,
-            b.en,
-            b.eu,
-            b.nn,
-            b.nu,
-            b.uu,
-        ],
-        Record::Height(h) => [2, h.from, h.to, 0, 0, h.up, 0, 0, 0, 0, 0, h.weight],
-    }
-}
-
 fn same_record(r: Record, s: Record) -> bool {
-    let a = words_of(r);
-    let b = words_of(s);
-    let mut i = 0;
-    while i < 12 {
-        if !words::same(a[i], b[i]) {
-            return false;
-        }
-        i += 1;
-    }
-    true
+    let a = network::record_words(r);
+    let b = network::record_words(s);
+    lists::same_entries(&a, &b)
 }
 
 pub(crate) fn same_places(a: [Place; 256], b: [Place; 256]) -> bool {
