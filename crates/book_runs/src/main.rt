@@ -7,7 +7,8 @@ ghost use mathlib.Core.Path.{_≡_};
 ghost use mathlib.Core.Bool.{true};
 ghost use Rattle.book.specs.Book.{sound};
 use book::Book;
-use book::Edited;
+use book::Call;
+use book::Change;
 use ledger::Ledger;
 use network::Record;
 
@@ -49,24 +50,13 @@ impl Tally {
 }
 
 // Calls by number: 0 add, 1 replace, 2 strike, any other undo.
-fn call(book: Book, kind: usize, place: i64, entry: Record) -> Edited
-    requires { ⌜ sound book ≡ true ⌝ }
-    ensures { λ e. ⌜ sound (e .book) ≡ true ⌝ }
-{
-    if kind == 0 {
-        let e = book.add(place, entry);
-        return e;
+fn call_of(kind: usize, place: i64, entry: Record) -> Call {
+    match kind {
+        0 => Call::Edit(place, Change::Add(entry)),
+        1 => Call::Edit(place, Change::Replace(entry)),
+        2 => Call::Edit(place, Change::Strike),
+        _ => Call::Undo,
     }
-    if kind == 1 {
-        let e = book.replace(place, entry);
-        return e;
-    }
-    if kind == 2 {
-        let e = book.strike(place);
-        return e;
-    }
-    let e = book.undo();
-    e
 }
 
 // The book is sound, and its records are those of the ledger.
@@ -98,7 +88,8 @@ fn step(side: Side) -> Side
     let kind = samples::kind(s);
     let place = samples::place(t);
     let entry = samples::entry(random);
-    let e = call(before, kind, place, entry);
+    let c = call_of(kind, place, entry);
+    let e = before.apply(c);
     let refusal = e.refusal;
     let book = e.book;
     let ledger = kept.next(refusal, kind, place, entry);
@@ -190,7 +181,8 @@ fn series(book: Book, kind: usize, n: usize) -> Edits
     while left > 0 {
         let place = words::to_signed(left as u64);
         let entry = samples::level();
-        let e = call(state, kind, place, entry);
+        let c = call_of(kind, place, entry);
+        let e = state.apply(c);
         accepted = accepted_more(accepted, e.refusal);
         let after = e.book;
         state = after;
@@ -217,7 +209,7 @@ fn pushed_out() {
     let undone = undos.book;
     let places = undone.places;
     print_line(b"records standing: ", ledger::filled(places));
-    let e = undone.undo();
+    let e = undone.apply(Call::Undo);
     print_line(b"one more undo: ", e.refusal);
 }
 

@@ -1,6 +1,8 @@
 // The books of the cases, and their edits. A refused edit prints its number.
 use super::shown::refused;
 use book::Book;
+use book::Call;
+use book::Change;
 use network::Record;
 use network::Unit;
 
@@ -14,10 +16,10 @@ pub(crate) fn opened(list: &[i64]) -> Book {
     b
 }
 
-// The book with a record added.
-fn added(book: Book, place: i64, r: Record) -> Book {
+// The book after a call.
+fn called(book: Book, call: Call) -> Book {
     if book::is_sound(book) {
-        let e = book.add(place, r);
+        let e = book.apply(call);
         refused(e.refusal);
         let b = e.book;
         return b;
@@ -25,24 +27,20 @@ fn added(book: Book, place: i64, r: Record) -> Book {
     book
 }
 
-fn level_of(from: i64, to: i64, up: i64, weight: i64) -> Record {
-    network::height_of(from, to, up, weight)
+// The book with a record added.
+fn added(book: Book, place: i64, r: Record) -> Book {
+    called(book, Call::Edit(place, Change::Add(r)))
 }
 
 // The book with a height difference added.
 pub(crate) fn level(book: Book, place: i64, from: i64, to: i64, up: i64, weight: i64) -> Book {
-    added(book, place, level_of(from, to, up, weight))
+    added(book, place, network::height_of(from, to, up, weight))
 }
 
 // The book with the record at a place replaced by a height difference.
 pub(crate) fn relevel(book: Book, place: i64, from: i64, to: i64, up: i64, weight: i64) -> Book {
-    if book::is_sound(book) {
-        let e = book.replace(place, level_of(from, to, up, weight));
-        refused(e.refusal);
-        let b = e.book;
-        return b;
-    }
-    book
+    let r = network::height_of(from, to, up, weight);
+    called(book, Call::Edit(place, Change::Replace(r)))
 }
 
 // The book with a baseline added.
@@ -66,13 +64,7 @@ pub(crate) fn baseline(
 }
 
 pub(crate) fn undone(book: Book) -> Book {
-    if book::is_sound(book) {
-        let e = book.undo();
-        refused(e.refusal);
-        let b = e.book;
-        return b;
-    }
-    book
+    called(book, Call::Undo)
 }
 
 // Document 01's two stations: a known one and one of unknown height, 1,000 apart.

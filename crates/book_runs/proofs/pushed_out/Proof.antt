@@ -47,8 +47,8 @@ filled-requires c κs = search needs
 print-line-requires-3 : tie.Need-print-line-requires-3
 print-line-requires-3 c κs = search needs
 
-undo-requires : tie.Need-undo-requires
-undo-requires c κs = search needs
+apply-requires : tie.Need-apply-requires
+apply-requires c κs = search needs
 
 slice-aggregate-print-line-4 : tie.Need-slice-aggregate-print-line-4
 slice-aggregate-print-line-4 c = search needs
@@ -77,7 +77,7 @@ pushed-out-spec =
     slice-aggregate-print-line-3
     filled-requires
     print-line-requires-3
-    undo-requires
+    apply-requires
     slice-aggregate-print-line-4
     print-line-requires-4
     returns-2)

@@ -21,8 +21,11 @@ to-signed-requires c κs = search needs
 level-requires : tie.Need-level-requires Inv-loop μ-loop
 level-requires c κs = search needs
 
-call-requires : tie.Need-call-requires Inv-loop μ-loop
-call-requires c κs = search needs
+call-of-requires : tie.Need-call-of-requires Inv-loop μ-loop
+call-of-requires c κs = search needs
+
+apply-requires : tie.Need-apply-requires Inv-loop μ-loop
+apply-requires c κs = search needs
 
 accepted-more-requires : tie.Need-accepted-more-requires Inv-loop μ-loop
 accepted-more-requires c κs = search needs
@@ -48,7 +51,8 @@ series-spec =
     loop-holds
     to-signed-requires
     level-requires
-    call-requires
+    call-of-requires
+    apply-requires
     accepted-more-requires
     sub-left
     loop-less
