@@ -2,6 +2,8 @@
 use super::shown::check;
 use super::shown::print_list;
 use book::Book;
+use book::Call;
+use book::Change;
 use network::Record;
 use network::Unit;
 
@@ -18,7 +20,7 @@ pub(crate) fn opened(list: &[i64]) -> Book {
 // The book with a record added; a refused one is told.
 fn added(book: Book, place: i64, r: Record) -> Book {
     if book::is_sound(book) {
-        let e = book.add(place, r);
+        let e = book.apply(Call::Edit(place, Change::Add(r)));
         if e.refusal != 0 {
             io::write_all(1, b"edit refused\n");
         }

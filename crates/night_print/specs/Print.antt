@@ -18,7 +18,7 @@ use Rattle.text.specs.Fields.{restFields}
 use Rattle.text.specs.Lines.{linesOf}
 use Rattle.commands.specs.Commands.{commandOf, isStationLine}
 use Rattle.commands.specs.declared.Command.{Command}
-use Rattle.commands.specs.declared.Command.the-variants.{Station, Add, Replace, Strike, Undo, Corrections, Matrix, Unreadable}
+use Rattle.commands.specs.declared.Command.the-variants.{Station, Call, Corrections, Matrix, Unreadable}
 use Rattle.reports.specs.Reports.{Offer, Offers}
 use Rattle.input_lines.specs.Runs.{Phase, unopened, opened, Given, none, phaseOpened, openingSays, isUnopened, phaseAfter, phaseSays, correctionsNext, matrixNext}
 use Rattle.adjustment.specs.Ends.{phaseEnds}
@@ -63,10 +63,7 @@ lineAsks r line = commandOf (length (r .stations)) (isUnopened (r .phase)) line
 
 unfoldable pub stationsAfter : List station.Station → Command → List station.Station
 stationsAfter ss (Station s) = ss ++ (s ∷ [])
-stationsAfter ss (Add p r) = ss
-stationsAfter ss (Replace p r) = ss
-stationsAfter ss (Strike p) = ss
-stationsAfter ss Undo = ss
+stationsAfter ss (Call c) = ss
 stationsAfter ss (Corrections n) = ss
 stationsAfter ss (Matrix n) = ss
 stationsAfter ss Unreadable = ss

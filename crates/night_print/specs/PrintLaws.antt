@@ -18,7 +18,7 @@ use Rattle.commands.specs.Brings.{brings}
 use Rattle.commands.specs.Commands.{commandOf, isStationLine, correctionsIn, matrixIn}
 use Rattle.commands.specs.CommandLaws.{kept-command, kept-station-line}
 use Rattle.commands.specs.declared.Command.{Command}
-use Rattle.commands.specs.declared.Command.the-variants.{Station, Add, Replace, Strike, Undo, Corrections, Matrix, Unreadable}
+use Rattle.commands.specs.declared.Command.the-variants.{Station, Call, Corrections, Matrix, Unreadable}
 use Rattle.reports.specs.Reports.{Offer}
 use Rattle.input_lines.specs.Runs.{Phase, unopened, opened, ended, Given, Run, start, phaseOpened, openingSays, openRun, entered, enteringSays, asked, isUnopened, wordsAfter, readAfter, givenBy, obeyed, next, says, runAfter, saysAll}
 use Rattle.input_lines.specs.Cut.{noted-one, opening-cut}
@@ -54,10 +54,7 @@ says-cut l ended = refl
 words-kept : (ss : List station.Station) (c : Command) → wordsAfter (take 132 (flat ss)) c ≡ take 132 (flat (stationsAfter ss c))
 unfolding wordsAfter stationsAfter
 words-kept ss (Station s) = noted-one (flat ss) (length ss) s (flat-length ss) ∙ ap (take 132) (sym (flat-one ss s))
-words-kept ss (Add p r) = refl
-words-kept ss (Replace p r) = refl
-words-kept ss (Strike p) = refl
-words-kept ss Undo = refl
+words-kept ss (Call c) = refl
 words-kept ss (Corrections n) = refl
 words-kept ss (Matrix n) = refl
 words-kept ss Unreadable = refl
@@ -65,10 +62,7 @@ words-kept ss Unreadable = refl
 read-kept : (ss : List station.Station) (c : Command) → readAfter (length ss) c ≡ length (stationsAfter ss c)
 unfolding readAfter stationsAfter
 read-kept ss (Station s) = simp length-append (omega arith)
-read-kept ss (Add p r) = refl
-read-kept ss (Replace p r) = refl
-read-kept ss (Strike p) = refl
-read-kept ss Undo = refl
+read-kept ss (Call c) = refl
 read-kept ss (Corrections n) = refl
 read-kept ss (Matrix n) = refl
 read-kept ss Unreadable = refl

@@ -3,6 +3,8 @@ use super::lines::line_end;
 use super::lines::numbers_of;
 use super::printing::text;
 use book::Book;
+use book::Call;
+use book::Change;
 use network::Record;
 use network::Unit;
 
@@ -51,7 +53,7 @@ fn record_of(f: &[i64; 12], count: usize) -> Record {
 
 fn added(book: Book, place: i64, entry: Record) -> Book {
     if book::is_sound(book) {
-        let e = book.add(place, entry);
+        let e = book.apply(Call::Edit(place, Change::Add(entry)));
         refused(e.refusal);
         let b = e.book;
         return b;

@@ -22,7 +22,9 @@ use Rattle.acceptance.specs.declared.Answer.{Answer}
 use Rattle.acceptance.specs.declared.Answer.the-variants.{Accepted, Refused}
 use Rattle.book.specs.declared.Book.{Book}
 use Rattle.book.specs.Book.{openedBook, bookNext, bookSays}
-use Rattle.book.specs.Calls.{Call, add}
+use Rattle.book.specs.declared.Change.the-variants.{Add}
+use Rattle.book.specs.declared.Call.{Call}
+use Rattle.book.specs.declared.Call.the-variants.{Edit}
 use Rattle.book.specs.Run.{final, answers}
 use Rattle.book.specs.Rows.{rowNext, rowSays}
 use Rattle.sheet.specs.Sheet.{sheetWords, room}
@@ -140,10 +142,10 @@ withBook b k x m = record { stations = stations; lines = k; phase = opened b; co
 
 -- the calls of the two H lines
 abbrev call1 : Call
-call1 = add (pos 1) (level 1000)
+call1 = Edit (pos 1) (Add (level 1000))
 
 abbrev call2 : Call
-call2 = add (pos 2) (level 1100)
+call2 = Edit (pos 2) (Add (level 1100))
 
 module _ (b : Book) where
   -- the first H line opens

@@ -7,8 +7,8 @@ use Rattle.distance_limits.proofs.books.added.Tie as tie
 is-sound-requires : tie.Need-is-sound-requires
 is-sound-requires c κs = search needs
 
-add-requires : tie.Need-add-requires
-add-requires c κs = sym (c .before .is-sound .ensures) ∙ c .if1 .taken
+apply-requires : tie.Need-apply-requires
+apply-requires c κs = sym (c .before .is-sound .ensures) ∙ c .if1 .taken
 
 slice-aggregate-write-all : tie.Need-slice-aggregate-write-all
 slice-aggregate-write-all c = search needs
@@ -27,7 +27,7 @@ added-spec =
     tie.close
     (tie.spec
     is-sound-requires
-    add-requires
+    apply-requires
     slice-aggregate-write-all
     write-all-requires
     returns
