@@ -10,6 +10,7 @@ use Rattle.book.specs.declared.Call.the-variants.{Edit}
 use Rattle.book.specs.Calls.{placeOf}
 use Rattle.book.specs.Book.{bookSays}
 use Rattle.book.specs.Numbers.{edit-number}
+use Rattle.layout.specs.Layout.{bookBytes}
 use Rattle.layout.specs.Bytes.{bookOf}
 use Rattle.layout.specs.CodecLaws.{fits-room, fits-sound}
 use Rattle.dombrelat.proofs.Changed.{network-ready, settle-ready, edit-changed}
@@ -17,7 +18,7 @@ use borrow.Author.Needs.{needs, sfits-of}
 use Rattle.dombrelat.proofs.changes.change_place.Statement.{statement}
 use Rattle.dombrelat.proofs.changes.change_place.Tie as tie
 
-room : (s : tie.Start) → 56224 ≤ length (s .args .s .now)
+room : (s : tie.Start) → bookBytes ≤ length (s .args .s .now)
 room s = fits-room (s .args .s .now) (s .pre)
 
 -- where the number is known, and the record
