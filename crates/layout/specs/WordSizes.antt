@@ -16,6 +16,7 @@ use Rattle.words.specs.SignedLaws.{index-number}
 use Rattle.lists.specs.All.{all-at}
 use Rattle.lists.specs.Sizes.{Small, small-at}
 use Rattle.lists.specs.Stored.{fits-by}
+use Rattle.weights.specs.Ranges.{small-weights}
 use Rattle.network.specs.Stations.{stationAt, coordinateIn, coordinate, coordinatesFit, networkFits}
 use Rattle.network.specs.Records.{recordAt}
 use Rattle.network.specs.Rules.{endsFit, recordFits}
@@ -80,8 +81,9 @@ module _ (net : Network) (e : networkFits net ≡ true) where
   record-small (baseline b) f =
       let o = baseline-fits net b f in
       let g = baseline-range b (o .range) in
+      let w = small-weights (g .weights) in
       let ends = ends-small (b .from) (b .to) (o .ends) in
-      ((omega arith), (ends .0, (ends .1, (more (g .east) (omega arith), (more (g .north) (omega arith), (more (g .up) (omega arith), (more (g .ee .most) (omega arith), (more (g .en) (omega arith), (more (g .eu) (omega arith), (more (g .nn .most) (omega arith), (more (g .nu) (omega arith), (more (g .uu .most) (omega arith), (zero-le, (zero-le, tt))))))))))))))
+      ((omega arith), (ends .0, (ends .1, (more (g .east) (omega arith), (more (g .north) (omega arith), (more (g .up) (omega arith), (more (w .ee) (omega arith), (more (w .en) (omega arith), (more (w .eu) (omega arith), (more (w .nn) (omega arith), (more (w .nu) (omega arith), (more (w .uu) (omega arith), (zero-le, (zero-le, tt))))))))))))))
   record-small (height h) f =
       let o = height-fits net h f in
       let g = height-range h (o .range) in
