@@ -6,7 +6,7 @@ use mathlib.Core.List.{List, [], _∷_, _++_, append-nil}
 use native.Mathlib.Omega.{arith}
 use native.Mathlib.Numerals.{add-one}
 use native.Mathlib.Nat.{add-zero}
-use borrow.Author.Tests.{le-leb}
+use borrow.Author.Tests.{le-leb, ne-eqb}
 use lib.Dec.{lit≤}
 use lib.ListN.{length, getD, take, drop, length-append, List·getD-append}
 use lib.Seq.{sets-eq, take-at, getD-append-add, drop-length}
@@ -42,6 +42,15 @@ shapes-none places = refl
 pub shapes-more : (places : List Place) (k : ℕ) → shapesBelow places k ++ shapesAt (recordAt places k) ≡ shapesBelow places (k + 1)
 unfolding shapesBelow
 shapes-more places k = rw add-one
+
+-- of an empty place, and of a record
+pub shape-none : (r : Record) → observations r ≡ 0 → shapesAt r ≡ []
+unfolding shapesAt isEmpty
+shape-none r e = rw e
+
+pub shape-one : (r : Record) (n : ℕ) → n ≡ observations r → (n ≡ 0 → ⊥) → shapesAt r ≡ n ∷ []
+unfolding shapesAt isEmpty
+shape-one r n e q = rw (← e, ne-eqb n 0 q)
 
 at-most-one : (r : Record) → length (shapesAt r) ≤ 1
 unfolding shapesAt
