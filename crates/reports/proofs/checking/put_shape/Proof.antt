@@ -32,8 +32,7 @@ same-length c = search needs
 returns-2 : tie.Need-returns-2
 returns-2 c =
     let w = c .before .before in
-    let o = w .before .before .before in
-    (
+    let o = w .before .before .before in (
       rw (shape-one (o .before .before .args .r) (o .observations-of .result) (o .observations-of .ensures) (w .before .before .if1 .left)) (w .write-byte .ensures),
       omega (arith, w .write-byte .ensures .past),
     )
