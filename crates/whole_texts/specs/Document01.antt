@@ -12,6 +12,7 @@ use lib.Seq.{take-at}
 use lib.IntN.{ℤ, pos, natAbs}
 use Rattle.network.specs.Stations.{networkOf}
 use Rattle.network.specs.StationWords.{kindWord, stationWords, flat}
+use Rattle.network.specs.Records.{observations, isEmpty}
 use Rattle.network.specs.OpeningLaws.{opened-fits}
 use Rattle.network.specs.declared.Station.{Station}
 use Rattle.network.specs.declared.Kind.the-variants as kind
@@ -41,8 +42,8 @@ use Rattle.text.specs.Lines.{linesOf, linesAfter}
 use Rattle.commands.specs.Commands.{exactly, entryOf, added, counted, kindOf, inTurn, stationOf, otherOf, fieldsCommand, commandOf}
 use Rattle.commands.specs.Brings.{brings}
 use Rattle.commands.specs.Sheet.{spaced, highVerdict, verdict, headLine, stationLine, baselineLine, heightLine, globalLine, stationLines, recordLine, recordWords, recordStart, recordLines, globalStart, sheetText}
-use Rattle.reports.specs.Reports.{Offer, kindsAt, kindsBelow, kindsOf, answerSays, checkSays}
-use Rattle.reports.specs.ReportLaws.{kinds-room}
+use Rattle.reports.specs.Reports.{Offer, shapesAt, shapesBelow, shapesOf, answerSays, checkSays}
+use Rattle.reports.specs.ReportLaws.{shapes-room}
 use Rattle.input_lines.specs.Runs.{unopened, opened, Given, none, given, phaseOpened, openingSays, isUnopened, edits, phaseAfter, givenBy, commandSays, phaseSays}
 use Rattle.adjustment.specs.Ends.{bookEnds, phaseEnds}
 use Rattle.night_print.specs.Print.{WholeRun, atStart, lineEnters, entrySays, stationsAfter, lineNext, lineSays, linesNext, linesSay, endPrints, printed}
@@ -210,9 +211,9 @@ two-stations : bookOf first .network .count ≡ 2
 unfolding networkOf stationList
 two-stations = ap (λ (n : Network). n .count) (brief-follows (networkOf stationList) (opened-fits stationList (holds .opened)) (rowsOf first) .network)
 
-two-heights : kindsOf (bookOf first .places) ≡ 2 ∷ 2 ∷ []
-unfolding filled kindsBelow kindsAt
-two-heights = ap kindsOf (holds .records)
+two-heights : shapesOf (bookOf first .places) ≡ 1 ∷ 1 ∷ []
+unfolding filled shapesBelow shapesAt isEmpty observations
+two-heights = ap shapesOf (holds .records)
 
 -- ════ the check: what is proved of it
 -- only an acceptance has number 0
@@ -222,7 +223,7 @@ accepted-0 (Refused refusal) e = absurd (omega (arith, refusal-least refusal))
 
 room-is : room (bookOf first .network) (bookOf first .places) ≡ length (first .sheet)
 unfolding globalStart recordStart recordWords
-room-is = sym (kinds-room (bookOf first .network) (bookOf first .places)) ∙ rw (two-stations, two-heights)
+room-is = sym (shapes-room (bookOf first .network) (bookOf first .places)) ∙ rw (two-stations, two-heights)
 
 -- the words of a sheet are those that it leaves at the front of lent ones
 module _ (b : Book) (x m lent sheet : List ℤ) where

@@ -1,3 +1,4 @@
+-- `dombrelat_add_baseline` makes the call that adds a baseline. Assumes nothing.
 use mathlib.Core.Path.{_≡_, _∙_}
 use mathlib.Core.List.{[], _∷_}
 use mir.Syntax.{w64}

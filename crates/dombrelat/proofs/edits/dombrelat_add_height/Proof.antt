@@ -1,3 +1,4 @@
+-- `dombrelat_add_height` makes the call that adds a height difference. Assumes nothing.
 use mathlib.Core.Path.{_≡_, _∙_}
 use mir.Syntax.{w64}
 use mir.Facts.{toZ-ofZ}

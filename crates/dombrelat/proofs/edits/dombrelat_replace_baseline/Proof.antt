@@ -1,3 +1,4 @@
+-- `dombrelat_replace_baseline` makes the call that replaces by a baseline. Assumes nothing.
 use mathlib.Core.Path.{_≡_, _∙_}
 use mathlib.Core.List.{[], _∷_}
 use mir.Syntax.{w64}

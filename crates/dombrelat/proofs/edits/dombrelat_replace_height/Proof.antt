@@ -1,3 +1,4 @@
+-- `dombrelat_replace_height` makes the call that replaces by a height difference. Assumes nothing.
 use mathlib.Core.Path.{_≡_, _∙_}
 use mir.Syntax.{w64}
 use mir.Facts.{toZ-ofZ}

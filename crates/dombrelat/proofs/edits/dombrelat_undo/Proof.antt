@@ -1,3 +1,4 @@
+-- `dombrelat_undo` makes the call that undoes. Assumes nothing.
 use mathlib.Core.Path.{_∙_}
 use mir.Syntax.{w64}
 use mir.Facts.{toZ-ofZ}
