@@ -244,7 +244,7 @@ words-are =
     room-is
     (holds .written lent (lit≤ tt))
 
-sheet-text : sheetText (first .sheet) 2 (2 ∷ 2 ∷ []) ≡ OUTPUT
+sheet-text : sheetText (first .sheet) 2 (1 ∷ 1 ∷ []) ≡ OUTPUT
 unfolding OUTPUT sheetText headLine stationLines stationLine recordLines recordLine recordStart recordWords heightLine baselineLine globalStart globalLine spaced verdict highVerdict decimal decimalIn
 sheet-text = refl
 
