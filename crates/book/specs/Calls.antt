@@ -19,6 +19,10 @@ use Rattle.book.specs.declared.Change.the-variants.{Add, Replace, Strike
 use Rattle.book.specs.declared.Call.{Call}
 use Rattle.book.specs.declared.Call.the-variants.{Edit, Undo}
 
+-- "Each accepted edit goes on the history, which keeps the latest 64": how many can be taken back at most
+abbrev pub historySize : ℕ
+historySize = 64
+
 -- the place that a number of 1 to 256 names, counted from 0; 256 for any other number
 abbrev pub placeOf : ℤ → ℕ
 placeOf p = indexIn p 256

@@ -7,12 +7,13 @@ use lib.ListN.{getD, set, replicate}
 use Rattle.lists.specs.All.{allBelow}
 use Rattle.network.specs.Records.{isEmpty}
 use Rattle.network.specs.declared.Record.the-variants.{Empty}
+use Rattle.book.specs.Calls.{historySize}
 use Rattle.book.specs.declared.Reversal.{Reversal}
 use Rattle.book.specs.declared.Journal.{Journal}
 
--- "Each accepted edit goes on the history, which keeps the latest 64; a 65th pushes out the oldest."
+-- the history's size: "a 65th pushes out the oldest"
 abbrev pub journalSize : ℕ
-journalSize = 64
+journalSize = historySize
 
 -- ════ the ring's counters: the slot before another, the slot after it, and one edit more, but not above the size
 abbrev pub before : ℕ → ℕ

@@ -11,8 +11,7 @@ use Rattle.normals.specs.declared.Normals.{Normals}
 use Rattle.normals.specs.Formulas.{normalsOf}
 use Rattle.book.specs.declared.Call.{Call}
 use Rattle.book.specs.declared.Call.the-variants as call
-use Rattle.book.specs.Journal.{journalSize}
-use Rattle.book.specs.Calls.{placeOf, placesOf, callNo, puts, unless}
+use Rattle.book.specs.Calls.{historySize, placeOf, placesOf, callNo, puts, unless}
 
 -- an edit: a place, counted from 0, and what it puts there: "the record that an add or replacement gives, an empty place for a strike"
 pub record Edit : Type 0 where
@@ -38,7 +37,7 @@ ledgerNormals net l = normalsOf (net .stations) (placesOf (standing (l .edits)))
 
 -- "An accepted add, replacement or strike goes to the end of the list; the count rises by one, but not above 64."
 abbrev pub entered : Ledger → ℕ → Record → Ledger
-entered l p r = record { edits = record { place = p; puts = r } ∷ l .edits; count = min (l .count + 1) journalSize }
+entered l p r = record { edits = record { place = p; puts = r } ∷ l .edits; count = min (l .count + 1) historySize }
 
 abbrev pub rest : List Edit → List Edit
 rest [] = []

@@ -32,7 +32,7 @@ use Rattle.commands.specs.declared.Entry.{Entry}
 use Rattle.commands.specs.declared.Entry.the-variants as entry
 use Rattle.commands.specs.declared.Command.{Command}
 use Rattle.commands.specs.declared.Command.the-variants.{Call, Corrections, Matrix, Unreadable}
-use Rattle.commands.specs.Commands.{exactly, levelEntry, baselineEntry, entryOf, added, replaced, replaceOf, undoOf, counted, correctionsIn, matrixIn, stationWith, kindOf, inTurn, stationOf, otherOf, fieldsCommand, letterIn, commandOf, isStationLine, keptCommand, correctionsAfter, matrixAfter, Obeys}
+use Rattle.commands.specs.Commands.{exactly, levelEntry, entryOf, added, replaced, replaceOf, undoOf, counted, correctionsIn, matrixIn, stationWith, kindOf, inTurn, stationOf, otherOf, fieldsCommand, letterIn, commandOf, isStationLine, keptCommand, correctionsAfter, matrixAfter, Obeys}
 
 -- all of a list is stored over
 sets-all : (out vs : List ℤ) → length vs ≡ length out → sets out 0 vs ≡ vs

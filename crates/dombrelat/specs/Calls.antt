@@ -6,8 +6,6 @@ use lib.Dec.{leb, eqb}
 use lib.ListN.{length}
 use lib.IntN.{ℤ, pos}
 use Rattle.words.specs.Runs.{wordsAt}
-use Rattle.network.specs.declared.Record.{Record}
-use Rattle.network.specs.declared.Record.the-variants.{Baseline as baseline, Height as height}
 use Rattle.book.specs.declared.Book.{Book}
 use Rattle.book.specs.declared.Edited.{Edited}
 use Rattle.book.specs.declared.Call.{Call}

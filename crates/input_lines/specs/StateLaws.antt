@@ -28,7 +28,7 @@ use Rattle.input_lines.specs.declared.Given as code-given
 use Rattle.input_lines.specs.declared.State.{State}
 use Rattle.input_lines.specs.declared.Asked.{Asked}
 use Rattle.network.specs.StationWords.{kindWord, stationWords}
-use Rattle.input_lines.specs.Runs.{Phase, unopened, opened, ended, Given, given, noted, phaseWith, phaseOpened, refusalSays, openingSays, openRun, entered, enteringSays, isUnopened, asked, readAfter, unedited, edits, phaseAfter, givenBy, commandSays, phaseSays, obeyed, obeyedSays}
+use Rattle.input_lines.specs.Runs.{Phase, opened, ended, Given, given, noted, phaseWith, phaseOpened, refusalSays, openingSays, openRun, entered, enteringSays, isUnopened, asked, readAfter, unedited, edits, phaseAfter, givenBy, commandSays, phaseSays, obeyed, obeyedSays}
 use Rattle.input_lines.specs.States.{phaseOf, givenOf, runOf, unopenedPhase, openedPhase, endedPhase, phaseAt, countOf, Ready, openedWith, Opens, Noted, givenCount, Reads}
 
 -- ════ text written after the front of a buffer

@@ -6,7 +6,7 @@ use mathlib.Core.List.{List, [], _∷_}
 use mathlib.Core.Logic.{_⊎_, inl, inr}
 use native.Mathlib.Omega.{arith}
 use borrow.Author.Tests.{eqb-false}
-use lib.ListN.{getD, replicate, getD-replicate, List·getD-append}
+use lib.ListN.{replicate, getD-replicate, List·getD-append}
 use lib.IntN.{ℤ, pos, _-ℤ_, _*ℤ_}
 use Rattle.integers.specs.Solvers.{ring, shapes}
 use Rattle.integers.specs.Sums.{sum, sum-ext}

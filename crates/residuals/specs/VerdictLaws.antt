@@ -1,22 +1,20 @@
 -- The table of chi-square limits rises within and between its pairs, proved once over the table; and the global verdict at an index of the table.
-use Prim.Native.Nat.{ℕ, zero, suc, _+_, _-_, _*_, _<_, _≤_, _^_}
+use Prim.Native.Nat.{ℕ, zero, suc, _+_, _-_, _*_, _<_, _≤_}
 use mathlib.Core.Path.{_≡_, refl, sym, ap, _∙_, subst}
 use mathlib.Core.Bool.{Bool, true, false, cond, _&&_}
-use mathlib.Core.Logic.{_⊎_, inl, inr}
 use native.Mathlib.Omega.{arith}
 use native.Mathlib.Decide.{ℕ-discrete}
 use borrow.Author.Tests.{le-ltb, lt-ltb}
-use lib.Dec.{T, ltb}
+use lib.Dec.{T}
 use lib.ListN.{getD}
 use lib.IntN.{ℤ, pos, negℤ, natAbs, _*ℤ_}
-use lib.Signed.{ltZ, leZ, _<ℤ_, _≤ℤ_}
+use lib.Signed.{ltZ, _<ℤ_, _≤ℤ_}
 use Rattle.integers.specs.Order.{zarith, between-abs, <ℤ→≤ℤ, ≤ℤ-trans}
 use Rattle.words.specs.Signed.{indexIn}
 use Rattle.words.specs.SignedLaws.{index-test, index-number}
 use Rattle.words.specs.Bools.{and-left, and-right}
 use Rattle.lists.specs.All.{allBelow, all-at}
 use Rattle.residuals.specs.Verdicts.{chiSquare, limits, localVerdict, globalVerdict}
-use Rattle.residuals.specs.declared.Verdict.{Verdict}
 use Rattle.residuals.specs.declared.Verdict.the-variants.{Pass, Fail, Loose, Low, High, NoVerdict}
 
 -- the limits at k + 1 degrees of freedom

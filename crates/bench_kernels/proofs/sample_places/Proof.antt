@@ -7,9 +7,6 @@ use Rattle.lists.specs.Filling.{Mapped, starts, goes-on, finish, length-mapped}
 use Rattle.bench_kernels.specs.Sample.{samplePlace}
 use Rattle.bench_kernels.proofs.sample_places.Statement.{statement}
 use Rattle.bench_kernels.proofs.sample_places.Tie as tie
-use Rattle.bench_kernels.proofs.sample_places.Reads as reads
-use Rattle.bench_kernels.proofs.sample_places.Lts as lts
-use Rattle.bench_kernels.proofs.sample_record.Reads as sample-record-reads
 
 abbrev Inv-loop : tie.InvT-loop
 Inv-loop places₀ p₀ places p = (p ≤ 256) × Mapped vacant 256 samplePlace places₀ places p

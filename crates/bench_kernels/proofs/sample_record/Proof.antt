@@ -10,8 +10,6 @@ use Rattle.network.specs.declared.Record.the-variants.{Baseline as baseline}
 use Rattle.bench_kernels.specs.Sample.{sampleBaseline}
 use Rattle.bench_kernels.proofs.sample_record.Statement.{statement}
 use Rattle.bench_kernels.proofs.sample_record.Tie as tie
-use Rattle.bench_kernels.proofs.sample_record.Reads as reads
-use Rattle.bench_kernels.proofs.sample_record.Lts as lts
 
 add-f : tie.Need-add-f
 add-f c = search needs

@@ -10,8 +10,6 @@ use Rattle.network.specs.declared.Record.the-variants.{Baseline as basel
 use Rattle.network.specs.RecordWords.{recordOf}
 use Rattle.network.proofs.record_codec.baseline_in.Statement.{statement}
 use Rattle.network.proofs.record_codec.baseline_in.Tie as tie
-use Rattle.network.proofs.record_codec.baseline_in.Reads as reads
-use Rattle.network.proofs.record_codec.baseline_in.Lts as lts
 
 add-from : tie.Need-add-from
 add-from c = search needs

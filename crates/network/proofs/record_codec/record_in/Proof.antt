@@ -11,11 +11,6 @@ use Rattle.network.specs.RecordWords.{recordOf}
 use Rattle.network.proofs.RecordKinds.{other-record}
 use Rattle.network.proofs.record_codec.record_in.Statement.{statement}
 use Rattle.network.proofs.record_codec.record_in.Tie as tie
-use Rattle.network.proofs.record_codec.record_in.Reads as reads
-use Rattle.network.proofs.record_codec.record_in.Lts as lts
-use Rattle.network.proofs.record_codec.baseline_in.Reads as baseline-in-reads
-use Rattle.network.proofs.record_codec.height_in.Reads as height-in-reads
-use Rattle.words.proofs.index_in.Reads as index-in-reads
 
 mul-index-in : tie.Need-mul-index-in
 mul-index-in c = search needs

@@ -17,9 +17,6 @@ use Rattle.normals.specs.EquationSizes.{row-size}
 use Rattle.normals.proofs.Steps.{Turn, entry-step, entry-fits, row-held}
 use Rattle.normals.proofs.equations.add_row.Statement.{statement}
 use Rattle.normals.proofs.equations.add_row.Tie as tie
-use Rattle.normals.proofs.equations.add_row.Reads as reads
-use Rattle.normals.proofs.equations.add_row.Lts as lts
-use Rattle.words.proofs.same.Reads as same-reads
 
 -- what the ends below f add
 abbrev sofar : Equation → ℕ → ℕ → ℕ → ℤ

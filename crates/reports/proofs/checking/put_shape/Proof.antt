@@ -1,7 +1,7 @@
 -- `put_shape`, by whether the record observes anything. Assumes nothing.
 use borrow.Author.Needs.{needs}
 use Prim.Native.Nat.{_≤_}
-use mathlib.Core.Path.{_≡_, sym, _∙_}
+use mathlib.Core.Path.{sym, _∙_}
 use native.Mathlib.Omega.{arith}
 use Rattle.network.specs.RecordLaws.{observations-few}
 use Rattle.text.specs.Writing.{nothing}

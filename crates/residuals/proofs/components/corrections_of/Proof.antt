@@ -1,17 +1,17 @@
 use borrow.Author.Needs.{needs}
 use native.Mathlib.Omega.{arith}
-use mathlib.Core.Path.{_≡_, sym, ap, _∙_}
-use mathlib.Core.List.{List, [], _∷_}
+use mathlib.Core.Path.{_∙_}
+use mathlib.Core.List.{[], _∷_}
 use Prim.Native.Nat.{ℕ, _-_, _≤_, _<_}
 use lib.ListN.{length, getD}
 use lib.IntN.{ℤ, pos, natAbs, _*ℤ_}
 use Rattle.integers.specs.Code.{fit, code-bounds, ringm, code-shapes}
-use Rattle.integers.specs.Tables.{tabulate, getD-tabulate, tabulate-ext}
+use Rattle.integers.specs.Tables.{getD-tabulate, tabulate-ext}
 use Rattle.lists.specs.Filling.{Mapped, starts, goes-on, finish}
-use Rattle.network.specs.Stations.{unknownCount, unknown, place}
+use Rattle.network.specs.Stations.{unknown, place}
 use Rattle.network.specs.StationLaws.{bit}
 use Rattle.residuals.specs.Residuals.{correction}
-use Rattle.residuals.specs.Components.{place-below, correction-in, numbersOf, unknownsOf}
+use Rattle.residuals.specs.Components.{place-below, correction-in}
 use Rattle.residuals.proofs.components.corrections_of.Statement.{statement}
 use Rattle.residuals.proofs.components.corrections_of.Tie as tie
 

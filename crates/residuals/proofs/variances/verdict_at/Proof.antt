@@ -1,9 +1,9 @@
 use borrow.Author.Needs.{needs, sfits-of}
 use native.Mathlib.Omega.{arith}
 use Prim.Native.Nat.{_+_, _*_, _≤_, _^_}
-use mathlib.Core.Path.{_≡_, sym, ap, _∙_, subst}
+use mathlib.Core.Path.{_≡_, ap, _∙_}
 use mathlib.Core.List.{[], _∷_}
-use lib.IntN.{ℤ, pos, natAbs, _-ℤ_, _*ℤ_}
+use lib.IntN.{ℤ, natAbs, _-ℤ_, _*ℤ_}
 use mir.Syntax.{w64}
 use mir.ValLaws.{toZ-ofZ}
 use Rattle.integers.specs.Bounds.{bounds, absle}
@@ -11,7 +11,7 @@ use Rattle.integers.specs.Code.{fit, code-bounds, ringm, code-shapes}
 use Rattle.integers.specs.Division.{floorDiv}
 use Rattle.lists.specs.Stored.{stored, back, kept}
 use Rattle.residuals.specs.Residuals.{S}
-use Rattle.residuals.specs.Verdicts.{verdictWord, localVerdict}
+use Rattle.residuals.specs.Verdicts.{verdictWord}
 use Rattle.residuals.specs.Components.{differenceIn, difference-size}
 use Rattle.residuals.specs.Weights.{observation-size}
 use Rattle.residuals.proofs.variances.verdict_at.Statement.{statement}

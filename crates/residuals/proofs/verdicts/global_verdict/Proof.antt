@@ -1,6 +1,6 @@
 use borrow.Author.Needs.{needs}
 use native.Mathlib.Omega.{arith}
-use mathlib.Core.Path.{_≡_, sym, ap, _∙_, subst}
+use mathlib.Core.Path.{_≡_, sym, ap, _∙_}
 use mathlib.Core.Bool.{Bool, true, false}
 use mathlib.Core.List.{[], _∷_}
 use Prim.Native.Nat.{ℕ, _≤_, _<_}
@@ -12,18 +12,12 @@ use mir.Val.{SFits}
 use mir.ValLaws.{toZ-ofZ}
 use Rattle.integers.specs.Code.{fit, code-bounds, ringm, code-shapes}
 use Rattle.words.specs.Signed.{indexIn}
-use Rattle.lists.specs.Stored.{stored, fits-by}
+use Rattle.lists.specs.Stored.{stored}
 use Rattle.residuals.specs.declared.Limits.{Limits}
-use Rattle.residuals.specs.declared.Verdict.the-variants.{Pass, Low, High}
-use Rattle.residuals.specs.Verdicts.{chiSquare, limits, globalVerdict}
+use Rattle.residuals.specs.Verdicts.{chiSquare, limits}
 use Rattle.residuals.specs.VerdictLaws.{lower, upper, lower-size, upper-size, global-none, global-inside}
 use Rattle.residuals.proofs.verdicts.global_verdict.Statement.{statement}
 use Rattle.residuals.proofs.verdicts.global_verdict.Tie as tie
-use Rattle.residuals.proofs.verdicts.global_verdict.Reads as reads
-use Rattle.residuals.proofs.verdicts.global_verdict.Lts as lts
-use Rattle.residuals.proofs.verdicts.limits_at.Reads as limits-at-reads
-use Rattle.words.proofs.index_in.Reads as index-in-reads
-use Rattle.words.proofs.less.Reads as less-reads
 
 -- 1000 times a limit, as the code has it
 scaled : (z : ℤ) → natAbs z ≤ 46979 → stored (pos 1000 *ℤ stored z) ≡ pos 1000 *ℤ z

@@ -3,15 +3,11 @@ use mathlib.Core.Path.{_≡_, sym, _∙_}
 use mathlib.Core.List.{[], _∷_}
 use Prim.Native.Nat.{_≤_, _^_}
 use lib.IntN.{ℤ, pos, natAbs, _*ℤ_}
-use lib.Signed.{ltZ}
 use Rattle.integers.specs.Code.{fit, code-bounds, ringm, code-shapes}
 use Rattle.lists.specs.Stored.{stored, back}
 use Rattle.residuals.specs.VerdictLaws.{local-loose, local-fail, local-pass}
 use Rattle.residuals.proofs.verdicts.local_verdict.Statement.{statement}
 use Rattle.residuals.proofs.verdicts.local_verdict.Tie as tie
-use Rattle.residuals.proofs.verdicts.local_verdict.Reads as reads
-use Rattle.residuals.proofs.verdicts.local_verdict.Lts as lts
-use Rattle.words.proofs.less.Reads as less-reads
 
 -- the two sides as the code has them
 left : (q : ℤ) → natAbs q ≤ 2 ^ 40 → stored (pos 60025 *ℤ stored q) ≡ pos 60025 *ℤ q

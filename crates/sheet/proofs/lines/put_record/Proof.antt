@@ -8,7 +8,7 @@ use Rattle.network.specs.declared.Record.{Record}
 use Rattle.sheet.specs.Sheet.{wordsOf}
 use Rattle.residuals.specs.Weights.{RecordWeights}
 use Rattle.sheet.specs.Lines.{recordWordsIn}
-use Rattle.sheet.specs.Written.{written, written-none}
+use Rattle.sheet.specs.Written.{written-none}
 use Rattle.sheet.proofs.lines.put_record.Statement.{statement}
 use Rattle.sheet.proofs.lines.put_record.Tie as tie
 

@@ -1,15 +1,13 @@
 use borrow.Author.Needs.{needs}
 use native.Mathlib.Omega.{arith}
-use Prim.Native.Nat.{ℕ, _+_, _-_, _*_, _≤_, _<_}
+use Prim.Native.Nat.{ℕ, _+_, _-_, _≤_, _<_}
 use mathlib.Core.Path.{_≡_, refl, sym, ap, _∙_, subst}
 use mathlib.Core.List.{List}
 use lib.ListN.{length}
 use lib.IntN.{ℤ}
-use Rattle.integers.specs.Tables.{Within}
-use Rattle.network.specs.Stations.{unknownCount}
 use Rattle.network.specs.Records.{recordAt}
 use Rattle.lists.specs.Filling.{length-mapped}
-use Rattle.residuals.specs.Components.{Lookup, Closes, residualsIn}
+use Rattle.residuals.specs.Components.{Closes, residualsIn}
 use Rattle.residuals.specs.Ranges.{some-unknowns, lookup, sound-at, closes-at}
 use Rattle.residuals.specs.Weights.{weights-by-rules}
 use Rattle.sheet.specs.Totals.{residuals-within}
