@@ -13,9 +13,9 @@ use Rattle.integers.specs.Tables.{tabulate, getD-tabulate, Within, within-tabul
 use Rattle.words.specs.Bools.{and-left, and-right, and-both}
 use Rattle.lists.specs.All.{allBelow, all-at}
 use Rattle.network.specs.Stations.{networkFits, blankBeyond, coordinatesFit, unknownsFit, isBlank, isKnown, coordinate, coordinateIn, coordinates, unknown, unknownIn, number}
-use Rattle.network.specs.Records.{vacant, observations, actsOf, acts, fromOf, toOf, observed, misclosureAt, misclosureIn, misclosures}
+use Rattle.network.specs.Records.{weightMatrixOf, vacant, observations, actsOf, acts, fromOf, toOf, observed, misclosureAt, misclosureIn, misclosures}
 use Rattle.weights.specs.Rules.{weightsInRange, matrixFits, minorsPositive, adjugateFits}
-use Rattle.network.specs.Rules.{recordFits, recordNo, recordNoOver, endsFit, matrixOf, baselineInRange, misclosureFits}
+use Rattle.network.specs.Rules.{recordFits, recordNo, recordNoOver, endsFit, baselineInRange, misclosureFits}
 use Rattle.network.specs.RuleLaws.{accepted-fits}
 use Rattle.network.specs.declared.Kind.{Kind}
 use Rattle.network.specs.declared.Kind.the-variants.{Known, Free}
@@ -76,7 +76,7 @@ unfolding networkFits blankBeyond coordinatesFit unknownsFit allBelow isBlank is
 network-fits = refl
 
 abbrev tests : ℕ → Bool
-tests p = endsFit 17 (sampleBaseline p .from) (sampleBaseline p .to) && (baselineInRange (sampleBaseline p) && matrixFits (matrixOf (sampleBaseline p)))
+tests p = endsFit 17 (sampleBaseline p .from) (sampleBaseline p .to) && (baselineInRange (sampleBaseline p) && matrixFits (weightMatrixOf (sampleBaseline p)))
 
 tests-pass : allBelow 256 tests ≡ true
 unfolding allBelow endsFit baselineInRange weightsInRange matrixFits minorsPositive adjugateFits sampleBaseline
@@ -114,9 +114,9 @@ module _ (p : ℕ) (h : p < 256) where
       let b = sampleBaseline p in
       let e = endsFit 17 (b .from) (b .to) in
       let t = all-at 256 tests p tests-pass h in
-      let u = and-right e (baselineInRange b && matrixFits (matrixOf b)) t in
-      passes e (baselineInRange b) (matrixFits (matrixOf b)) _
-      (and-left e (baselineInRange b && matrixFits (matrixOf b)) t) (and-left (baselineInRange b) (matrixFits (matrixOf b)) u) (and-right (baselineInRange b) (matrixFits (matrixOf b)) u) closes
+      let u = and-right e (baselineInRange b && matrixFits (weightMatrixOf b)) t in
+      passes e (baselineInRange b) (matrixFits (weightMatrixOf b)) _
+      (and-left e (baselineInRange b && matrixFits (weightMatrixOf b)) t) (and-left (baselineInRange b) (matrixFits (weightMatrixOf b)) u) (and-right (baselineInRange b) (matrixFits (weightMatrixOf b)) u) closes
 
 pub sample-sound : Sound sampleNetwork samplePlaces
 sample-sound =

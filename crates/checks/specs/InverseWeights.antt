@@ -15,8 +15,8 @@ use Rattle.words.specs.Bools.{clash, true-or-false}
 use Rattle.weights.specs.Rules.{adjugate, determinant}
 use Rattle.weights.specs.Quotients.{divisor, divisor-some}
 use Rattle.weights.specs.Inverse.{adjugateAt, adjugate-inverse}
-use Rattle.network.specs.Records.{acts, weights, observations, actsOf}
-use Rattle.network.specs.Rules.{matrixOf, recordFits}
+use Rattle.network.specs.Records.{weightMatrixOf, acts, weights, observations, actsOf}
+use Rattle.network.specs.Rules.{recordFits}
 use Rattle.network.specs.declared.Network.{Network}
 use Rattle.network.specs.declared.Level.{Level}
 use Rattle.network.specs.declared.Record.{Record}
@@ -35,12 +35,12 @@ pub record InverseWeights (r : Record) (Q : ℕ → ℕ → ℤ) (p : ℕ) : Typ
 -- ════ every record by the rules has one: a baseline the adjugate over the determinant, a height difference 1 over its weight
 unfoldable pub weightAdjugate : Record → ℕ → ℕ → ℤ
 weightAdjugate Empty a c = pos 0
-weightAdjugate (baseline b) a c = adjugateAt (matrixOf b) a c
+weightAdjugate (baseline b) a c = adjugateAt (weightMatrixOf b) a c
 weightAdjugate (height h) a c = pos 1
 
 unfoldable pub weightDeterminant : Record → ℕ
 weightDeterminant Empty = 1
-weightDeterminant (baseline b) = natAbs (determinant (matrixOf b))
+weightDeterminant (baseline b) = natAbs (determinant (weightMatrixOf b))
 weightDeterminant (height h) = natAbs (h .weight)
 
 height-inverse : (x : Level) (a b : ℕ) → a ≡ 2 → b ≡ 2 → sum 3 (λ c. P (height x) a c *ℤ weightAdjugate (height x) c b) ≡ x .weight *ℤ δ a b
@@ -52,7 +52,7 @@ unfolding weightAdjugate weightDeterminant weights acts observations actsOf
 inverse-weights net Empty e = record { positive = lit< tt; inverse = λ a b p q d d′. clash d refl }
 inverse-weights net (baseline x) e =
     let w = weights-by-rules net (baseline x) e .east in
-    record { positive = divisor-some w; inverse = λ a b p q d d′. adjugate-inverse (matrixOf x) a b p q ∙ ap (λ (z : ℤ). z *ℤ δ a b) (sym (divisor w)) }
+    record { positive = divisor-some w; inverse = λ a b p q d d′. adjugate-inverse (weightMatrixOf x) a b p q ∙ ap (λ (z : ℤ). z *ℤ δ a b) (sym (divisor w)) }
 inverse-weights net (height x) e =
     let w = weights-by-rules net (height x) e in
     record {

@@ -7,8 +7,11 @@ use lib.Dec.{eqb}
 use lib.ListN.{getD}
 use lib.IntN.{ℤ, pos, natAbs, _-ℤ_}
 use Rattle.words.specs.Signed.{indexIn}
+use Rattle.weights.specs.Rules.{matrixRows}
+use Rattle.weights.specs.declared.WeightMatrix.{WeightMatrix}
 use Rattle.network.specs.Stations.{coordinates}
 use Rattle.network.specs.declared.Station.{Station}
+use Rattle.network.specs.declared.Baseline.{Baseline}
 use Rattle.network.specs.declared.Record.{Record}
 use Rattle.network.specs.declared.Record.the-variants.{Empty, Baseline as baseline, Height as height}
 use Rattle.network.specs.declared.Place.{Place}
@@ -86,10 +89,14 @@ joins-one Empty = let h : 0 ≤ 1 = omega arith in h
 joins-one (baseline b) = let h : 1 ≤ 1 = omega arith in h
 joins-one (height h) = let h : 1 ≤ 1 = omega arith in h
 
+-- ════ the weights of a baseline as a matrix
+abbrev pub weightMatrixOf : Baseline → WeightMatrix
+weightMatrixOf b = record { ee = b .ee; en = b .en; eu = b .eu; nn = b .nn; nu = b .nu; uu = b .uu }
+
 -- ════ its weights by rows: a symmetric 3×3 matrix; of a height difference the one weight at U; an empty place has the weights 0
 unfoldable pub weights : Record → List ℤ
 weights Empty = pos 0 ∷ pos 0 ∷ pos 0 ∷ pos 0 ∷ pos 0 ∷ pos 0 ∷ pos 0 ∷ pos 0 ∷ pos 0 ∷ []
-weights (baseline b) = b .ee ∷ b .en ∷ b .eu ∷ b .en ∷ b .nn ∷ b .nu ∷ b .eu ∷ b .nu ∷ b .uu ∷ []
+weights (baseline b) = matrixRows (weightMatrixOf b)
 weights (height h) = pos 0 ∷ pos 0 ∷ pos 0 ∷ pos 0 ∷ pos 0 ∷ pos 0 ∷ pos 0 ∷ pos 0 ∷ h .weight ∷ []
 
 -- ════ its observed differences, to minus from, in E, N, U

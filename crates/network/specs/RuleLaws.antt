@@ -22,9 +22,9 @@ use Rattle.weights.specs.Positive.{PositiveMatrix, positive-matrix}
 use Rattle.weights.specs.Determinants.{weight-some}
 use Rattle.network.specs.Ranges.{baseline-range, height-range}
 use Rattle.network.specs.Stations.{coordinates, coordinate, unknownCount, countFits, coordinatesFit, unknownsFit, blankBeyond, networkFits}
-use Rattle.network.specs.Records.{fromOf, toOf, joins, weights, observed, misclosureIn, misclosures, l, observations, actsOf, acts, isEmpty}
+use Rattle.network.specs.Records.{weightMatrixOf, fromOf, toOf, joins, weights, observed, misclosureIn, misclosures, l, observations, actsOf, acts, isEmpty}
 use Rattle.network.specs.RecordLaws.{Observed}
-use Rattle.network.specs.Rules.{inList, endsFit, matrixOf, baselineInRange, heightInRange, misclosureFits, recordNoOver, recordNo, recordFitsOver, recordFits}
+use Rattle.network.specs.Rules.{inList, endsFit, baselineInRange, heightInRange, misclosureFits, recordNoOver, recordNo, recordFitsOver, recordFits}
 use Rattle.network.specs.declared.Station.{Station}
 use Rattle.network.specs.declared.Network.{Network}
 use Rattle.network.specs.declared.Baseline.{Baseline}
@@ -73,7 +73,7 @@ module _ (net : Network) (e : networkFits net ≡ true) where
 pub record BaselineFits (count : ℕ) (c : List ℤ) (b : Baseline) : Type 0 where
   pub ends : endsFit count (b .from) (b .to) ≡ true
   pub range : baselineInRange b ≡ true
-  pub matrix : matrixFits (matrixOf b) ≡ true
+  pub matrix : matrixFits (weightMatrixOf b) ≡ true
   pub closes : misclosureFits c (baseline b) ≡ true
 
 pub record HeightFits (count : ℕ) (c : List ℤ) (h : Level) : Type 0 where
@@ -90,7 +90,7 @@ unfolding recordNoOver
 baseline-passed count c b e =
     let x = not-refused (endsFit count (b .from) (b .to)) _ 2 e in
     let y = not-refused (baselineInRange b) _ 3 (x .1) in
-    let z = not-refused (matrixFits (matrixOf b)) _ 4 (y .1) in
+    let z = not-refused (matrixFits (weightMatrixOf b)) _ 4 (y .1) in
     record { ends = x .0; range = y .0; matrix = z .0; closes = not-refused (misclosureFits c (baseline b)) 0 5 (z .1) .0 }
 
 height-passed : (count : ℕ) (c : List ℤ) (h : Level) → recordNoOver count c (height h) ≡ 0 → HeightFits count c h
@@ -257,7 +257,7 @@ unfolding recordNo recordNoOver
 record-no-small net Empty = lit≤ tt
 record-no-small net (baseline b) =
     pick (endsFit (net .count) (b .from) (b .to)) _ 3
-    (pick (baselineInRange b) _ 4 (pick (matrixFits (matrixOf b)) _ 5 (pick (misclosureFits (coordinates (net .stations)) (baseline b)) 0 6 zero-le (lit≤ tt)) (lit≤ tt)) (lit≤ tt))
+    (pick (baselineInRange b) _ 4 (pick (matrixFits (weightMatrixOf b)) _ 5 (pick (misclosureFits (coordinates (net .stations)) (baseline b)) 0 6 zero-le (lit≤ tt)) (lit≤ tt)) (lit≤ tt))
     (lit≤ tt)
 record-no-small net (height h) =
     pick (endsFit (net .count) (h .from) (h .to)) _ 3
@@ -278,11 +278,11 @@ sound-record net (baseline b) n e = sound-baseline net (network-few net n) (soun
 sound-record net (height h) n e = sound-height net (network-few net n) (sound-stations net n .provisional) h (height-fits net h e)
 
 -- ════ the weights of a record by the rules
-pub baseline-weights : (net : Network) (b : Baseline) → recordFits net (baseline b) ≡ true → WeightsRange (matrixOf b) × PositiveMatrix (matrixOf b)
+pub baseline-weights : (net : Network) (b : Baseline) → recordFits net (baseline b) ≡ true → WeightsRange (weightMatrixOf b) × PositiveMatrix (weightMatrixOf b)
 baseline-weights net b e =
     let g = baseline-fits net b e in
     let v = baseline-range b (g .range) .weights in
-    (v, positive-matrix (matrixOf b) (weight-some (v .nn)) (g .matrix))
+    (v, positive-matrix (weightMatrixOf b) (weight-some (v .nn)) (g .matrix))
 
 pub height-weight : (net : Network) (h : Level) → recordFits net (height h) ≡ true → Weight (h .weight)
 height-weight net h e = height-range h (height-fits net h e .range) .weight

@@ -9,9 +9,8 @@ use lib.Signed.{leZ}
 use Rattle.words.specs.Signed.{eqZ}
 use Rattle.lists.specs.All.{allBelow}
 use Rattle.weights.specs.Rules.{weightFits, weightsInRange, matrixFits}
-use Rattle.weights.specs.declared.WeightMatrix.{WeightMatrix}
 use Rattle.network.specs.Stations.{coordinates}
-use Rattle.network.specs.Records.{misclosures, isEmpty}
+use Rattle.network.specs.Records.{weightMatrixOf, misclosures, isEmpty}
 use Rattle.network.specs.declared.Network.{Network}
 use Rattle.network.specs.declared.Baseline.{Baseline}
 use Rattle.network.specs.declared.Level.{Level}
@@ -30,12 +29,9 @@ endsFit count from to = inList count from && inList count to && not (eqZ from to
 abbrev pub observedFits : ℤ → Bool
 observedFits v = leb (natAbs v) 1000000000
 
--- "Diagonal and single weights 1 to 10,000; off-diagonals within ±10,000": `weightFits` and `weightsInRange`, in crate weights; here of a baseline's matrix
-abbrev pub matrixOf : Baseline → WeightMatrix
-matrixOf b = record { ee = b .ee; en = b .en; eu = b .eu; nn = b .nn; nu = b .nu; uu = b .uu }
-
+-- "Diagonal and single weights 1 to 10,000; off-diagonals within ±10,000": `weightFits` and `weightsInRange`, in crate weights
 unfoldable pub baselineInRange : Baseline → Bool
-baselineInRange b = observedFits (b .east) && observedFits (b .north) && observedFits (b .up) && weightsInRange (matrixOf b)
+baselineInRange b = observedFits (b .east) && observedFits (b .north) && observedFits (b .up) && weightsInRange (weightMatrixOf b)
 
 unfoldable pub heightInRange : Level → Bool
 heightInRange h = observedFits (h .up) && weightFits (h .weight)
@@ -51,7 +47,7 @@ misclosureFits c r = allBelow 3 (λ a. leb (natAbs (getD (misclosures c r) a (po
 unfoldable pub recordNoOver : ℕ → List ℤ → Record → ℕ
 recordNoOver count c Empty = 3
 recordNoOver count c (baseline b) =
-    cond (endsFit count (b .from) (b .to)) (cond (baselineInRange b) (cond (matrixFits (matrixOf b)) (cond (misclosureFits c (baseline b)) 0 6) 5) 4) 3
+    cond (endsFit count (b .from) (b .to)) (cond (baselineInRange b) (cond (matrixFits (weightMatrixOf b)) (cond (misclosureFits c (baseline b)) 0 6) 5) 4) 3
 recordNoOver count c (height h) =
     cond (endsFit count (h .from) (h .to)) (cond (heightInRange h) (cond (misclosureFits c (height h)) 0 6) 4) 3
 

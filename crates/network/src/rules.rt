@@ -13,7 +13,8 @@ ghost use mathlib.Core.Bool.{true};
 ghost use Prim.Native.Nat.{_≤_};
 ghost use Rattle.integers.specs.Tables.{Within};
 ghost use Rattle.network.specs.Stations.{coordinatesFit};
-ghost use Rattle.network.specs.Rules.{inList, endsFit, matrixOf, baselineInRange, heightInRange, misclosureFits, recordNoOver, recordNo, recordFitsOver, recordFits};
+ghost use Rattle.network.specs.Records.{weightMatrixOf};
+ghost use Rattle.network.specs.Rules.{inList, endsFit, baselineInRange, heightInRange, misclosureFits, recordNoOver, recordNo, recordFitsOver, recordFits};
 ghost use Rattle.network.specs.RecordLaws.{Observed};
 
 // v is the number of a station.
@@ -31,8 +32,8 @@ pub fn ends_fit(count: usize, from: i64, to: i64) -> bool
 }
 
 // The weight matrix of a baseline.
-pub fn matrix_of(b: Baseline) -> WeightMatrix
-    ensures { λ w. ⌜ w ≡ matrixOf b ⌝ }
+pub fn weight_matrix_of(b: Baseline) -> WeightMatrix
+    ensures { λ w. ⌜ w ≡ weightMatrixOf b ⌝ }
 {
     WeightMatrix {
         ee: b.ee,
@@ -50,7 +51,7 @@ fn baseline_in_range(b: Baseline) -> bool
     words::within(b.east, Unit::OBSERVED)
         & words::within(b.north, Unit::OBSERVED)
         & words::within(b.up, Unit::OBSERVED)
-        & weights::weights_in_range(matrix_of(b))
+        & weights::weights_in_range(weight_matrix_of(b))
 }
 
 fn height_in_range(h: Level) -> bool
@@ -79,7 +80,7 @@ fn baseline_no(count: usize, coordinate: &[i64; Unit::COMPONENTS], b: Baseline) 
     if !baseline_in_range(b) {
         return 4;
     }
-    if !weights::matrix_fits(matrix_of(b)) {
+    if !weights::matrix_fits(weight_matrix_of(b)) {
         return 5;
     }
     if !misclosure_fits(coordinate, Record::Baseline(b)) {

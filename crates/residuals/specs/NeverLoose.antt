@@ -16,8 +16,8 @@ use Rattle.words.specs.SignedLaws.{eqZ-false}
 use Rattle.lists.specs.All.{passed}
 use Rattle.weights.specs.Rules.{adjugateE, adjugateN, adjugateU, adjugate, determinant}
 use Rattle.weights.specs.Determinants.{weight-some, weight-most, determinant-E, determinant-N, determinant-U}
-use Rattle.network.specs.Records.{acts, observations, actsOf}
-use Rattle.network.specs.Rules.{matrixOf, recordFits}
+use Rattle.network.specs.Records.{weightMatrixOf, acts, observations, actsOf}
+use Rattle.network.specs.Rules.{recordFits}
 use Rattle.network.specs.RuleLaws.{baseline-weights, height-weight}
 use Rattle.network.specs.declared.Network.{Network}
 use Rattle.network.specs.declared.Record.{Record}
@@ -40,11 +40,11 @@ variance-least : (net : Network) (r : Record) (a : ℕ) → a < 3 → recordFits
 unfolding acts observationVariance adjugate observations actsOf
 variance-least net Empty a l e h = clash h refl
 variance-least net (baseline b) zero l e h =
-    let w = baseline-weights net b e in let m = w .1 in quotient-least (adjugateE (matrixOf b)) (determinant (matrixOf b)) (m .third) (<ℤ→≤ℤ (m .positiveE)) (determinant-E (matrixOf b) (w .0) m)
+    let w = baseline-weights net b e in let m = w .1 in quotient-least (adjugateE (weightMatrixOf b)) (determinant (weightMatrixOf b)) (m .third) (<ℤ→≤ℤ (m .positiveE)) (determinant-E (weightMatrixOf b) (w .0) m)
 variance-least net (baseline b) (suc zero) l e h =
-    let w = baseline-weights net b e in let m = w .1 in quotient-least (adjugateN (matrixOf b)) (determinant (matrixOf b)) (m .third) (<ℤ→≤ℤ (m .positiveN)) (determinant-N (matrixOf b) (w .0) m)
+    let w = baseline-weights net b e in let m = w .1 in quotient-least (adjugateN (weightMatrixOf b)) (determinant (weightMatrixOf b)) (m .third) (<ℤ→≤ℤ (m .positiveN)) (determinant-N (weightMatrixOf b) (w .0) m)
 variance-least net (baseline b) (suc (suc zero)) l e h =
-    let w = baseline-weights net b e in let m = w .1 in quotient-least (adjugateU (matrixOf b)) (determinant (matrixOf b)) (m .third) (<ℤ→≤ℤ (m .second)) (determinant-U (matrixOf b) (w .0) m)
+    let w = baseline-weights net b e in let m = w .1 in quotient-least (adjugateU (weightMatrixOf b)) (determinant (weightMatrixOf b)) (m .third) (<ℤ→≤ℤ (m .second)) (determinant-U (weightMatrixOf b) (w .0) m)
 variance-least net (baseline b) (suc (suc (suc a))) l e h = absurd (omega arith)
 variance-least net (height h) a l e q = let w = height-weight net h e in quotient-least (pos 1) (h .weight) (weight-some w) (record { le = tt }) (weight-most w)
 

@@ -10,8 +10,8 @@ use Rattle.integers.specs.Solvers.{shapes, zle, lez}
 use Rattle.integers.specs.Order.{*ℤ-mono, *ℤ-nonneg, ≤ℤ-trans, between-abs}
 use Rattle.integers.specs.Division.{floorDiv, floorDiv-mono, floorDiv-multiple, floorDiv-quot, ≤-floorDiv}
 use Rattle.weights.specs.Quotients.{Quotient, divisor, divisor-some, weight-quotient, MatrixQuotients, matrix-quotients}
-use Rattle.network.specs.Rules.{matrixOf, recordFits}
-use Rattle.network.specs.Records.{fromOf, toOf}
+use Rattle.network.specs.Rules.{recordFits}
+use Rattle.network.specs.Records.{weightMatrixOf, fromOf, toOf}
 use Rattle.network.specs.RuleLaws.{baseline-weights, height-weight}
 use Rattle.network.specs.declared.Network.{Network}
 use Rattle.network.specs.declared.Record.{Record}
@@ -52,10 +52,10 @@ pub record Ends (r : Record) (t f : ℕ) : Type 0 where
 -- of a baseline the three quotients of its matrix, of a height difference one
 abbrev pub RecordWeights : Record → Type 0
 RecordWeights Empty = Unit {0}
-RecordWeights (baseline b) = MatrixQuotients (matrixOf b)
+RecordWeights (baseline b) = MatrixQuotients (weightMatrixOf b)
 RecordWeights (height h) = Quotient (pos 1) (h .weight)
 
 pub weights-by-rules : (net : Network) (r : Record) → recordFits net r ≡ true → RecordWeights r
 weights-by-rules net Empty e = tt
-weights-by-rules net (baseline b) e = let w = baseline-weights net b e in matrix-quotients (matrixOf b) (w .0) (w .1)
+weights-by-rules net (baseline b) e = let w = baseline-weights net b e in matrix-quotients (weightMatrixOf b) (w .0) (w .1)
 weights-by-rules net (height h) e = weight-quotient (height-weight net h e)

@@ -8,8 +8,7 @@ ghost use lib.IntN.{pos};
 ghost use lib.ListN.{length};
 ghost use Rattle.integers.specs.Tables.{Within};
 ghost use Rattle.weights.specs.Quotients.{MatrixQuotients, Quotient};
-ghost use Rattle.network.specs.Records.{fromOf, toOf};
-ghost use Rattle.network.specs.Rules.{matrixOf};
+ghost use Rattle.network.specs.Records.{weightMatrixOf, fromOf, toOf};
 ghost use Rattle.residuals.specs.Components.{Lookup};
 ghost use Rattle.sheet.specs.Sheet.{wordsOf};
 ghost use Rattle.residuals.specs.Weights.{RecordWeights, Ends};
@@ -72,11 +71,11 @@ fn baseline_line(
     m: &[i64],
     n: usize,
 ) -> [i64; 7]
-    requires { ⌜ (p < 256) × Ends (Record.Baseline b) t f × MatrixQuotients (matrixOf b) × Within 3 300000 v × Lookup (now number) (now unknown) (now m) n ⌝ }
+    requires { ⌜ (p < 256) × Ends (Record.Baseline b) t f × MatrixQuotients (weightMatrixOf b) × Within 3 300000 v × Lookup (now number) (now unknown) (now m) n ⌝ }
     ensures { λ r. ⌜ r ≡ recordWordsIn (now (number .entry)) (now (unknown .entry)) (now (m .entry)) n p (Record.Baseline b) v ⌝ }
 {
     let k = numbered(p);
-    let w = weights::adjugate_of(network::matrix_of(b));
+    let w = weights::adjugate_of(network::weight_matrix_of(b));
     let x = v[0];
     let y = v[1];
     let z = v[2];
@@ -120,7 +119,7 @@ fn put_baseline(
     m: &[i64],
     n: usize,
 ) -> usize
-    requires { ⌜ (at + 7 ≤ length (now sheet)) × (p < 256) × Ends (Record.Baseline b) t f × MatrixQuotients (matrixOf b) × Within 3 300000 v × Lookup (now number) (now unknown) (now m) n ⌝ }
+    requires { ⌜ (at + 7 ≤ length (now sheet)) × (p < 256) × Ends (Record.Baseline b) t f × MatrixQuotients (weightMatrixOf b) × Within 3 300000 v × Lookup (now number) (now unknown) (now m) n ⌝ }
     ensures { λ r. ⌜ (r ≡ at + 7) × (now (sheet .exit) ≡ written (now (sheet .entry)) at (recordWordsIn (now (number .entry)) (now (unknown .entry)) (now (m .entry)) n p (Record.Baseline b) v)) ⌝ }
 {
     let line = baseline_line(p, b, v, t, f, number, unknown, m, n);

@@ -7,13 +7,9 @@ use lib.ListN.{getD}
 use lib.IntN.{ℤ, pos, _-ℤ_, _*ℤ_}
 use Rattle.integers.specs.Solvers.{ring, shapes}
 use Rattle.integers.specs.Sums.{sum, δ}
-use Rattle.weights.specs.Rules.{adjugateE, adjugateN, adjugateU, determinant}
+use Rattle.weights.specs.Rules.{matrixRows, adjugateE, adjugateN, adjugateU, determinant}
 use Rattle.weights.specs.Positive.{six}
 use Rattle.weights.specs.declared.WeightMatrix.{WeightMatrix}
-
--- the matrix by rows
-abbrev pub matrixRows : WeightMatrix → List ℤ
-matrixRows w = w .ee ∷ w .en ∷ w .eu ∷ w .en ∷ w .nn ∷ w .nu ∷ w .eu ∷ w .nu ∷ w .uu ∷ []
 
 -- the whole adjugate, at row a and column c
 unfoldable pub adjugateAt : WeightMatrix → ℕ → ℕ → ℤ

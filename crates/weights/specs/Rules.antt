@@ -1,10 +1,15 @@
 -- The rules on a symmetric 3×3 weight matrix: document 01, "Records". Assumes nothing.
 use Prim.Native.Nat.{ℕ}
 use mathlib.Core.Bool.{Bool, cond, _&&_}
+use mathlib.Core.List.{List, [], _∷_}
 use lib.Dec.{eqb, leb}
 use lib.IntN.{ℤ, pos, natAbs, _+ℤ_, _-ℤ_, _*ℤ_}
 use lib.Signed.{leZ, ltZ}
 use Rattle.weights.specs.declared.WeightMatrix.{WeightMatrix}
+
+-- ════ the matrix by rows
+abbrev pub matrixRows : WeightMatrix → List ℤ
+matrixRows w = w .ee ∷ w .en ∷ w .eu ∷ w .en ∷ w .nn ∷ w .nu ∷ w .eu ∷ w .nu ∷ w .uu ∷ []
 
 -- ════ "Diagonal and single weights 1 to 10,000; off-diagonals within ±10,000"
 abbrev pub weightFits : ℤ → Bool

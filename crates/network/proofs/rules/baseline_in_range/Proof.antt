@@ -6,7 +6,8 @@ use lib.IntN.{ℤ}
 use mir.Syntax.{w64}
 use mir.ValLaws.{toZ-ofZ}
 use Rattle.weights.specs.Rules.{weightsInRange}
-use Rattle.network.specs.Rules.{observedFits, matrixOf, baselineInRange}
+use Rattle.network.specs.Records.{weightMatrixOf}
+use Rattle.network.specs.Rules.{observedFits, baselineInRange}
 use Rattle.network.proofs.rules.baseline_in_range.Statement.{statement}
 use Rattle.network.proofs.rules.baseline_in_range.Tie as tie
 
@@ -19,8 +20,8 @@ within-requires-2 c κs = search needs
 within-requires-3 : tie.Need-within-requires-3
 within-requires-3 c κs = search needs
 
-matrix-of-requires : tie.Need-matrix-of-requires
-matrix-of-requires c κs = search needs
+weight-matrix-of-requires : tie.Need-weight-matrix-of-requires
+weight-matrix-of-requires c κs = search needs
 
 weights-in-range-requires : tie.Need-weights-in-range-requires
 weights-in-range-requires c κs = search needs
@@ -34,8 +35,8 @@ north-is c = c .within2 .ensures ∙ ap (λ (z : ℤ). observedFits z) (toZ-ofZ 
 up-is : (c : tie.After-within3) → c .within3 .result ≡ observedFits (c .before .before .before .before .before .before .args .b .up)
 up-is c = c .within3 .ensures ∙ ap (λ (z : ℤ). observedFits z) (toZ-ofZ w64 (c .before .before .before .before .before .before .args .b .up) (search needs))
 
-weights-are : (c : tie.After-weights-in-range) → c .weights-in-range .result ≡ weightsInRange (matrixOf (c .before .before .before .before .before .before .before .before .args .b))
-weights-are c = c .weights-in-range .ensures ∙ ap weightsInRange (c .before .matrix-of .ensures)
+weights-are : (c : tie.After-weights-in-range) → c .weights-in-range .result ≡ weightsInRange (weightMatrixOf (c .before .before .before .before .before .before .before .before .args .b))
+weights-are c = c .weights-in-range .ensures ∙ ap weightsInRange (c .before .weight-matrix-of .ensures)
 
 returns : tie.Need-returns
 unfolding baselineInRange
@@ -44,4 +45,4 @@ returns c =
     ap₂ _&&_ (ap₂ _&&_ (ap₂ _&&_ (east-is (o .before .before .before .before)) (north-is (o .before .before))) (up-is o)) (weights-are c)
 
 pub baseline-in-range-spec : {M : Type 1} → statement M
-baseline-in-range-spec = tie.close (tie.spec within-requires within-requires-2 within-requires-3 matrix-of-requires weights-in-range-requires returns)
+baseline-in-range-spec = tie.close (tie.spec within-requires within-requires-2 within-requires-3 weight-matrix-of-requires weights-in-range-requires returns)

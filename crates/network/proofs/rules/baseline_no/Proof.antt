@@ -7,7 +7,8 @@ use mir.Syntax.{w64}
 use mir.ValLaws.{toZ-ofZ}
 use Rattle.weights.specs.Rules.{matrixFits}
 use Rattle.weights.specs.Ranges.{SmallWeights, small-weights}
-use Rattle.network.specs.Rules.{endsFit, matrixOf, baselineInRange, recordNoOver}
+use Rattle.network.specs.Records.{weightMatrixOf}
+use Rattle.network.specs.Rules.{endsFit, baselineInRange, recordNoOver}
 use Rattle.network.specs.Ranges.{baseline-range}
 use Rattle.network.specs.RuleLaws.{baseline-observed}
 use Rattle.network.proofs.rules.baseline_no.Statement.{statement}
@@ -26,10 +27,10 @@ ends c = sym (ends-is (c .before)) ∙ not-false _ (c .if1 .left)
 range : (c : tie.Else2) → baselineInRange (c .before .before .before .before .before .before .args .b) ≡ true
 range c = sym (c .before .baseline-in-range .ensures) ∙ not-false _ (c .if2 .left)
 
-matrix-is : (c : tie.After-matrix-fits) → c .matrix-fits .result ≡ matrixFits (matrixOf (c .before .before .before .before .before .before .before .before .args .b))
-matrix-is c = c .matrix-fits .ensures ∙ ap matrixFits (c .before .matrix-of .ensures)
+matrix-is : (c : tie.After-matrix-fits) → c .matrix-fits .result ≡ matrixFits (weightMatrixOf (c .before .before .before .before .before .before .before .before .args .b))
+matrix-is c = c .matrix-fits .ensures ∙ ap matrixFits (c .before .weight-matrix-of .ensures)
 
-matrix : (c : tie.Else3) → matrixFits (matrixOf (c .before .before .before .before .before .before .before .before .before .args .b)) ≡ true
+matrix : (c : tie.Else3) → matrixFits (weightMatrixOf (c .before .before .before .before .before .before .before .before .before .args .b)) ≡ true
 matrix c = sym (matrix-is (c .before)) ∙ not-false _ (c .if3 .left)
 
 ends-fit-requires : tie.Need-ends-fit-requires
@@ -46,11 +47,11 @@ returns-2 : tie.Need-returns-2
 unfolding recordNoOver
 returns-2 c = rw (ends (c .before .before), sym (c .before .baseline-in-range .ensures) ∙ not-true _ (c .if2 .taken))
 
-matrix-of-requires : tie.Need-matrix-of-requires
-matrix-of-requires c κs = search needs
+weight-matrix-of-requires : tie.Need-weight-matrix-of-requires
+weight-matrix-of-requires c κs = search needs
 
 matrix-fits-requires : tie.Need-matrix-fits-requires
-matrix-fits-requires c κs = subst SmallWeights (sym (c .matrix-of .ensures)) (small-weights (baseline-range _ (range (c .before)) .weights))
+matrix-fits-requires c κs = subst SmallWeights (sym (c .weight-matrix-of .ensures)) (small-weights (baseline-range _ (range (c .before)) .weights))
 
 returns-3 : tie.Need-returns-3
 unfolding recordNoOver
@@ -77,7 +78,7 @@ baseline-no-spec =
     returns
     baseline-in-range-requires
     returns-2
-    matrix-of-requires
+    weight-matrix-of-requires
     matrix-fits-requires
     returns-3
     misclosure-fits-requires

@@ -8,8 +8,7 @@ use mir.Syntax.{w64}
 use mir.ValLaws.{toZ-ofZ}
 use Rattle.weights.specs.Rules.{adjugateE, adjugateN, adjugateU, adjugate, determinant}
 use Rattle.weights.specs.Ranges.{SmallWeights}
-use Rattle.network.specs.Records.{joins}
-use Rattle.network.specs.Rules.{matrixOf}
+use Rattle.network.specs.Records.{weightMatrixOf, joins}
 use Rattle.lists.specs.Stored.{back, kept}
 use Rattle.network.specs.declared.Record.the-variants.{Baseline as baseline}
 use Rattle.residuals.specs.Residuals.{observationVariance}
@@ -21,19 +20,19 @@ use Rattle.sheet.proofs.lines.baseline_line.Tie as tie
 numbered-requires : tie.Need-numbered-requires
 numbered-requires c κs = search needs
 
-matrix-of-requires : tie.Need-matrix-of-requires
-matrix-of-requires c κs = search needs
+weight-matrix-of-requires : tie.Need-weight-matrix-of-requires
+weight-matrix-of-requires c κs = search needs
 
 adjugate-of-requires : tie.Need-adjugate-of-requires
-adjugate-of-requires c κs = subst SmallWeights (sym (c .matrix-of .ensures)) (c .before .before .pre .2 .small)
+adjugate-of-requires c κs = subst SmallWeights (sym (c .weight-matrix-of .ensures)) (c .before .before .pre .2 .small)
 
 -- what the call gave of the baseline's matrix
 adjugate-is : (c : tie.After-adjugate-of)
-    → (c .adjugate-of .result .east ≡ adjugateE (matrixOf (c .before .before .before .args .b)))
-    × (c .adjugate-of .result .north ≡ adjugateN (matrixOf (c .before .before .before .args .b)))
-    × (c .adjugate-of .result .up ≡ adjugateU (matrixOf (c .before .before .before .args .b)))
-    × (c .adjugate-of .result .determinant ≡ determinant (matrixOf (c .before .before .before .args .b)))
-adjugate-is c = rw (c .before .matrix-of .ensures) at (c .adjugate-of .ensures)
+    → (c .adjugate-of .result .east ≡ adjugateE (weightMatrixOf (c .before .before .before .args .b)))
+    × (c .adjugate-of .result .north ≡ adjugateN (weightMatrixOf (c .before .before .before .args .b)))
+    × (c .adjugate-of .result .up ≡ adjugateU (weightMatrixOf (c .before .before .before .args .b)))
+    × (c .adjugate-of .result .determinant ≡ determinant (weightMatrixOf (c .before .before .before .args .b)))
+adjugate-is c = rw (c .before .weight-matrix-of .ensures) at (c .adjugate-of .ensures)
 
 array-copy-out-x : tie.Need-array-copy-out-x
 array-copy-out-x c = search needs
@@ -77,7 +76,7 @@ baseline-line-spec =
     tie.close
     (tie.spec
     numbered-requires
-    matrix-of-requires
+    weight-matrix-of-requires
     adjugate-of-requires
     array-copy-out-x
     array-copy-out-y
