@@ -1,13 +1,12 @@
 -- Loops that test every number below n, and stop at the first that fails. Assumes nothing.
-use Prim.Native.Nat.{ℕ, zero, suc, _+_, _-_, _<_, _≤_}
+use Prim.Native.Nat.{ℕ, zero, suc, _-_, _<_}
 use mathlib.Core.Path.{_≡_, refl, sym, _∙_}
 use mathlib.Core.Bool.{Bool, true, false, cond, _&&_}
-use mathlib.Core.Logic.{_⊎_, inl, inr, ⊎-elim}
+use mathlib.Core.Logic.{_⊎_, inl, inr}
 use native.Mathlib.Omega.{arith}
 use native.Mathlib.Decide.{decLt}
-use native.Mathlib.Numerals.{add-one}
 use Rattle.words.specs.Bools.{clash, true-or-false, and-left, and-right, and-both}
-use Rattle.lists.specs.All.{allBelow, all-suc, all-at}
+use Rattle.lists.specs.All.{allBelow, all-suc, all-fails}
 
 -- the least number below n that fails, n where none does
 unfoldable pub firstFailing : ℕ → (ℕ → Bool) → ℕ
@@ -15,20 +14,6 @@ firstFailing zero p = 0
 firstFailing (suc n) p = cond (allBelow n p) (cond (p n) (suc n) n) (firstFailing n p)
 
 module _ (p : ℕ → Bool) where
-  -- before the first turn, after one that passed, and at one that failed
-  pub all-none : allBelow 0 p ≡ true
-  unfolding allBelow
-  all-none = refl
-
-  pub all-more : {k : ℕ} → allBelow k p ≡ true → p k ≡ true → allBelow (k + 1) p ≡ true
-  all-more {k} a b = rw (add-one, all-suc) (and-both _ _ a b)
-
-  pub all-fails : {k n : ℕ} → k < n → p k ≡ false → allBelow n p ≡ false
-  all-fails {k} {n} h f = ⊎-elim (λ e. clash (all-at n p k e h) f) (λ e. e) (true-or-false (allBelow n p))
-
-  pub all-ended : {k n : ℕ} → k ≤ n → n ≤ k → allBelow k p ≡ true → true ≡ allBelow n p
-  all-ended {k} {n} h l e = let q : k ≡ n = omega arith in sym e ∙ rw q
-
   -- what stopped the loop is the least
   pub first-is : (k n : ℕ) → k < n → allBelow k p ≡ true → p k ≡ false → firstFailing n p ≡ k
   unfolding firstFailing
@@ -36,7 +21,7 @@ module _ (p : ℕ → Bool) where
   first-is k (suc n) h a f = go (λ l. first-is k n l a f) (decLt k n)
     where
       go : (k < n → firstFailing n p ≡ k) → Dec (k < n) → cond (allBelow n p) (cond (p n) (suc n) n) (firstFailing n p) ≡ k
-      go ih (yes l) = rw (all-fails l f) (ih l)
+      go ih (yes l) = rw (all-fails n p k l f) (ih l)
       go ih (no l) = let q : n ≡ k = omega arith in rw (q, a, f)
 
   -- where none fails

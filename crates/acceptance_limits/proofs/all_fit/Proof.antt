@@ -5,10 +5,9 @@ use mathlib.Core.Bool.{Bool, true, false}
 use native.Mathlib.Omega.{arith}
 use borrow.Author.Needs.{needs}
 use borrow.Author.Tests.{not-true, not-false}
-use Rattle.lists.specs.All.{allBelow}
+use Rattle.lists.specs.All.{allBelow, all-none, all-more, all-fails, all-done}
 use Rattle.network.specs.Records.{recordAt}
 use Rattle.network.specs.Rules.{recordFits}
-use Rattle.chains.specs.Scans.{all-none, all-more, all-fails, all-ended}
 use Rattle.acceptance_limits.proofs.all_fit.Statement.{statement}
 use Rattle.acceptance_limits.proofs.all_fit.Tie as tie
 
@@ -40,7 +39,7 @@ record-fits-requires c κs = c .before .before .before .pre
 returns : tie.Need-returns Inv-loop μ-loop
 returns c =
     let t = c .before .before .before .before in
-    sym (all-fails (passes (t .before)) (c .before .before .before .loop-test .taken) (told (c .before) false (not-true _ (c .if1 .taken))))
+    sym (all-fails _ (passes (t .before)) _ (c .before .before .before .loop-test .taken) (told (c .before) false (not-true _ (c .if1 .taken))))
 
 add-p : tie.Need-add-p Inv-loop μ-loop
 add-p c = search needs
@@ -51,10 +50,10 @@ loop-less c = search needs
 loop-again : tie.Need-loop-again Inv-loop μ-loop
 loop-again c =
     let t = c .before .before .before .before in
-    (search needs, all-more (passes (t .before)) (t .loop .inv .1) (told (c .before) true (not-false _ (c .if1 .left))))
+    (search needs, all-more _ (passes (t .before)) (t .loop .inv .1) (told (c .before) true (not-false _ (c .if1 .left))))
 
 returns-2 : tie.Need-returns-2 Inv-loop μ-loop
-returns-2 c = all-ended (passes (c .before .before)) (c .before .loop .inv .0) (c .loop-test .left) (c .before .loop .inv .1)
+returns-2 c = all-done _ (passes (c .before .before)) _ (c .before .loop .inv .0) (c .loop-test .left) (c .before .loop .inv .1)
 
 pub all-fit-spec : {M : Type 1} → statement M
 all-fit-spec =

@@ -9,8 +9,7 @@ use borrow.Author.Tests.{not-true, not-false}
 use lib.Dec.{leb}
 use lib.IntN.{natAbs}
 use Rattle.integers.specs.Sums.{sumN}
-use Rattle.lists.specs.All.{allBelow}
-use Rattle.chains.specs.Scans.{all-none, all-more, all-fails, all-ended}
+use Rattle.lists.specs.All.{allBelow, all-none, all-more, all-fails, all-done}
 use Rattle.acceptance.specs.Tests.{byRows, defect, defectSmall}
 use Rattle.acceptance.specs.Loops.{row-next, row-end}
 use Rattle.acceptance.proofs.inverse.rows_near.Statement.{statement}
@@ -41,7 +40,7 @@ returns : tie.Need-returns Inv-loop μ-loop
 unfolding defectSmall
 returns c =
     let s = c .before .before .before .before in
-    sym (all-fails (passes s) (c .before .before .loop-test .taken) (told (c .before) false (not-true _ (c .if1 .taken))))
+    sym (all-fails _ (passes s) _ (c .before .before .loop-test .taken) (told (c .before) false (not-true _ (c .if1 .taken))))
 
 add-row : tie.Need-add-row Inv-loop μ-loop
 add-row c =
@@ -57,11 +56,11 @@ loop-less c = search needs
 loop-again : tie.Need-loop-again Inv-loop μ-loop
 loop-again c =
     let t = c .before .before .before in
-    (omega arith, (rw (t .loop .inv .1 .0) (row-next _ _), all-more (passes (t .before)) (t .loop .inv .1 .1) (told (c .before) true (not-false _ (c .if1 .left)))))
+    (omega arith, (rw (t .loop .inv .1 .0) (row-next _ _), all-more _ (passes (t .before)) (t .loop .inv .1 .1) (told (c .before) true (not-false _ (c .if1 .left)))))
 
 returns-2 : tie.Need-returns-2 Inv-loop μ-loop
 unfolding defectSmall
-returns-2 c = all-ended (passes (c .before .before)) (c .before .loop .inv .0) (c .loop-test .left) (c .before .loop .inv .1 .1)
+returns-2 c = all-done _ (passes (c .before .before)) _ (c .before .loop .inv .0) (c .loop-test .left) (c .before .loop .inv .1 .1)
 
 pub rows-near-spec : {M : Type 1} → statement M
 rows-near-spec =

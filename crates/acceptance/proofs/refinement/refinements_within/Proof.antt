@@ -11,8 +11,7 @@ use lib.IntN.{ℤ, natAbs, _*ℤ_}
 use mir.Syntax.{w64}
 use mir.Val.{toZ, ofZ}
 use Rattle.integers.specs.Sums.{sum}
-use Rattle.lists.specs.All.{allBelow}
-use Rattle.chains.specs.Scans.{all-none, all-more, all-fails, all-ended}
+use Rattle.lists.specs.All.{allBelow, all-none, all-more, all-fails, all-done}
 use Rattle.acceptance.specs.Tests.{at, byRows}
 use Rattle.acceptance.specs.Loops.{small-factors, vector-dot, dot-small, back, row-next, row-end}
 use Rattle.acceptance.proofs.refinement.refinements_within.Statement.{statement}
@@ -56,7 +55,7 @@ within-requires c κs = search needs
 returns : tie.Need-returns Inv-loop μ-loop
 returns c =
     let s = c .before .before .before .before .before .before in
-    sym (all-fails (passes s) (c .before .before .before .before .loop-test .taken) (told (c .before) false (not-true _ (c .if1 .taken))))
+    sym (all-fails _ (passes s) _ (c .before .before .before .before .loop-test .taken) (told (c .before) false (not-true _ (c .if1 .taken))))
 
 add-row : tie.Need-add-row Inv-loop μ-loop
 add-row c =
@@ -72,10 +71,10 @@ loop-less c = search needs
 loop-again : tie.Need-loop-again Inv-loop μ-loop
 loop-again c =
     let t = c .before .before .before .before .before in
-    (omega arith, (rw (t .loop .inv .1 .0) (row-next _ _), all-more (passes (t .before)) (t .loop .inv .1 .1) (told (c .before) true (not-false _ (c .if1 .left)))))
+    (omega arith, (rw (t .loop .inv .1 .0) (row-next _ _), all-more _ (passes (t .before)) (t .loop .inv .1 .1) (told (c .before) true (not-false _ (c .if1 .left)))))
 
 returns-2 : tie.Need-returns-2 Inv-loop μ-loop
-returns-2 c = all-ended (passes (c .before .before)) (c .before .loop .inv .0) (c .loop-test .left) (c .before .loop .inv .1 .1)
+returns-2 c = all-done _ (passes (c .before .before)) _ (c .before .loop .inv .0) (c .loop-test .left) (c .before .loop .inv .1 .1)
 
 pub refinements-within-spec : {M : Type 1} → statement M
 refinements-within-spec =

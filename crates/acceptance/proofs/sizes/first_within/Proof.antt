@@ -9,8 +9,7 @@ use lib.Dec.{leb}
 use lib.IntN.{ℤ, natAbs}
 use mir.Syntax.{w64}
 use mir.ValLaws.{toZ-ofZ}
-use Rattle.lists.specs.All.{allBelow}
-use Rattle.chains.specs.Scans.{all-none, all-more, all-fails, all-ended}
+use Rattle.lists.specs.All.{allBelow, all-none, all-more, all-fails, all-done}
 use Rattle.acceptance.specs.Tests.{at}
 use Rattle.acceptance.proofs.sizes.first_within.Statement.{statement}
 use Rattle.acceptance.proofs.sizes.first_within.Tie as tie
@@ -43,7 +42,7 @@ within-requires c κs = search needs
 returns : tie.Need-returns Inv-loop μ-loop
 returns c =
     let t = c .before .before .before .before in
-    sym (all-fails (passes (t .before)) (c .before .before .before .loop-test .taken) (sym (is (c .before)) ∙ not-true _ (c .if1 .taken)))
+    sym (all-fails _ (passes (t .before)) _ (c .before .before .before .loop-test .taken) (sym (is (c .before)) ∙ not-true _ (c .if1 .taken)))
 
 add-k : tie.Need-add-k Inv-loop μ-loop
 add-k c = search needs
@@ -54,10 +53,10 @@ loop-less c = search needs
 loop-again : tie.Need-loop-again Inv-loop μ-loop
 loop-again c =
     let t = c .before .before .before .before in
-    (search needs, all-more (passes (t .before)) (t .loop .inv .1) (sym (is (c .before)) ∙ not-false _ (c .if1 .left)))
+    (search needs, all-more _ (passes (t .before)) (t .loop .inv .1) (sym (is (c .before)) ∙ not-false _ (c .if1 .left)))
 
 returns-2 : tie.Need-returns-2 Inv-loop μ-loop
-returns-2 c = all-ended (passes (c .before .before)) (c .before .loop .inv .0) (c .loop-test .left) (c .before .loop .inv .1)
+returns-2 c = all-done _ (passes (c .before .before)) _ (c .before .loop .inv .0) (c .loop-test .left) (c .before .loop .inv .1)
 
 pub first-within-spec : {M : Type 1} → statement M
 first-within-spec =

@@ -5,9 +5,9 @@ use mathlib.Core.Bool.{true}
 use native.Mathlib.Omega.{arith}
 use borrow.Author.Needs.{needs}
 use borrow.Author.Tests.{not-true, not-false}
-use Rattle.lists.specs.All.{allBelow}
+use Rattle.lists.specs.All.{allBelow, all-none, all-more}
 use Rattle.network.specs.Stations.{unknown}
-use Rattle.chains.specs.Scans.{all-none, all-more, first-is, first-none}
+use Rattle.chains.specs.Scans.{first-is, first-none}
 use Rattle.chains.specs.ChainLaws.{heldOrIn}
 use Rattle.chains.proofs.records.first_missing.Statement.{statement}
 use Rattle.chains.proofs.records.first_missing.Tie as tie
@@ -55,7 +55,7 @@ loop-less c = search needs
 loop-again : tie.Need-loop-again Inv-loop μ-loop
 loop-again c =
     let t = c .before .before .before .before in
-    (search needs, all-more _ (t .loop .inv .1) (sym (is (c .before)) ∙ not-false _ (c .if1 .left)))
+    (search needs, all-more _ _ (t .loop .inv .1) (sym (is (c .before)) ∙ not-false _ (c .if1 .left)))
 
 returns-2 : tie.Need-returns-2 Inv-loop μ-loop
 returns-2 c =
