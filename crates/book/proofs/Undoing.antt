@@ -15,7 +15,7 @@ use Rattle.network.specs.declared.Place.{Place}
 use Rattle.network.specs.declared.Record.{Record}
 use Rattle.book.specs.declared.Reversal.{Reversal}
 use Rattle.book.specs.Calls.{changed}
-use Rattle.book.specs.Journal.{free, before, entriesBefore}
+use Rattle.book.specs.Journal.{free, slotBefore, entriesBefore}
 use Rattle.book.specs.Book.{undoable}
 use Rattle.book.specs.PlaceLaws.{record-set}
 use Rattle.book.specs.SoundLaws.{undoable-ext, undoable-none}
@@ -24,7 +24,7 @@ use Rattle.book.specs.SoundLaws.{undoable-ext, undoable-none}
 abbrev pub restoring : Network → Record → Record → Bool
 restoring net held prior = recordFits net prior && not (isEmpty held && isEmpty prior)
 
-next-entry : (entries : List Reversal) (slot left : ℕ) → 0 < left → entriesBefore entries slot left ≡ getD entries (before slot) free ∷ entriesBefore entries (before slot) (left - 1)
+next-entry : (entries : List Reversal) (slot left : ℕ) → 0 < left → entriesBefore entries slot left ≡ getD entries (slotBefore slot) free ∷ entriesBefore entries (slotBefore slot) (left - 1)
 unfolding entriesBefore
 next-entry entries slot left h =
     ap (entriesBefore entries slot) (let e : left ≡ suc (left - 1) = omega arith in e)
@@ -41,9 +41,9 @@ fails-middle false b c d e = refl
 passes : (a b c d : Bool) → a ≡ true → b && c ≡ true → a && b && c && d ≡ d
 passes a b c d e f = rw (e, and-left b c f, and-right b c f)
 
-module _ (net : Network) (entries : List Reversal) (state : List Place) (slot left : ℕ) (some : 0 < left) (u : Reversal) (is : u ≡ getD entries (before slot) free) where
-  here : undoable net (recordAt state) (entriesBefore entries slot left) ≡ undoable net (recordAt state) (u ∷ entriesBefore entries (before slot) (left - 1))
-  here = ap (undoable net (recordAt state)) (next-entry entries slot left some ∙ ap (λ (x : Reversal). x ∷ entriesBefore entries (before slot) (left - 1)) (sym is))
+module _ (net : Network) (entries : List Reversal) (state : List Place) (slot left : ℕ) (some : 0 < left) (u : Reversal) (is : u ≡ getD entries (slotBefore slot) free) where
+  here : undoable net (recordAt state) (entriesBefore entries slot left) ≡ undoable net (recordAt state) (u ∷ entriesBefore entries (slotBefore slot) (left - 1))
+  here = ap (undoable net (recordAt state)) (next-entry entries slot left some ∙ ap (λ (x : Reversal). x ∷ entriesBefore entries (slotBefore slot) (left - 1)) (sym is))
 
   -- a reversal of no place
   pub undo-beyond : 256 ≤ u .place → undoable net (recordAt state) (entriesBefore entries slot left) ≡ false
@@ -58,14 +58,14 @@ module _ (net : Network) (entries : List Reversal) (state : List Place) (slot le
   -- one that does: the walk goes on over the restored places
   pub undo-goes-on : length state ≡ 256 → u .place < 256 → restoring net (recordAt state (u .place)) (u .prior) ≡ true
       → undoable net (recordAt state) (entriesBefore entries slot left)
-      ≡ undoable net (recordAt (set state (u .place) (record { entry = u .prior }))) (entriesBefore entries (before slot) (left - 1))
+      ≡ undoable net (recordAt (set state (u .place) (record { entry = u .prior }))) (entriesBefore entries (slotBefore slot) (left - 1))
   unfolding undoable
   undo-goes-on long h r =
       let inside : u .place < length state = omega arith in
       here
       ∙ passes (ltb (u .place) 256) (recordFits net (u .prior)) (not (isEmpty (recordAt state (u .place)) && isEmpty (u .prior))) _ (lt-ltb _ _ h) r
       ∙ undoable-ext net (changed (recordAt state) (u .place) (u .prior)) (recordAt (set state (u .place) (record { entry = u .prior })))
-      (entriesBefore entries (before slot) (left - 1)) (λ k. record-set state (u .place) (u .prior) k inside)
+      (entriesBefore entries (slotBefore slot) (left - 1)) (λ k. record-set state (u .place) (u .prior) k inside)
 
 pub undo-ends : (net : Network) (entries : List Reversal) (at : ℕ → Record) (slot left : ℕ) → left ≤ 0 → true ≡ undoable net at (entriesBefore entries slot left)
 unfolding entriesBefore

@@ -34,7 +34,7 @@ first-none zero = refl
 first-none (suc m) = refl
 
 -- the second number counts only where the first is 0
-first-same : (m n k : ℕ) → (m ≡ 0 → n ≡ k) → first m n ≡ first m k
+pub first-same : (m n k : ℕ) → (m ≡ 0 → n ≡ k) → first m n ≡ first m k
 unfolding first
 first-same zero n k e = e refl
 first-same (suc m) n k e = refl

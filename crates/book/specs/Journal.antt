@@ -16,11 +16,11 @@ abbrev pub journalSize : ℕ
 journalSize = historySize
 
 -- ════ the ring's counters: the slot before another, the slot after it, and one edit more, but not above the size
-abbrev pub before : ℕ → ℕ
-before slot = (slot + (journalSize - 1)) % journalSize
+abbrev pub slotBefore : ℕ → ℕ
+slotBefore slot = (slot + (journalSize - 1)) % journalSize
 
-abbrev pub after : ℕ → ℕ
-after slot = (slot + 1) % journalSize
+abbrev pub slotAfter : ℕ → ℕ
+slotAfter slot = (slot + 1) % journalSize
 
 abbrev pub oneMore : ℕ → ℕ
 oneMore held = min (held + 1) journalSize
@@ -39,7 +39,7 @@ emptyJournal = record { entries = replicate journalSize free; next = 0; held = 0
 -- the k entries before a slot, the latest first
 unfoldable pub entriesBefore : List Reversal → ℕ → ℕ → List Reversal
 entriesBefore entries slot zero = []
-entriesBefore entries slot (suc k) = getD entries (before slot) free ∷ entriesBefore entries (before slot) k
+entriesBefore entries slot (suc k) = getD entries (slotBefore slot) free ∷ entriesBefore entries (slotBefore slot) k
 
 -- the edits that can be taken back, the latest first
 abbrev pub reversals : Journal → List Reversal
@@ -47,14 +47,14 @@ reversals j = entriesBefore (j .entries) (j .next) (j .held)
 
 -- an accepted edit goes on
 abbrev pub pushed : Journal → Reversal → Journal
-pushed j e = record { entries = set (j .entries) (j .next) e; next = after (j .next); held = oneMore (j .held) }
+pushed j e = record { entries = set (j .entries) (j .next) e; next = slotAfter (j .next); held = oneMore (j .held) }
 
 abbrev pub latest : Journal → Reversal
-latest j = getD (j .entries) (before (j .next)) free
+latest j = getD (j .entries) (slotBefore (j .next)) free
 
 -- "Undo takes the latest off": its slot is free again
 abbrev pub popped : Journal → Journal
-popped j = record { entries = set (j .entries) (before (j .next)) free; next = before (j .next); held = j .held - 1 }
+popped j = record { entries = set (j .entries) (slotBefore (j .next)) free; next = slotBefore (j .next); held = j .held - 1 }
 
 -- the counters in range, and the slots that are not held free
 unfoldable pub isFree : Reversal → Bool

@@ -14,7 +14,7 @@ use Rattle.lists.specs.All.{all-at, all-by}
 use Rattle.network.specs.Records.{isEmpty, observations}
 use Rattle.book.specs.declared.Reversal.{Reversal}
 use Rattle.book.specs.declared.Journal.{Journal}
-use Rattle.book.specs.Journal.{journalSize, before, after, oneMore, age, free, entriesBefore, reversals, pushed, popped, latest, isFree, isHeld, journalFits}
+use Rattle.book.specs.Journal.{journalSize, slotBefore, slotAfter, oneMore, age, free, entriesBefore, reversals, pushed, popped, latest, isFree, isHeld, journalFits}
 
 -- what is stored in a slot is not among the k entries before a slot that lies d before it
 untouched : (l : List Reversal) (slot : ℕ) (e : Reversal) (d k p : ℕ) → slot < journalSize → d + k ≤ (journalSize - 1) → p ≡ (slot + (journalSize - d)) % journalSize
@@ -22,16 +22,16 @@ untouched : (l : List Reversal) (slot : ℕ) (e : Reversal) (d k p : ℕ) → sl
 unfolding entriesBefore
 untouched l slot e d zero p h m q = refl
 untouched l slot e d (suc k) p h m q =
-    let other : before p ≡ slot → ⊥ = λ w. omega arith in
-    ap (λ (u : Reversal). u ∷ entriesBefore (set l slot e) (before p) k) (getD-set-other l slot (before p) e free other)
-    ∙ ap (λ (r : List Reversal). getD l (before p) free ∷ r) (untouched l slot e (d + 1) k (before p) h (omega arith) (omega arith))
+    let other : slotBefore p ≡ slot → ⊥ = λ w. omega arith in
+    ap (λ (u : Reversal). u ∷ entriesBefore (set l slot e) (slotBefore p) k) (getD-set-other l slot (slotBefore p) e free other)
+    ∙ ap (λ (r : List Reversal). getD l (slotBefore p) free ∷ r) (untouched l slot e (d + 1) k (slotBefore p) h (omega arith) (omega arith))
 
 fewer : (l : List Reversal) (p m k : ℕ) → take m (entriesBefore l p k) ≡ entriesBefore l p (min m k)
 unfolding entriesBefore
 fewer l p zero k = ap (entriesBefore l p) (let e : 0 ≡ min 0 k = omega arith in e)
 fewer l p (suc m) zero = ap (entriesBefore l p) (let e : 0 ≡ min (suc m) 0 = omega arith in e)
 fewer l p (suc m) (suc k) =
-    ap (λ (r : List Reversal). getD l (before p) free ∷ r) (fewer l (before p) m k)
+    ap (λ (r : List Reversal). getD l (slotBefore p) free ∷ r) (fewer l (slotBefore p) m k)
     ∙ ap (entriesBefore l p) (let e : suc (min m k) ≡ min (suc m) (suc k) = omega arith in e)
 
 -- the counters in range, and the slots that are not held free
@@ -78,8 +78,8 @@ reversals-push j e len t =
     let k = j .held in
     let p : slot < journalSize = t .next in
     let q : k ≤ journalSize = t .held in
-    let home : before (after slot) ≡ slot = omega arith in
-    ap (λ (n : ℕ). entriesBefore (set l slot e) (after slot) n) (let w : oneMore k ≡ suc (min (journalSize - 1) k) = omega arith in w)
+    let home : slotBefore (slotAfter slot) ≡ slot = omega arith in
+    ap (λ (n : ℕ). entriesBefore (set l slot e) (slotAfter slot) n) (let w : oneMore k ≡ suc (min (journalSize - 1) k) = omega arith in w)
     ∙ ap (λ (n : ℕ). getD (set l slot e) n free ∷ entriesBefore (set l slot e) n (min (journalSize - 1) k)) home
     ∙ ap (λ (u : Reversal). u ∷ entriesBefore (set l slot e) slot (min (journalSize - 1) k)) (getD-set-same l slot e free (omega arith))
     ∙ ap (λ (r : List Reversal). e ∷ r) (untouched l slot e 0 (min (journalSize - 1) k) slot p (omega arith) (omega arith) ∙ sym (fewer l slot (journalSize - 1) k))
@@ -104,19 +104,19 @@ reversals-pop j some t =
     let p : j .next < journalSize = t .next in
     let q : j .held ≤ journalSize = t .held in
     ap (entriesBefore l (j .next)) (let w : j .held ≡ suc (j .held - 1) = omega arith in w)
-    ∙ ap (λ (r : List Reversal). getD l (before (j .next)) free ∷ r)
-    (sym (untouched l (before (j .next)) free 0 (j .held - 1) (before (j .next)) (omega arith) (omega arith) (omega arith)))
+    ∙ ap (λ (r : List Reversal). getD l (slotBefore (j .next)) free ∷ r)
+    (sym (untouched l (slotBefore (j .next)) free 0 (j .held - 1) (slotBefore (j .next)) (omega arith) (omega arith) (omega arith)))
 
 pub tidy-popped : (j : Journal) → length (j .entries) ≡ journalSize → 0 < j .held → Tidy j → Tidy (popped j)
 unfolding isFree isEmpty observations
 tidy-popped j len some t =
     let p : j .next < journalSize = t .next in
     let q : j .held ≤ journalSize = t .held in
-    record { next = omega arith; held = omega arith; blank = λ slot h w. here slot h w (ℕ-discrete slot (before (j .next))) }
+    record { next = omega arith; held = omega arith; blank = λ slot h w. here slot h w (ℕ-discrete slot (slotBefore (j .next))) }
   where
-    here : (slot : ℕ) → slot < journalSize → j .held - 1 ≤ age (before (j .next)) slot → Dec (slot ≡ before (j .next)) → isFree (getD (popped j .entries) slot free) ≡ true
-    here slot h w (yes e) = ap (λ (k : ℕ). isFree (getD (popped j .entries) k free)) e ∙ ap isFree (getD-set-same (j .entries) (before (j .next)) free free (omega arith))
+    here : (slot : ℕ) → slot < journalSize → j .held - 1 ≤ age (slotBefore (j .next)) slot → Dec (slot ≡ slotBefore (j .next)) → isFree (getD (popped j .entries) slot free) ≡ true
+    here slot h w (yes e) = ap (λ (k : ℕ). isFree (getD (popped j .entries) k free)) e ∙ ap isFree (getD-set-same (j .entries) (slotBefore (j .next)) free free (omega arith))
     here slot h w (no e) =
         let p : j .next < journalSize = t .next in
         let q : j .held ≤ journalSize = t .held in
-        ap isFree (getD-set-other (j .entries) (before (j .next)) slot free free e) ∙ t .blank slot h (omega arith)
+        ap isFree (getD-set-other (j .entries) (slotBefore (j .next)) slot free free e) ∙ t .blank slot h (omega arith)

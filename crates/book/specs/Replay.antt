@@ -14,7 +14,7 @@ use Rattle.book.specs.declared.Row.{Row}
 use Rattle.book.specs.Run.{final, answers}
 use Rattle.book.specs.Book.{opening, bookSays, bookNext}
 use Rattle.book.specs.Book as spec
-use Rattle.book.specs.Rows.{rowsIn, rowNext, rowSays}
+use Rattle.book.specs.Rows.{rowLength, rowsIn, rowNext, rowSays}
 use Rattle.book.specs.Demand3.{Demand, bookAfter}
 
 -- one row: its answer, and the book afterwards
@@ -31,7 +31,7 @@ pub record Ran (b : Book) (words : List ℤ) (n : ℕ) (before after : List ℤ)
 
 -- as many rows as the words have whole, and the answers have room for
 abbrev pub rowCount : List ℤ → List ℤ → ℕ
-rowCount words answers = min (length words / 14) (length answers)
+rowCount words answers = min (length words / rowLength) (length answers)
 
 -- of a station list, the words of the rows, the answers before and after, and what is given back
 pub record Replayed (list words before after : List ℤ) (e : Edited) : Type 0 where

@@ -12,31 +12,31 @@ use Rattle.lists.specs.Filling.{Mapped}
 use Rattle.book.specs.declared.Row.{Row}
 use Rattle.book.specs.declared.Row.the-variants.{Nameless}
 use Rattle.book.specs.Run.{final, answers, final-suc, answer-at}
-use Rattle.book.specs.Rows.{rowIn, rowsIn}
+use Rattle.book.specs.Rows.{rowLength, rowIn, rowsIn}
 
 -- ════ the rows
 pub length-rows : (w : List ℤ) (n : ℕ) → length (rowsIn w n) ≡ n
 unfolding rowsIn
 length-rows w n = length-tabulate n _
 
-row-at : (w : List ℤ) (n k : ℕ) → k < n → getD (rowsIn w n) k Nameless ≡ rowIn w (k * 14)
+row-at : (w : List ℤ) (n k : ℕ) → k < n → getD (rowsIn w n) k Nameless ≡ rowIn w (k * rowLength)
 unfolding rowsIn
-row-at w n k h = getD-tabulate n (λ j. rowIn w (j * 14)) k Nameless h
+row-at w n k h = getD-tabulate n (λ j. rowIn w (j * rowLength)) k Nameless h
 
 -- ════ one row more of a machine
 module _ {S : Type 0} (next : S → Row → S) (says : S → Row → ℤ) (s : S) (w : List ℤ) (n k : ℕ) (h : k < n) (t : S) (at : t ≡ final next s (take k (rowsIn w n))) where
   inside : k < length (rowsIn w n)
   inside = let z : length (rowsIn w n) ≡ n = length-rows w n in omega arith
 
-  pub turn-says : says t (rowIn w (k * 14)) ≡ getD (answers next says s (rowsIn w n)) k (pos 0)
+  pub turn-says : says t (rowIn w (k * rowLength)) ≡ getD (answers next says s (rowsIn w n)) k (pos 0)
   turn-says =
-      ap (λ (x : S). says x (rowIn w (k * 14))) at
+      ap (λ (x : S). says x (rowIn w (k * rowLength))) at
       ∙ ap (says (final next s (take k (rowsIn w n)))) (sym (row-at w n k h))
       ∙ sym (answer-at next says s (rowsIn w n) k (pos 0) Nameless inside)
 
-  pub turn-next : next t (rowIn w (k * 14)) ≡ final next s (take (k + 1) (rowsIn w n))
+  pub turn-next : next t (rowIn w (k * rowLength)) ≡ final next s (take (k + 1) (rowsIn w n))
   turn-next =
-      ap (λ (x : S). next x (rowIn w (k * 14))) at
+      ap (λ (x : S). next x (rowIn w (k * rowLength))) at
       ∙ ap (next (final next s (take k (rowsIn w n)))) (sym (row-at w n k h))
       ∙ sym (ap (λ (j : ℕ). final next s (take j (rowsIn w n))) (add-one k) ∙ final-suc next s (rowsIn w n) k Nameless inside)
 

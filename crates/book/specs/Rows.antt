@@ -35,6 +35,10 @@ rowOf (suc (suc (suc (suc k)))) p r = Nameless
 abbrev pub rowIn : List ℤ → ℕ → Row
 rowIn w at = rowOf (indexIn (getD w at (pos 0)) 4) (getD w (at + 1) (pos 0)) (recordIn w (at + 2))
 
+-- the words of a row: the call, the place, and the words of a record that give it
+abbrev pub rowLength : ℕ
+rowLength = 14
+
 -- the first n rows
 unfoldable pub rowsIn : List ℤ → ℕ → List Row
-rowsIn w n = tabulate n (λ k. rowIn w (k * 14))
+rowsIn w n = tabulate n (λ k. rowIn w (k * rowLength))

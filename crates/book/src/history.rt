@@ -3,20 +3,28 @@ use super::Journal;
 use super::Reversal;
 ghost use mathlib.Core.Path.{_≡_};
 ghost use Prim.Native.Nat.{_<_};
-ghost use Rattle.book.specs.Journal.{journalSize, before, after, oneMore, pushed, popped, latest};
+ghost use Rattle.book.specs.Journal.{journalSize, slotBefore, slotAfter, age, oneMore, pushed, popped, latest};
 
 pub fn slot_after(slot: usize) -> usize
     requires { ⌜ slot < journalSize ⌝ }
-    ensures { λ r. ⌜ r ≡ after slot ⌝ }
+    ensures { λ r. ⌜ r ≡ slotAfter slot ⌝ }
 {
     (slot + 1) % Journal::SIZE
 }
 
 pub fn slot_before(slot: usize) -> usize
     requires { ⌜ slot < journalSize ⌝ }
-    ensures { λ r. ⌜ r ≡ before slot ⌝ }
+    ensures { λ r. ⌜ r ≡ slotBefore slot ⌝ }
 {
     (slot + (Journal::SIZE - 1)) % Journal::SIZE
+}
+
+// How many entries came after that of a slot, where next is the slot of the next one.
+pub(crate) fn slot_age(next: usize, slot: usize) -> usize
+    requires { ⌜ (next < journalSize) × (slot < journalSize) ⌝ }
+    ensures { λ r. ⌜ r ≡ age next slot ⌝ }
+{
+    (next + (Journal::SIZE - 1) - slot) % Journal::SIZE
 }
 
 // One edit more, but not above the size.

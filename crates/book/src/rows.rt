@@ -11,7 +11,7 @@ ghost use mathlib.Core.Bool.{true};
 ghost use Prim.Native.Nat.{_+_, _*_, _≤_, min};
 ghost use lib.ListN.{length};
 ghost use Rattle.book.specs.Book.{sound};
-ghost use Rattle.book.specs.Rows.{rowOf, rowIn};
+ghost use Rattle.book.specs.Rows.{rowLength, rowOf, rowIn};
 ghost use Rattle.book.specs.Replay.{Answers, Ran, Replayed};
 
 // The words in a row.
@@ -32,7 +32,7 @@ fn row_of(kind: usize, place: i64, entry: Record) -> Row
 
 // The row whose first word is at index at.
 fn row_in(calls: &[i64], at: usize) -> Row
-    requires { ⌜ at + 14 ≤ length (now calls) ⌝ }
+    requires { ⌜ at + rowLength ≤ length (now calls) ⌝ }
     ensures { λ r. ⌜ r ≡ rowIn (now (calls .entry)) at ⌝ }
 {
     let word = calls[at];
@@ -65,7 +65,7 @@ fn answer(book: Book, row: Row) -> Answered
 
 // The first n rows in turn.
 fn run(book: Book, calls: &[i64], answers: &mut [i64], n: usize) -> Book
-    requires { ⌜ (sound book ≡ true) × (n * 14 ≤ length (now calls)) × (n ≤ length (now answers)) ⌝ }
+    requires { ⌜ (sound book ≡ true) × (n * rowLength ≤ length (now calls)) × (n ≤ length (now answers)) ⌝ }
     ensures { λ b. ⌜ Ran book (now (calls .entry)) n (now (answers .entry)) (now (answers .exit)) b ⌝ }
 {
     let mut state = book;

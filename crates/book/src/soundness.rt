@@ -3,6 +3,7 @@
 use super::Book;
 use super::Journal;
 use super::Reversal;
+use super::history::slot_age;
 use super::slot_before;
 use network::Network;
 use network::Place;
@@ -33,7 +34,7 @@ fn slot_fits(next: usize, held: usize, slot: usize, u: Reversal) -> bool
     requires { ⌜ (next < journalSize) × (slot < journalSize) ⌝ }
     ensures { λ t. ⌜ t ≡ (ltb (age next slot) held || isFree u) ⌝ }
 {
-    let age = (next + (Journal::SIZE - 1) - slot) % Journal::SIZE;
+    let age = slot_age(next, slot);
     if age < held {
         return true;
     }

@@ -1,14 +1,11 @@
 -- The ledger's answers, computed. Refusal 9 looks at every entry of N and u and never comes, so it is left out here; what is left is computed in few steps. Assumes nothing.
-use Prim.Native.Nat.{ℕ, _<_}
+use Prim.Native.Nat.{ℕ}
 use mathlib.Core.Path.{_≡_, refl, sym, ap, _∙_}
-use mathlib.Core.Bool.{Bool, true, false, cond}
+use mathlib.Core.Bool.{true}
 use mathlib.Core.List.{List}
-use borrow.Author.Tests.{ltb-true}
 use lib.IntN.{ℤ}
-use Rattle.words.specs.SignedLaws.{index-test}
 use Rattle.network.specs.Stations.{networkFits}
 use Rattle.network.specs.Records.{recordAt}
-use Rattle.network.specs.Rules.{inList}
 use Rattle.network.specs.declared.Network.{Network}
 use Rattle.network.specs.declared.Record.{Record}
 use Rattle.book.specs.declared.Book.{Book}
@@ -21,6 +18,7 @@ use Rattle.book.specs.Run.{final, answers, Alike, run-answers, run-final}
 use Rattle.book.specs.Rows.{rowNext, rowSays}
 use Rattle.book.specs.Book.{openedBook, bookNext, bookSays}
 use Rattle.book.specs.Ledger.{Ledger, nothing, standing, accepted, ledgerSays}
+use Rattle.book.specs.CallLaws.{first-same, place-inside}
 use Rattle.book.specs.Numbers.{heldNo, held-number}
 use Rattle.book.specs.Follows.{Follows, says, follows-next, follows-opened}
 use Rattle.book.specs.PlaceLaws.{is-placesOf}
@@ -40,15 +38,6 @@ briefAfter net rows = final (rowNext (briefNext net)) nothing rows
 abbrev pub briefAnswers : Network → List Row → List ℤ
 briefAnswers net rows = answers (rowNext (briefNext net)) (rowSays (briefNo net)) nothing rows
 
--- what is judged of the record at a place looks at the 256 places alone
-judged : (f g : ℕ → Record) → ((p : ℕ) → p < 256 → f p ≡ g p) → (h : Record → ℕ) (p : ℤ) → first (placeNo p) (h (f (placeOf p))) ≡ first (placeNo p) (h (g (placeOf p)))
-unfolding first placeNo
-judged f g same h p = go (inList 256 p) refl
-  where
-    go : (t : Bool) → inList 256 p ≡ t → first (cond t 0 2) (h (f (placeOf p))) ≡ first (cond t 0 2) (h (g (placeOf p)))
-    go true e = ap h (same (placeOf p) (ltb-true _ _ (index-test p 256 ∙ e)))
-    go false e = refl
-
 module _ (net : Network) (b : Book) (l : Ledger) (o : Follows net b l) where
   brief-says : (c : Call) → bookSays b c ≡ briefNo net l c
   unfolding briefNo callNo
@@ -56,7 +45,7 @@ module _ (net : Network) (b : Book) (l : Ledger) (o : Follows net b l) where
       let at = recordAt (b .places) in
       ap (first (placeNo p)) (sym (held-number (b .network) at (o .sound .network) (o .sound .records) (placeOf p) c))
       ∙ ap (λ (n : Network). first (placeNo p) (heldNo n (at (placeOf p)) c)) (o .network)
-      ∙ judged at (standing (l .edits)) (o .holds) (λ q. heldNo net q c) p
+      ∙ first-same (placeNo p) _ _ (λ e. ap (λ (q : Record). heldNo net q c) (o .holds (placeOf p) (place-inside p e)))
   brief-says Undo = says net b l o Undo
 
   brief-next : (c : Call) → Follows net (bookNext b c) (briefNext net l c)

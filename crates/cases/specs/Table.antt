@@ -14,18 +14,18 @@ unfoldable pub stationList : List ℤ
 stationList = pos 1 ∷ pos 0 ∷ pos 0 ∷ pos 100000 ∷ pos 3 ∷ pos 0 ∷ pos 0 ∷ pos 101000 ∷ []
 
 -- "H place 1 2 difference 100"
-abbrev pub levelled : ℤ → Record
-levelled difference = heightOf (pos 1) (pos 2) difference (pos 100)
+abbrev pub levelBy : ℤ → Record
+levelBy difference = heightOf (pos 1) (pos 2) difference (pos 100)
 
 abbrev pub level : ℕ → Record
-level difference = levelled (pos difference)
+level difference = levelBy (pos difference)
 
 -- "B place 1 2 0 0 1000 100 EN 0 100 0 100"
-abbrev pub weighted : ℤ → Record
-weighted en = baselineOf (pos 1) (pos 2) (pos 0 ∷ pos 0 ∷ pos 1000 ∷ []) (pos 100 ∷ en ∷ pos 0 ∷ pos 100 ∷ pos 0 ∷ pos 100 ∷ [])
+abbrev pub baselineBy : ℤ → Record
+baselineBy en = baselineOf (pos 1) (pos 2) (pos 0 ∷ pos 0 ∷ pos 1000 ∷ []) (pos 100 ∷ en ∷ pos 0 ∷ pos 100 ∷ pos 0 ∷ pos 100 ∷ [])
 
 abbrev pub baselineWith : ℕ → Record
-baselineWith en = weighted (pos en)
+baselineWith en = baselineBy (pos en)
 
 -- its two H lines, the second with a difference of the case's own
 abbrev pub printed : ℕ → List Call

@@ -11,7 +11,7 @@ ghost use lib.IntN.{pos};
 ghost use lib.ListN.{length};
 ghost use Rattle.network.specs.Stations.{networkOf};
 ghost use Rattle.book.specs.Book.{openedBook, sound};
-ghost use Rattle.cases.specs.Table.{stationList, levelled, weighted, table};
+ghost use Rattle.cases.specs.Table.{stationList, levelBy, baselineBy, table};
 ghost use Rattle.cases.specs.Cases.{CallsMade, Ran, caseAt, enough};
 ghost use Rattle.cases.specs.Script.{callAt, rowsFrom};
 
@@ -37,14 +37,14 @@ const M: [i64; 14] = [M2, M2, 0, M2, M2, M2, M2, M2, M2, M2, M3, M2, M2, M3];
 
 // A height difference from station 1 to station 2 of weight 100.
 fn level(up: i64) -> Record
-    ensures { λ r. ⌜ r ≡ levelled up ⌝ }
+    ensures { λ r. ⌜ r ≡ levelBy up ⌝ }
 {
     network::height_of(1, 2, up, 100)
 }
 
 // A baseline from station 1 to station 2 of weights 100, with `en` in E and N.
 fn baseline_with(en: i64) -> Record
-    ensures { λ r. ⌜ r ≡ weighted en ⌝ }
+    ensures { λ r. ⌜ r ≡ baselineBy en ⌝ }
 {
     network::baseline_of(1, 2, [0, 0, 1000], [100, en, 0, 100, 0, 100])
 }

@@ -12,7 +12,7 @@ use Rattle.network.specs.declared.Network.{Network}
 use Rattle.network.specs.declared.Record.{Record}
 use Rattle.book.specs.declared.Book.{Book}
 use Rattle.book.specs.declared.Reversal.{Reversal}
-use Rattle.book.specs.Journal.{before, after, oneMore, free, latest}
+use Rattle.book.specs.Journal.{slotBefore, slotAfter, oneMore, free, latest}
 use Rattle.book.specs.declared.Change.{Change}
 use Rattle.book.specs.declared.Call.{Call}
 use Rattle.book.specs.declared.Call.the-variants as call
@@ -27,18 +27,18 @@ use Rattle.dombrelat.proofs.Lent.{through-fit}
 
 -- ════ the core edit, with the journal that goes with it
 module _ (s : List ℕ) (b : Book) where
-  pub entered : (i next slot held more : ℕ) (r old : Record) → old ≡ recordAt (b .places) i → next ≡ b .journal .next → held ≡ b .journal .held → slot ≡ after next → more ≡ oneMore held
+  pub entered : (i next slot held more : ℕ) (r old : Record) → old ≡ recordAt (b .places) i → next ≡ b .journal .next → held ≡ b .journal .held → slot ≡ slotAfter next → more ≡ oneMore held
       → putBook s (withEntry b i r (record { entries = set (b .journal .entries) next (record { place = i; prior = old }); next = slot; held = more }))
       ≡ putBook s (edited b i r)
   entered i next slot held more r old p q e n m =
-      let a : slot ≡ after (b .journal .next) = n ∙ ap after q in
+      let a : slot ≡ slotAfter (b .journal .next) = n ∙ ap slotAfter q in
       let h : more ≡ oneMore (b .journal .held) = m ∙ ap oneMore e in
       λ k. putBook s (withEntry b i r (record { entries = set (b .journal .entries) (q k) (record { place = i; prior = p k }); next = a k; held = h k }))
 
-  pub restored : (next slot held : ℕ) (u : Reversal) → next ≡ b .journal .next → slot ≡ before next → held ≡ b .journal .held → u ≡ getD (b .journal .entries) slot free
+  pub restored : (next slot held : ℕ) (u : Reversal) → next ≡ b .journal .next → slot ≡ slotBefore next → held ≡ b .journal .held → u ≡ getD (b .journal .entries) slot free
       → putBook s (withEntry b (u .place) (u .prior) (record { entries = set (b .journal .entries) slot free; next = slot; held = held - 1 })) ≡ putBook s (undone b)
   restored next slot held u q n e p =
-      let a : slot ≡ before (b .journal .next) = n ∙ ap before q in
+      let a : slot ≡ slotBefore (b .journal .next) = n ∙ ap slotBefore q in
       let l : u ≡ latest (b .journal) = p ∙ ap (λ (k : ℕ). getD (b .journal .entries) k free) a in
       λ k. putBook s (withEntry b (l k .place) (l k .prior) (record { entries = set (b .journal .entries) (a k) free; next = a k; held = e k - 1 }))
 

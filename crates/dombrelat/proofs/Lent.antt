@@ -1,4 +1,4 @@
--- Lent bytes: refused with 25, called through, and written back. Assumes nothing.
+-- Lent bytes: refused with 25 or called through, and a call named in two ways. Assumes nothing.
 use Prim.Native.Nat.{ℕ}
 use mathlib.Core.Path.{_≡_, sym, ap, _∙_}
 use mathlib.Core.Bool.{Bool, true, false, cond}

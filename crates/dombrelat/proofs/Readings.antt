@@ -22,7 +22,7 @@ use Rattle.network.specs.declared.Record.{Record}
 use Rattle.sheet.specs.Sheet.{room}
 use Rattle.words.specs.Concat.{concatBelow, concatBelow-front, concatBelow-ext}
 use Rattle.network.specs.RecordWords.{recordWords}
-use Rattle.layout.specs.Layout.{stationPart, bookIn, placesIn}
+use Rattle.layout.specs.Layout.{stationsStart, stationPart, bookIn, placesIn}
 use Rattle.layout.specs.BookWords.{length-station, stations-part}
 use Rattle.layout.specs.Bytes.{wordsOf, bookOf, bytesFit}
 use Rattle.layout.specs.CodecLaws.{read-sized, fits-words, fits-sound}
@@ -78,12 +78,12 @@ module _ (s list : List ℕ) where
   unfolding stationsCall
   stations-unfit e = rw e
 
-  pub stations-fit : (net : Network) (w : List ℤ) → bytesFit s ≡ true → net ≡ bookOf s .network → w ≡ take 128 (drop 2 (wordsOf s))
+  pub stations-fit : (net : Network) (w : List ℤ) → bytesFit s ≡ true → net ≡ bookOf s .network → w ≡ take 128 (drop stationsStart (wordsOf s))
       → gives (net .count) (take (4 * net .count - 0) w) list ≡ stationsCall s list
   unfolding stationsCall
   stations-fit net w e p q =
       let b = bookOf s in
-      let part : w ≡ concatBelow 32 (stationPart (b .network)) = q ∙ ap (λ (l : List ℤ). take 128 (drop 2 l)) (fits-words s e) ∙ stations-part b (read-sized s) in
+      let part : w ≡ concatBelow 32 (stationPart (b .network)) = q ∙ ap (λ (l : List ℤ). take 128 (drop stationsStart l)) (fits-words s e) ∙ stations-part b (read-sized s) in
       let long : 4 * net .count - 0 ≡ 4 * net .count = omega arith in
       let words : take (4 * net .count - 0) w ≡ listWords (b .network) =
       ap₂ take (long ∙ ap (λ (x : Network). 4 * x .count) p) part ∙ list-front (b .network) (network-few (b .network) (fits-sound s e .network)) in

@@ -29,7 +29,7 @@ use Rattle.network.specs.declared.Record.{Record}
 use Rattle.normals.specs.declared.Normals.{Normals}
 use Rattle.book.specs.declared.Reversal.{Reversal}
 use Rattle.book.specs.declared.Book.{Book}
-use Rattle.book.specs.Journal.{journalSize, age, free, isFree, before, entriesBefore}
+use Rattle.book.specs.Journal.{journalSize, age, free, isFree, slotBefore, entriesBefore}
 use Rattle.book.specs.Book.{undoable}
 use Rattle.book.specs.Sound.{Sized, Sound, Undoes, undoable-first}
 use Rattle.words.specs.Concat.{concatBelow-at}
@@ -58,10 +58,10 @@ held-restores : (net : Network) (entries : List Reversal) (n slot t : ℕ) (at :
 unfolding entriesBefore
 held-restores net entries zero slot t at s h l e = absurd (omega arith)
 held-restores net entries (suc n) slot t at s h l e =
-    let o = undoable-first net at (getD entries (before slot) free) (entriesBefore entries (before slot) n) e in
-    go o (λ q. held-restores net entries n (before slot) t _ (omega arith) h (omega arith) (o .rest)) (ℕ-discrete t (before slot))
+    let o = undoable-first net at (getD entries (slotBefore slot) free) (entriesBefore entries (slotBefore slot) n) e in
+    go o (λ q. held-restores net entries n (slotBefore slot) t _ (omega arith) h (omega arith) (o .rest)) (ℕ-discrete t (slotBefore slot))
   where
-    go : Undoes net at (getD entries (before slot) free) (entriesBefore entries (before slot) n) → ((t ≡ before slot → ⊥) → Restores net (getD entries t free)) → Dec (t ≡ before slot)
+    go : Undoes net at (getD entries (slotBefore slot) free) (entriesBefore entries (slotBefore slot) n) → ((t ≡ slotBefore slot → ⊥) → Restores net (getD entries t free)) → Dec (t ≡ slotBefore slot)
         → Restores net (getD entries t free)
     go o earlier (yes p) = subst (λ (k : ℕ). Restores net (getD entries k free)) (sym p) (record { inside = o .inside; fits = o .fits })
     go o earlier (no q) = earlier q

@@ -28,7 +28,7 @@ pub record Observed (coordinate : List ℤ) (r : Record) : Type 0 where
   pub values : (a : ℕ) → natAbs (getD (observed r) a (pos 0)) ≤ 1000000000
   pub provisional : Within 96 500000000 coordinate
 
-pub misclosure-size : (c : List ℤ) (f t a : ℕ) (o : ℤ) → natAbs o ≤ 1000000000 → Within 96 500000000 c → natAbs (misclosureAt c f t a o) ≤ 2000000000
+misclosure-size : (c : List ℤ) (f t a : ℕ) (o : ℤ) → natAbs o ≤ 1000000000 → Within 96 500000000 c → natAbs (misclosureAt c f t a o) ≤ 2000000000
 unfolding misclosureAt
 misclosure-size c f t a o h w =
     let x = w .bound (t * 3 + a) in

@@ -3,7 +3,7 @@ use borrow.Author.Needs.{needs}
 use mathlib.Core.Path.{_∙_}
 use mir.Syntax.{w64}
 use mir.Facts.{toZ-ofZ}
-use Rattle.cases.specs.Table.{weighted}
+use Rattle.cases.specs.Table.{baselineBy}
 use Rattle.cases.proofs.baseline_with.Statement.{statement}
 use Rattle.cases.proofs.baseline_with.Tie as tie
 
@@ -11,7 +11,7 @@ baseline-of-requires : tie.Need-baseline-of-requires
 baseline-of-requires c κs = search needs
 
 returns : tie.Need-returns
-returns c = c .baseline-of .ensures ∙ (λ i. weighted (toZ-ofZ {w = w64} (c .before .fits .en) i))
+returns c = c .baseline-of .ensures ∙ (λ i. baselineBy (toZ-ofZ {w = w64} (c .before .fits .en) i))
 
 pub baseline-with-spec : {M : Type 1} → statement M
 baseline-with-spec = tie.close (tie.spec baseline-of-requires returns)

@@ -5,6 +5,7 @@ use native.Mathlib.Omega.{arith}
 use borrow.Author.Needs.{needs}
 use denote.Ref.{now}
 use lib.ListN.{length}
+use Rattle.book.specs.Rows.{rowLength}
 use Rattle.book.proofs.Replays.{opened-sound, replay-refused, replay-done}
 use Rattle.book.proofs.rows.replay.Statement.{statement}
 use Rattle.book.proofs.rows.replay.Tie as tie
@@ -21,7 +22,7 @@ least-requires c κs = search needs
 run-requires : tie.Need-run-requires
 run-requires c κs =
     let t = c .before .before .before in
-    let n : c .before .before .least .result ≡ min (length (now (t .before .before .args .calls)) / 14) (length (now (t .before .before .args .answers))) = c .before .before .least .ensures in
+    let n : c .before .before .least .result ≡ min (length (now (t .before .before .args .calls)) / rowLength) (length (now (t .before .before .args .answers))) = c .before .before .least .ensures in
     (opened-sound (now (t .before .before .args .list)) _ (t .before .«open» .ensures) (t .if1 .left), omega arith, omega arith)
 
 same-length : tie.Need-same-length

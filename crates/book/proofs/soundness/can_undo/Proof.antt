@@ -7,7 +7,7 @@ use borrow.Author.Tests.{not-true, not-false}
 use lib.ListN.{length, getD, set, length-set}
 use Rattle.lists.specs.Filling.{length-mapped}
 use Rattle.network.specs.Records.{recordAt}
-use Rattle.book.specs.Journal.{journalSize, before, free, entriesBefore}
+use Rattle.book.specs.Journal.{journalSize, slotBefore, free, entriesBefore}
 use Rattle.book.specs.Book.{undoable}
 use Rattle.book.proofs.Undoing.{undo-beyond, undo-fails, undo-goes-on, undo-ends}
 use Rattle.book.proofs.soundness.can_undo.Statement.{statement}
@@ -27,7 +27,7 @@ some c = search needs
 
 -- the entry that is taken back
 entry-is : (b : tie.After-slot-before Inv-loop μ-loop) → let j = b .before .before .before .before .args .journal in
-    getD (j .entries) (b .slot-before .result) free ≡ getD (j .entries) (before (b .before .before .loop .slot)) free
+    getD (j .entries) (b .slot-before .result) free ≡ getD (j .entries) (slotBefore (b .before .before .loop .slot)) free
 entry-is b = ap (λ (k : ℕ). getD (b .before .before .before .before .args .journal .entries) k free) (b .slot-before .ensures)
 
 loop-holds : tie.Need-loop-holds Inv-loop μ-loop

@@ -6,7 +6,7 @@ use native.Mathlib.Omega.{arith}
 use lib.ListN.{length, getD}
 use Rattle.network.specs.Rules.{recordFits}
 use Rattle.book.specs.declared.Reversal.{Reversal}
-use Rattle.book.specs.Journal.{journalSize, before, free, latest}
+use Rattle.book.specs.Journal.{journalSize, slotBefore, free, latest}
 use Rattle.book.specs.SoundLaws.{latest-undoes}
 use Rattle.layout.specs.Bytes.{bookOf}
 use Rattle.layout.specs.CodecLaws.{fits-room, fits-sound}
@@ -48,7 +48,7 @@ put-requires c κs =
     let t = s .args .s .now in
     let b = bookOf t in
     let last : u .slot-in .result ≡ latest (b .journal) =
-    u .slot-in .ensures ∙ ap (λ (k : ℕ). getD (b .journal .entries) k free) (a .slot-before .ensures ∙ ap before (n .next-in .ensures)) in
+    u .slot-in .ensures ∙ ap (λ (k : ℕ). getD (b .journal .entries) k free) (a .slot-before .ensures ∙ ap slotBefore (n .next-in .ensures)) in
     let m = latest-undoes b (fits-sound t (s .pre .0)) (subst (λ (k : ℕ). 0 < k) (s .pre .1) (s .pre .2)) in
     let w = subst (λ (x : Reversal). (x .place < 256) × (recordFits (b .network) (x .prior) ≡ true)) (sym last) (m .inside, m .fits) in
     (s .pre .0, w .0, w .1, inside a)
