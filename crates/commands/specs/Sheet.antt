@@ -70,12 +70,13 @@ unfoldable pub stationLines : List ℤ → ℕ → List ℕ
 stationLines w zero = []
 stationLines w (suc n) = stationLines w n ++ stationLine w (2 + n * 7)
 
--- the shape of a record is how many components it observes: 3 a baseline, else a height difference
+-- the shape of a record is how many components it observes: 3 a baseline, 1 a height difference; no other has a line
 unfoldable pub recordLine : List ℤ → ℕ → ℕ → List ℕ
-recordLine w o shape = cond (eqb shape 3) (baselineLine w o) (heightLine w o)
+recordLine w o shape = cond (eqb shape 3) (baselineLine w o) (cond (eqb shape 1) (heightLine w o) [])
 
+-- the place, and a residual and a verdict for each component
 unfoldable pub recordWords : ℕ → ℕ
-recordWords shape = cond (eqb shape 3) 7 3
+recordWords shape = 1 + 2 * shape
 
 -- where the words of record k start, the first at o
 unfoldable pub recordStart : ℕ → List ℕ → ℕ → ℕ

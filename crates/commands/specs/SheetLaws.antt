@@ -92,17 +92,22 @@ pub a-baseline : (w : List ℤ) (o shape : ℕ) → shape ≡ 3 → baselineLine
 unfolding recordLine
 a-baseline w o shape e = rw (eq-eqb shape 3 e)
 
-pub a-height : (w : List ℤ) (o shape : ℕ) → (shape ≡ 3 → ⊥) → heightLine w o ≡ recordLine w o shape
-unfolding recordLine
-a-height w o shape q = rw (ne-eqb shape 3 q)
+module _ (w : List ℤ) (o shape : ℕ) (q : shape ≡ 3 → ⊥) where
+  pub a-height : shape ≡ 1 → heightLine w o ≡ recordLine w o shape
+  unfolding recordLine
+  a-height e = rw (ne-eqb shape 3 q, eq-eqb shape 1 e)
+
+  pub no-line : (shape ≡ 1 → ⊥) → [] ≡ recordLine w o shape
+  unfolding recordLine
+  no-line e = rw (ne-eqb shape 3 q, ne-eqb shape 1 e)
 
 pub seven-words : (shape : ℕ) → shape ≡ 3 → recordWords shape ≡ 7
 unfolding recordWords
-seven-words shape e = rw (eq-eqb shape 3 e)
+seven-words shape e = rw e
 
-pub three-words : (shape : ℕ) → (shape ≡ 3 → ⊥) → recordWords shape ≡ 3
+pub three-words : (shape : ℕ) → shape ≡ 1 → recordWords shape ≡ 3
 unfolding recordWords
-three-words shape q = rw (ne-eqb shape 3 q)
+three-words shape e = rw e
 
 module _ (o : ℕ) (shapes : List ℕ) where
   pub records-start : (l : List ℕ) (at : ℕ) (w : List ℤ) → Written l at (recordLines w o shapes 0) at l

@@ -144,13 +144,16 @@ fn write_record(out: &mut [u8], at: usize, w: &[i64], o: usize, shape: u8) -> us
     if shape == 3 {
         return write_baseline(out, at, w, o);
     }
-    write_height(out, at, w, o)
+    if shape == 1 {
+        return write_height(out, at, w, o);
+    }
+    at
 }
 
 fn record_words(shape: u8) -> usize
     ensures { λ r. ⌜ r ≡ recordWords shape ⌝ }
 {
-    if shape == 3 { 7 } else { 3 }
+    1 + 2 * (shape as usize)
 }
 
 // The lines of the records of those shapes, whose words start at o, and where the words after them start.

@@ -16,7 +16,6 @@ use Rattle.network.specs.Records.{observations, isEmpty, recordAt}
 use Rattle.network.specs.declared.Network.{Network}
 use Rattle.network.specs.declared.Place.{Place}
 use Rattle.network.specs.declared.Record.{Record}
-use Rattle.network.specs.declared.Record.the-variants.{Empty, Baseline as baseline, Height as height}
 use Rattle.acceptance.specs.Judge.{numberOf, unknownOf}
 use Rattle.acceptance.specs.declared.Answer.{Answer}
 use Rattle.acceptance.specs.declared.Answer.the-variants.{Accepted, Refused}
@@ -85,10 +84,15 @@ module _ (o : ℕ) where
       rw (e, start-front a (shape ∷ []) (length a) (omega arith), g)
 
   start-record : (a : List ℕ) (r : Record) → recordStart o (a ++ shapesAt r) (length (a ++ shapesAt r)) ≡ recordStart o a (length a) + wordsOf r
-  unfolding shapesAt wordsOf recordWords isEmpty observations
-  start-record a Empty = rw append-nil (omega arith)
-  start-record a (baseline b) = start-last a 3
-  start-record a (height h) = start-last a 1
+  unfolding shapesAt wordsOf recordWords
+  start-record a r = go (isEmpty r)
+    where
+      none : recordStart o (a ++ []) (length (a ++ [])) ≡ recordStart o a (length a) + 0
+      none = rw append-nil (omega arith)
+
+      go : (t : Bool) → recordStart o (a ++ cond t [] (observations r ∷ [])) (length (a ++ cond t [] (observations r ∷ []))) ≡ recordStart o a (length a) + cond t 0 (1 + 2 * observations r)
+      go true = none
+      go false = start-last a (observations r)
 
   start-below : (places : List Place) (k : ℕ) → recordStart o (shapesBelow places k) (length (shapesBelow places k)) ≡ o + sumN k (λ p. wordsOf (recordAt places p))
   unfolding shapesBelow recordStart sumN

@@ -1,14 +1,19 @@
--- `commands::printing::record_words` meets its contract. Assumes nothing.
-use Rattle.commands.specs.SheetLaws.{seven-words, three-words}
-use mathlib.Core.Path.{sym}
+-- `record_words` is the definition, unfolded. Assumes nothing.
+use mathlib.Core.Path.{refl}
+use borrow.Author.Needs.{needs}
+use Rattle.commands.specs.Sheet.{recordWords}
 use Rattle.commands.proofs.printing.record_words.Statement.{statement}
 use Rattle.commands.proofs.printing.record_words.Tie as tie
 
-returns : tie.Need-returns
-returns c = sym (seven-words _ (c .if1 .taken))
+mul-result : tie.Need-mul-result
+mul-result c = search needs
 
-returns-2 : tie.Need-returns-2
-returns-2 c = sym (three-words _ (c .if1 .left))
+add-result : tie.Need-add-result
+add-result c = search needs
+
+returns : tie.Need-returns
+unfolding recordWords
+returns c = refl
 
 pub record-words-spec : {M : Type 1} → statement M
-record-words-spec = tie.close (tie.spec returns returns-2)
+record-words-spec = tie.close (tie.spec mul-result add-result returns)
