@@ -8,3 +8,4 @@ pub mod Same
 -- Sizes of a written list's entries, and a number that code stores and reads again
 pub mod Sizes
 pub mod Stored
+pub mod Pasted

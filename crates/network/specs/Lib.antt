@@ -7,6 +7,8 @@ pub mod Records
 pub mod RecordLaws
 pub mod RecordWords
 pub mod RecordWordLaws
+pub mod Places
+pub mod PlaceLaws
 pub mod StationWords
 pub mod Rules
 pub mod Ranges

@@ -3,6 +3,7 @@
 mod as_words;
 mod constructors;
 mod opening;
+mod places;
 mod record_codec;
 mod records;
 mod rules;
@@ -18,6 +19,8 @@ pub use opening::network_fits;
 pub use opening::network_of;
 pub use opening::open_no;
 pub use opening::opens;
+pub use places::place_words;
+pub use places::record_at;
 pub use record_codec::baseline_in;
 pub use record_codec::record_in;
 pub use record_codec::record_words;
