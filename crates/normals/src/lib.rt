@@ -1,11 +1,13 @@
 // The normal equations: document 01's N = AᵀPA and u = AᵀPl of the records, from scratch and kept under the exchange of one record.
 use network::Network;
-use network::Place;
 use network::Record;
 use network::Unit;
 ghost use mathlib.Core.Path.{_≡_};
-ghost use lib.ListN.{length};
-ghost use Rattle.normals.specs.Formulas.{normalsOf};
+ghost use Prim.Native.Nat.{_≤_};
+ghost use lib.ListN.{length, replicate};
+ghost use lib.IntN.{pos};
+ghost use Rattle.network.specs.Places.{placesLength, placesIn};
+ghost use Rattle.normals.specs.Formulas.{matrixOf, rightOf, normalsOf};
 ghost use Rattle.normals.specs.Sound.{Sound};
 ghost use Rattle.normals.specs.Blank.{blankNormals};
 ghost use Rattle.normals.specs.Exchange.{Exchangeable, exchangedN, exchangedU};
@@ -46,37 +48,53 @@ impl Normals {
     }
 
     // N and u from scratch.
-    pub fn of(net: Network, places: [Place; Unit::PLACES]) -> Normals
-        requires { ⌜ Sound net places ⌝ }
-        ensures { λ r. ⌜ r ≡ normalsOf (net .stations) places ⌝ }
+    pub fn of(net: Network, places: &[i64]) -> Normals
+        requires { ⌜ (placesLength ≤ length (now places)) × Sound net (placesIn (now places)) ⌝ }
+        ensures { λ r. ⌜ r ≡ normalsOf (net .stations) (placesIn (now (places .entry))) ⌝ }
     {
-        let stations = net.stations;
-        let at = network::numbers_of(stations);
-        let unknown = network::unknowns_of(stations);
-        let coordinate = network::coordinates_of(stations);
         let mut n = [0i64; Normals::ENTRIES];
         let mut u = [0i64; Normals::ROW];
-        let mut p = 0;
-        while p < Unit::PLACES {
-            let x = places[p];
-            let r = x.entry;
-            let q = records::equation_of(&at, &unknown, &coordinate, r);
-            equations::add_equation(&mut n, &mut u, q, 1);
-            p = p + 1;
-        }
+        add_records(&mut n, &mut u, net, places);
         Normals {
             matrix: n,
             right: u,
         }
     }
+}
 
-    // Whether N and u are the same.
-    pub fn same(self, other: Normals) -> bool
-        ensures { λ r. ⌜ r ≡ sameNormals self other ⌝ }
-    {
-        lists::same_entries(&self.matrix, &other.matrix)
-            & lists::same_entries(&self.right, &other.right)
+// Makes N and u of no records those of the records. They are lent, so that who only compares them copies no N.
+fn add_records(
+    n: &mut [i64; Normals::ENTRIES],
+    u: &mut [i64; Normals::ROW],
+    net: Network,
+    places: &[i64],
+)
+    requires { ⌜ (placesLength ≤ length (now places)) × Sound net (placesIn (now places)) × (now n ≡ replicate 2304 (pos 0)) × (now u ≡ replicate 48 (pos 0)) ⌝ }
+    ensures matrix { λ _. ⌜ now (n .exit) ≡ matrixOf (net .stations) (placesIn (now (places .entry))) ⌝ }
+    ensures right { λ _. ⌜ now (u .exit) ≡ rightOf (net .stations) (placesIn (now (places .entry))) ⌝ }
+{
+    let stations = net.stations;
+    let at = network::numbers_of(stations);
+    let unknown = network::unknowns_of(stations);
+    let coordinate = network::coordinates_of(stations);
+    let mut p = 0;
+    while p < Unit::PLACES {
+        let r = network::record_at(places, p);
+        let q = records::equation_of(&at, &unknown, &coordinate, r);
+        equations::add_equation(n, u, q, 1);
+        p = p + 1;
     }
+}
+
+// Whether N and u are those of the records.
+pub fn are_of(net: Network, places: &[i64], matrix: &[i64], right: &[i64]) -> bool
+    requires { ⌜ (placesLength ≤ length (now places)) × Sound net (placesIn (now places)) × (length (now matrix) ≡ 2304) × (length (now right) ≡ 48) ⌝ }
+    ensures { λ t. ⌜ t ≡ sameNormals (record { matrix = now (matrix .entry); right = now (right .entry) }) (normalsOf (net .stations) (placesIn (now (places .entry)))) ⌝ }
+{
+    let mut n = [0i64; Normals::ENTRIES];
+    let mut u = [0i64; Normals::ROW];
+    add_records(&mut n, &mut u, net, places);
+    lists::same_entries(matrix, &n) & lists::same_entries(right, &u)
 }
 
 // One record's share taken off N and u, and another's put on: at most 72 entries of N and 12 of u are touched.
