@@ -1,5 +1,5 @@
 -- A book's value tested part by part, in the order of `sound`. Assumes nothing.
-use mathlib.Core.Path.{_≡_, ap, _∙_}
+use mathlib.Core.Path.{_≡_}
 use mathlib.Core.Bool.{Bool, true, false, _&&_}
 use Rattle.lists.specs.All.{allBelow, all-at}
 use Rattle.network.specs.Stations.{networkFits}
@@ -8,7 +8,6 @@ use Rattle.network.specs.Rules.{recordFits}
 use Rattle.normals.specs.Formulas.{normalsOf}
 use Rattle.normals.specs.Same.{sameNormals}
 use Rattle.normals.specs.Sound as normals
-use Rattle.normals.specs.declared.Normals.{Normals}
 use Rattle.book.specs.declared.Book.{Book}
 use Rattle.book.specs.Journal.{journalFits, reversals}
 use Rattle.book.specs.Book.{recordsFit, undoable, sound}
@@ -55,8 +54,6 @@ module _ (b : Book) where
         unfolding sound recordsFit
         undo-fails e = fourth (networkFits (b .network)) records (journalFits (b .journal)) undoes _ n r j e
 
-        pub all-but-normals : undoes ≡ true → (fresh : Normals) → fresh ≡ normalsOf (b .network .stations) (b .places) → sameNormals (b .normals) fresh ≡ sound b
+        pub all-but-normals : undoes ≡ true → sameNormals (b .normals) (normalsOf (b .network .stations) (b .places)) ≡ sound b
         unfolding sound recordsFit
-        all-but-normals u fresh e =
-            ap (sameNormals (b .normals)) e
-            ∙ last (networkFits (b .network)) records (journalFits (b .journal)) undoes (sameNormals (b .normals) (normalsOf (b .network .stations) (b .places))) n r j u
+        all-but-normals u = last (networkFits (b .network)) records (journalFits (b .journal)) undoes _ n r j u

@@ -2,6 +2,7 @@ pub mod Calls
 pub mod Ledger
 pub mod Journal
 pub mod Book
+pub mod Empties
 pub mod Run
 pub mod PlaceLaws
 pub mod JournalLaws

@@ -6,20 +6,21 @@ use super::Reversal;
 use super::history::slot_age;
 use super::slot_before;
 use network::Network;
-use network::Place;
 use network::Record;
-use normals::Normals;
+use network::Unit;
 ghost use mathlib.Core.Path.{_≡_};
 ghost use mathlib.Core.Bool.{true, not, _&&_, _||_};
-ghost use Prim.Native.Nat.{_<_};
+ghost use Prim.Native.Nat.{_<_, _≤_};
 ghost use lib.Dec.{ltb};
-ghost use lib.ListN.{getD};
+ghost use lib.ListN.{length, getD};
 ghost use Rattle.lists.specs.All.{allBelow};
 ghost use Rattle.network.specs.Stations.{coordinates, networkFits};
 ghost use Rattle.network.specs.Records.{recordAt, isEmpty};
 ghost use Rattle.network.specs.Rules.{recordFits};
+ghost use Rattle.network.specs.Places.{placesLength, placesIn};
 ghost use Rattle.book.specs.Journal.{journalSize, age, free, isFree, isHeld, journalFits, reversals};
 ghost use Rattle.book.specs.Book.{undoable, sound};
+ghost use Rattle.book.specs.Empties.{empties, undoableBy};
 
 fn is_free(u: Reversal) -> bool
     ensures { λ t. ⌜ t ≡ isFree u ⌝ }
@@ -74,7 +75,7 @@ fn journal_fits(journal: Journal) -> bool
 }
 
 // A record by the rules of the network, whose provisional coordinates are given.
-fn record_fits(net: Network, coordinate: &[i64; 96], r: Record) -> bool
+fn record_fits(net: Network, coordinate: &[i64; Unit::COMPONENTS], r: Record) -> bool
     requires { ⌜ (networkFits net ≡ true) × (now coordinate ≡ coordinates (net .stations)) ⌝ }
     ensures { λ t. ⌜ t ≡ recordFits net r ⌝ }
 {
@@ -82,14 +83,13 @@ fn record_fits(net: Network, coordinate: &[i64; 96], r: Record) -> bool
     network::record_fits_over(count, coordinate, r)
 }
 
-fn records_fit(net: Network, coordinate: &[i64; 96], places: [Place; 256]) -> bool
-    requires { ⌜ (networkFits net ≡ true) × (now coordinate ≡ coordinates (net .stations)) ⌝ }
-    ensures { λ t. ⌜ t ≡ allBelow 256 (λ p. recordFits net (recordAt places p)) ⌝ }
+fn records_fit(net: Network, coordinate: &[i64; Unit::COMPONENTS], places: &[i64]) -> bool
+    requires { ⌜ (placesLength ≤ length (now places)) × (networkFits net ≡ true) × (now coordinate ≡ coordinates (net .stations)) ⌝ }
+    ensures { λ t. ⌜ t ≡ allBelow 256 (λ p. recordFits net (recordAt (placesIn (now (places .entry))) p)) ⌝ }
 {
     let mut p = 0;
-    while p < 256 {
-        let q = places[p];
-        let r = q.entry;
+    while p < Unit::PLACES {
+        let r = network::record_at(places, p);
         if !record_fits(net, coordinate, r) {
             return false;
         }
@@ -98,23 +98,44 @@ fn records_fit(net: Network, coordinate: &[i64; 96], places: [Place; 256]) -> bo
     true
 }
 
-// Restoring `prior` where `held` stands: by the rules, and not from an empty place to an empty one.
-fn restores(net: Network, coordinate: &[i64; 96], held: Record, prior: Record) -> bool
+// Restoring `prior` to a place: by the rules, and not from an empty place to an empty one.
+fn restores(net: Network, coordinate: &[i64; Unit::COMPONENTS], empty: bool, prior: Record) -> bool
     requires { ⌜ (networkFits net ≡ true) × (now coordinate ≡ coordinates (net .stations)) ⌝ }
-    ensures { λ t. ⌜ t ≡ (recordFits net prior && not (isEmpty held && isEmpty prior)) ⌝ }
+    ensures { λ t. ⌜ t ≡ (recordFits net prior && not (empty && isEmpty prior)) ⌝ }
 {
     let fits = record_fits(net, coordinate, prior);
-    let none = network::is_empty(held) & network::is_empty(prior);
+    let none = empty & network::is_empty(prior);
     fits & !none
 }
 
-// The journal walked back on a copy of the places.
-fn can_undo(net: Network, coordinate: &[i64; 96], places: [Place; 256], journal: Journal) -> bool
+// Which places are empty.
+fn empties_in(places: &[i64]) -> [bool; Unit::PLACES]
+    requires { ⌜ placesLength ≤ length (now places) ⌝ }
+    ensures { λ e. ⌜ e ≡ empties (placesIn (now (places .entry))) ⌝ }
+{
+    let mut empty = [false; Unit::PLACES];
+    let mut p = 0;
+    while p < Unit::PLACES {
+        let r = network::record_at(places, p);
+        let none = network::is_empty(r);
+        empty[p] = none;
+        p = p + 1;
+    }
+    empty
+}
+
+// The journal walked back. Of the places it changes no more than which are empty: nothing else of what they hold is looked at.
+fn walks_back(
+    net: Network,
+    coordinate: &[i64; Unit::COMPONENTS],
+    empty: [bool; Unit::PLACES],
+    journal: Journal,
+) -> bool
     requires { ⌜ (networkFits net ≡ true) × (now coordinate ≡ coordinates (net .stations)) × (journal .next < journalSize) ⌝ }
-    ensures { λ t. ⌜ t ≡ undoable net (recordAt places) (reversals journal) ⌝ }
+    ensures { λ t. ⌜ t ≡ undoableBy net empty (reversals journal) ⌝ }
 {
     let entries = journal.entries;
-    let mut state = places;
+    let mut state = empty;
     let mut slot = journal.next;
     let mut left = journal.held;
     while left > 0 {
@@ -122,23 +143,44 @@ fn can_undo(net: Network, coordinate: &[i64; 96], places: [Place; 256], journal:
         let u = entries[slot];
         let p = u.place;
         let prior = u.prior;
-        if p >= 256 {
+        if p >= Unit::PLACES {
             return false;
         }
-        let q = state[p];
-        let held = q.entry;
+        let held = state[p];
         if !restores(net, coordinate, held, prior) {
             return false;
         }
-        state[p] = Place { entry: prior };
+        let none = network::is_empty(prior);
+        state[p] = none;
         left = left - 1;
     }
     true
 }
 
-// The parts of a book pass what 25 tests. They come apart, so that a caller that has no book yet need not put one together.
-pub fn parts_fit(network: Network, places: [Place; 256], journal: Journal, normals: Normals) -> bool
-    ensures { λ t. ⌜ t ≡ sound (record { network = network; places = places; journal = journal; normals = normals }) ⌝ }
+// Each edit of the journal can be taken back.
+fn can_undo(
+    net: Network,
+    coordinate: &[i64; Unit::COMPONENTS],
+    places: &[i64],
+    journal: Journal,
+) -> bool
+    requires { ⌜ (placesLength ≤ length (now places)) × (networkFits net ≡ true) × (now coordinate ≡ coordinates (net .stations)) × (journal .next < journalSize) ⌝ }
+    ensures { λ t. ⌜ t ≡ undoable net (recordAt (placesIn (now (places .entry)))) (reversals journal) ⌝ }
+{
+    let empty = empties_in(places);
+    walks_back(net, coordinate, empty, journal)
+}
+
+// The parts of a book pass what 25 tests. They come apart, the large ones lent, so that a caller that has no book yet need not put one together.
+pub fn parts_fit(
+    network: Network,
+    places: &[i64],
+    journal: Journal,
+    matrix: &[i64],
+    right: &[i64],
+) -> bool
+    requires { ⌜ (placesLength ≤ length (now places)) × (length (now matrix) ≡ 2304) × (length (now right) ≡ 48) ⌝ }
+    ensures { λ t. ⌜ t ≡ sound (record { network = network; places = placesIn (now (places .entry)); journal = journal; normals = record { matrix = now (matrix .entry); right = now (right .entry) } }) ⌝ }
 {
     if !network::network_fits(network) {
         return false;
@@ -154,8 +196,7 @@ pub fn parts_fit(network: Network, places: [Place; 256], journal: Journal, norma
     if !can_undo(network, &coordinate, places, journal) {
         return false;
     }
-    let fresh = Normals::of(network, places);
-    normals.same(fresh)
+    normals::are_of(network, places, matrix, right)
 }
 
 // A book passes what 25 tests.
@@ -163,8 +204,11 @@ pub fn is_sound(book: Book) -> bool
     ensures { λ t. ⌜ t ≡ sound book ⌝ }
 {
     let network = book.network;
-    let places = book.places;
+    let held = book.places;
+    let places = network::place_words(held);
     let journal = book.journal;
     let normals = book.normals;
-    parts_fit(network, places, journal, normals)
+    let matrix = normals.matrix;
+    let right = normals.right;
+    parts_fit(network, &places, journal, &matrix, &right)
 }

@@ -1,122 +1,29 @@
--- `soundness::can_undo` meets its contract. Assumes nothing.
-use Prim.Native.Nat.{ℕ, _-_, _<_}
-use mathlib.Core.Path.{_≡_, refl, sym, ap, _∙_}
-use native.Mathlib.Omega.{arith}
+-- `can_undo`: the walk over which places are empty gives what the walk over the places would (`by-empties`). Assumes nothing.
+use mathlib.Core.Path.{_≡_, ap, _∙_}
+use mathlib.Core.Bool.{Bool}
+use mathlib.Core.List.{List}
+use denote.Ref.{now}
 use borrow.Author.Needs.{needs}
-use borrow.Author.Tests.{not-true, not-false}
-use lib.ListN.{length, getD, set, length-set}
-use Rattle.lists.specs.Filling.{length-mapped}
-use Rattle.network.specs.Records.{recordAt}
-use Rattle.book.specs.Journal.{journalSize, slotBefore, free, entriesBefore}
-use Rattle.book.specs.Book.{undoable}
-use Rattle.book.proofs.Undoing.{undo-beyond, undo-fails, undo-goes-on, undo-ends}
+use Rattle.network.specs.Places.{placesIn}
+use Rattle.book.specs.Journal.{reversals}
+use Rattle.book.specs.Empties.{undoableBy}
+use Rattle.book.proofs.Undoing.{by-empties}
 use Rattle.book.proofs.soundness.can_undo.Statement.{statement}
 use Rattle.book.proofs.soundness.can_undo.Tie as tie
 
-abbrev Inv-loop : tie.InvT-loop
-Inv-loop net coordinate entries state₀ slot₀ left₀ state slot left =
-    (slot < journalSize)
-    × (length state ≡ 256)
-    × (undoable net (recordAt state₀) (entriesBefore entries slot₀ left₀) ≡ undoable net (recordAt state) (entriesBefore entries slot left))
+empties-in-requires : tie.Need-empties-in-requires
+empties-in-requires c κs = search needs
 
-abbrev μ-loop : tie.MeasureT-loop
-μ-loop net coordinate entries state₀ slot₀ left₀ state slot left = left
+walks-back-requires : tie.Need-walks-back-requires
+walks-back-requires c κs = search needs
 
-some : (c : tie.In-loop Inv-loop μ-loop) → 0 < c .before .loop .left
-some c = search needs
-
--- the entry that is taken back
-entry-is : (b : tie.After-slot-before Inv-loop μ-loop) → let j = b .before .before .before .before .args .journal in
-    getD (j .entries) (b .slot-before .result) free ≡ getD (j .entries) (slotBefore (b .before .before .loop .slot)) free
-entry-is b = ap (λ (k : ℕ). getD (b .before .before .before .before .args .journal .entries) k free) (b .slot-before .ensures)
-
-loop-holds : tie.Need-loop-holds Inv-loop μ-loop
-loop-holds c = (c .before .pre .2, search (needs, length-mapped), refl)
-
-slot-before-requires : tie.Need-slot-before-requires Inv-loop μ-loop
-slot-before-requires c κs = c .before .loop .inv .0
-
-mul-u : tie.Need-mul-u Inv-loop μ-loop
-mul-u c = search needs
-
-array-copy-out-u : tie.Need-array-copy-out-u Inv-loop μ-loop
-array-copy-out-u c = search needs
-
-returns : tie.Need-returns Inv-loop μ-loop
+returns : tie.Need-returns
 returns c =
-    let b = c .before .before in
-    let t = b .before .before in
-    let s = t .before .before in
-    sym (t .loop .inv .2 ∙ undo-beyond (s .args .net) (s .args .journal .entries) (t .loop .state) (t .loop .slot) (t .loop .left) (some (b .before)) _ (entry-is b) (c .if1 .taken))
-
-mul-q : tie.Need-mul-q Inv-loop μ-loop
-mul-q c = search needs
-
-array-copy-out-q : tie.Need-array-copy-out-q Inv-loop μ-loop
-array-copy-out-q c = search needs
-
-restores-requires : tie.Need-restores-requires Inv-loop μ-loop
-restores-requires c κs = search needs
-
-returns-2 : tie.Need-returns-2 Inv-loop μ-loop
-returns-2 c =
-    let b = c .before .before .before .before .before in
-    let t = b .before .before in
-    let s = t .before .before in
-    sym
-    (t .loop .inv .2
-    ∙ undo-fails (s .args .net) (s .args .journal .entries) (t .loop .state) (t .loop .slot) (t .loop .left) (some (b .before)) _ (entry-is b) (sym (c .before .restores .ensures) ∙ not-true _ (c .if2 .taken)))
-
-mul-state : tie.Need-mul-state Inv-loop μ-loop
-mul-state c = search needs
-
-array-set-from-state : tie.Need-array-set-from-state Inv-loop μ-loop
-array-set-from-state c = search needs
-
-sub-left : tie.Need-sub-left Inv-loop μ-loop
-sub-left c = search needs
-
-loop-less : tie.Need-loop-less Inv-loop μ-loop
-loop-less c = search needs
-
-loop-again : tie.Need-loop-again Inv-loop μ-loop
-loop-again c =
-    let b = c .before .before .before .before .before in
-    let t = b .before .before in
-    let s = t .before .before in
-    let u = getD (s .args .journal .entries) (b .slot-before .result) free in (
-      let e = b .slot-before .ensures in omega arith,
-      length-set (t .loop .state) _ _ ∙ t .loop .inv .1,
-      t .loop .inv .2
-          ∙ undo-goes-on (s .args .net) (s .args .journal .entries) (t .loop .state) (t .loop .slot) (t .loop .left) (some (b .before)) _ (entry-is b) (t .loop .inv .1) (c .before .before .before .if1 .left)
-          (sym (c .before .restores .ensures) ∙ not-false _ (c .if2 .left))
-          ∙ ap (λ (k : ℕ). undoable (s .args .net) (recordAt (set (t .loop .state) (u .place) (record { entry = u .prior }))) (entriesBefore (s .args .journal .entries) k (t .loop .left - 1))) (sym (b .slot-before .ensures)),
-    )
-
-returns-3 : tie.Need-returns-3 Inv-loop μ-loop
-returns-3 c =
-    let t = c .before in
-    let s = t .before .before in
-    undo-ends (s .args .net) (s .args .journal .entries) (recordAt (t .loop .state)) (t .loop .slot) (t .loop .left) (c .loop-test .left) ∙ sym (t .loop .inv .2)
+    let s = c .before .before in
+    let h = reversals (s .args .journal) in
+    c .walks-back .ensures
+    ∙ ap (λ (e : List Bool). undoableBy (s .args .net) e h) (c .before .empties-in .ensures)
+    ∙ by-empties (s .args .net) (placesIn (now (s .args .places))) h
 
 pub can-undo-spec : {M : Type 1} → statement M
-can-undo-spec =
-    tie.close
-    (tie.spec
-    Inv-loop
-    μ-loop
-    loop-holds
-    slot-before-requires
-    mul-u
-    array-copy-out-u
-    returns
-    mul-q
-    array-copy-out-q
-    restores-requires
-    returns-2
-    mul-state
-    array-set-from-state
-    sub-left
-    loop-less
-    loop-again
-    returns-3)
+can-undo-spec = tie.close (tie.spec empties-in-requires walks-back-requires returns)

@@ -1,9 +1,11 @@
--- `soundness::parts_fit` meets its contract. Assumes nothing.
+-- `parts_fit`, test by test in the order of `sound`: the first that fails settles it, and each stands on those before it. Assumes nothing.
 use mathlib.Core.Path.{_≡_, sym, _∙_}
 use mathlib.Core.Bool.{true}
+use denote.Ref.{now}
 use borrow.Author.Needs.{needs}
 use borrow.Author.Tests.{not-true, not-false}
 use Rattle.network.specs.Stations.{networkFits}
+use Rattle.network.specs.Places.{placesIn}
 use Rattle.book.specs.declared.Book.{Book}
 use Rattle.book.specs.Journal.{journalFits}
 use Rattle.book.specs.JournalLaws.{fits-tidy}
@@ -13,7 +15,7 @@ use Rattle.book.proofs.soundness.parts_fit.Tie as tie
 
 -- the book that the parts make
 abbrev whole : tie.Start → Book
-whole s = record { network = s .args .network; places = s .args .places; journal = s .args .journal; normals = s .args .normals }
+whole s = record { network = s .args .network; places = placesIn (now (s .args .places)); journal = s .args .journal; normals = record { matrix = now (s .args .matrix); right = now (s .args .right) } }
 
 -- the places on the way
 abbrev start : tie.Else1 → tie.Start
@@ -51,7 +53,9 @@ coordinates-of-requires : tie.Need-coordinates-of-requires
 coordinates-of-requires c κs = search needs
 
 records-fit-requires : tie.Need-records-fit-requires
-records-fit-requires c κs = (network-true (c .before .before .before), c .before .coordinates-of .ensures)
+records-fit-requires c κs =
+    let e = c .before .before .before in
+    (start e .pre .0, network-true e, c .before .coordinates-of .ensures)
 
 returns-2 : tie.Need-returns-2
 returns-2 c =
@@ -70,27 +74,24 @@ can-undo-requires : tie.Need-can-undo-requires
 can-undo-requires c κs =
     let e = c .before in
     let f = first (second e) in
-    (network-true f, second e .before .before .before .coordinates-of .ensures, fits-tidy _ (journal-true e) .next)
+    (start f .pre .0, network-true f, second e .before .before .before .coordinates-of .ensures, fits-tidy _ (journal-true e) .next)
 
 returns-4 : tie.Need-returns-4
 returns-4 c =
     let e = c .before .before .before in
     undo-fails (whole (start (first (second e)))) (network-true (first (second e))) (records-true (second e)) (journal-true e) (sym (c .before .can-undo .ensures) ∙ not-true _ (c .if4 .taken))
 
-of-requires : tie.Need-of-requires
-of-requires c κs =
+are-of-requires : tie.Need-are-of-requires
+are-of-requires c κs =
     let e = second (third c) in
-    by-rules (whole (start (first e))) (network-true (first e)) (records-true e)
-
-same-requires : tie.Need-same-requires
-same-requires c κs = search needs
+    let s = start (first e) in
+    (s .pre .0, by-rules (whole s) (network-true (first e)) (records-true e), s .pre .1, s .pre .2)
 
 returns-5 : tie.Need-returns-5
 returns-5 c =
-    let e = c .before .before in
+    let e = c .before in
     let d = second (third e) in
-    c .same .ensures
-    ∙ all-but-normals (whole (start (first d))) (network-true (first d)) (records-true d) (journal-true (third e)) (undo-true e) (c .before .of .result) (c .before .of .ensures)
+    c .are-of .ensures ∙ all-but-normals (whole (start (first d))) (network-true (first d)) (records-true d) (journal-true (third e)) (undo-true e)
 
 pub parts-fit-spec : {M : Type 1} → statement M
 parts-fit-spec =
@@ -105,6 +106,5 @@ parts-fit-spec =
     returns-3
     can-undo-requires
     returns-4
-    of-requires
-    same-requires
+    are-of-requires
     returns-5)
