@@ -8,6 +8,7 @@ use network::Unit;
 use normals::Normals;
 ghost use mathlib.Core.Path.{_≡_};
 ghost use Prim.Native.Nat.{_<_};
+ghost use Rattle.network.specs.Places.{placesIn};
 ghost use Rattle.normals.specs.Formulas.{normalsOf};
 ghost use Rattle.bench_kernels.specs.Replays.{Replays};
 ghost use Rattle.bench_kernels.specs.Sample.{sampleNetwork, sampleRecord, samplePlaces, entryAt};
@@ -78,16 +79,16 @@ fn sample_record(p: usize) -> Record
     network::baseline_of(from, to, [v, v, v], [100, 10, -10, 100, 10, 100])
 }
 
-fn sample_places() -> [Place; Unit::PLACES]
-    ensures { λ r. ⌜ r ≡ samplePlaces ⌝ }
+// The places of the sample in words, to be lent.
+fn sample_places() -> [i64; Place::LENGTH]
+    ensures { λ w. ⌜ placesIn w ≡ samplePlaces ⌝ }
 {
-    let mut places = [Place {
-        entry: Record::Empty,
-    }; Unit::PLACES];
+    let mut places = [0i64; Place::LENGTH];
     let mut p = 0;
     while p < Unit::PLACES {
         let r = sample_record(p);
-        places[p] = Place { entry: r };
+        let w = network::record_words(r);
+        lists::paste(&mut places, p * Record::LENGTH, &w);
         p = p + 1;
     }
     places
@@ -100,7 +101,7 @@ pub extern "C" fn bench_normals(k: usize) -> i64
 {
     let net = sample_network();
     let places = sample_places();
-    let x = Normals::of(net, places);
+    let x = Normals::of(net, &places);
     if k < Normals::ENTRIES {
         return x.matrix[k];
     }

@@ -1,4 +1,4 @@
--- `bench_normals` gives an entry of N or u of the sample. Assumes nothing.
+-- `bench_normals`: the result of `of` is N and u of the sample, by the contracts of the callees; then by cases of k. Assumes nothing.
 use borrow.Author.Needs.{needs}
 use Prim.Native.Nat.{_-_, _≤_}
 use mathlib.Core.Path.{_≡_, sym, ap, _∙_}
@@ -18,7 +18,9 @@ abbrev whole : Normals
 whole = normalsOf (sampleNetwork .stations) samplePlaces
 
 made : (c : tie.After-of) → c .of .result ≡ whole
-made c = c .of .ensures ∙ (λ i. normalsOf (c .before .before .sample-network .ensures i .stations) (c .before .sample-places .ensures i))
+made c =
+    let p = c .before .before in
+    c .of .ensures ∙ (λ i. normalsOf (p .before .sample-network .ensures i .stations) (p .sample-places .ensures i))
 
 sample-network-requires : tie.Need-sample-network-requires
 sample-network-requires c κs = search needs
@@ -26,8 +28,13 @@ sample-network-requires c κs = search needs
 sample-places-requires : tie.Need-sample-places-requires
 sample-places-requires c κs = search needs
 
+slice-aggregate-of : tie.Need-slice-aggregate-of
+slice-aggregate-of c = search needs
+
 of-requires : tie.Need-of-requires
-of-requires c κs = rw (c .before .sample-network .ensures, c .sample-places .ensures) sample-sound
+of-requires c κs =
+    let p = c .before in
+    (search needs, rw (p .before .sample-network .ensures, p .sample-places .ensures) sample-sound)
 
 mul-result : tie.Need-mul-result
 mul-result c = search needs
@@ -38,7 +45,7 @@ element-copy-out-result c = search needs
 returns : tie.Need-returns
 returns c =
     let t = c .before .before in
-    let k = t .before .before .before .args .k in
+    let k = t .before .before .before .before .args .k in
     toZ-ofZ w64 (getD (t .of .result .matrix) k (pos 0)) (record { sfits = c .result .given })
     ∙ ap (λ (x : Normals). getD (x .matrix) k (pos 0)) (made t)
     ∙ sym (entry-matrix whole k (c .before .if1 .taken))
@@ -52,14 +59,14 @@ element-copy-out-result-2 c = search needs
 returns-2 : tie.Need-returns-2
 returns-2 c =
     let t = c .before .before .before in
-    let k = t .before .before .before .args .k in
+    let k = t .before .before .before .before .args .k in
     toZ-ofZ w64 (getD (t .of .result .right) (k - 2304) (pos 0)) (record { sfits = c .result2 .given })
     ∙ ap (λ (x : Normals). getD (x .right) (k - 2304) (pos 0)) (made t)
     ∙ sym (entry-right whole k (c .before .before .if1 .left))
 
 returns-3 : tie.Need-returns-3
 returns-3 c =
-    let k = c .before .before .before .before .before .args .k in
+    let k = c .before .before .before .before .before .before .args .k in
     let long : length (whole .right) ≡ 48 = length-tabulate 48 (entryU (sampleNetwork .stations) samplePlaces) in
     let beyond : length (whole .right) ≤ k - 2304 = omega arith in
     sym (entry-right whole k (c .before .if1 .left) ∙ List·getD-eq-default (whole .right) (pos 0) {n = k - 2304} beyond)
@@ -70,6 +77,7 @@ bench-normals-spec =
     (tie.spec
     sample-network-requires
     sample-places-requires
+    slice-aggregate-of
     of-requires
     mul-result
     element-copy-out-result
