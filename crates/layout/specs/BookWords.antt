@@ -6,7 +6,7 @@ use mathlib.Core.List.{List, [], _∷_, _++_, append-assoc}
 use native.Mathlib.Omega.{arith}
 use lib.Dec.{ltb}
 use lib.ListN.{length, getD, take, drop, length-append, List·getD-append}
-use lib.Seq.{getD-append-add, take-at}
+use lib.Seq.{getD-append-add, getD-take, getD-drop, take-at}
 use lib.IntN.{ℤ, pos}
 use Rattle.words.specs.Signed.{signed}
 use Rattle.network.specs.Stations.{stationAt}
@@ -18,9 +18,10 @@ use Rattle.book.specs.Journal.{journalSize, free}
 use Rattle.book.specs.Sound.{Sized}
 use Rattle.words.specs.Concat.{length-concatBelow, concatBelow-between}
 use Rattle.network.specs.StationWords.{stationWords}
-use Rattle.network.specs.RecordWords.{recordWords, recordLength}
-use Rattle.network.specs.RecordWordLaws.{length-record}
-use Rattle.layout.specs.Layout.{stationPart, reversalWords, headWords, stationsPart, placesPart, countsPart, entriesPart, bookWords, reversalLength, placesStart, countsStart, entriesStart, matrixStart, rightStart, bookLength, stationsStart}
+use Rattle.network.specs.RecordWords.{recordWords, recordIn, recordLength}
+use Rattle.network.specs.RecordWordLaws.{length-record, record-moved}
+use Rattle.network.specs.Places.{placesLength, record-in-place}
+use Rattle.layout.specs.Layout.{stationPart, reversalWords, headWords, stationsPart, placesPart, countsPart, entriesPart, bookWords, placesAt, bookIn, reversalLength, placesStart, countsStart, entriesStart, matrixStart, rightStart, bookLength, stationsStart}
 
 -- ════ lengths
 pub length-reversal : (u : Reversal) → length (reversalWords u) ≡ reversalLength
@@ -34,6 +35,16 @@ length-station net s = go (ltb s (net .count))
     go : (t : Bool) → length (cond t (stationWords (stationAt (net .stations) s)) (pos 0 ∷ pos 0 ∷ pos 0 ∷ pos 0 ∷ [])) ≡ 4
     go true = refl
     go false = refl
+
+-- ════ the record that words give at a place
+pub record-in : (w : List ℤ) (p : ℕ) → p < 256 → recordAt (bookIn w .places) p ≡ recordIn w (placesStart + p * recordLength)
+unfolding bookIn
+record-in w p h =
+    record-in-place (placesAt w) p h
+    ∙ record-moved (placesAt w) w (p * recordLength) (placesStart + p * recordLength)
+    (λ j l. getD-take placesLength (drop placesStart w) (p * recordLength + j) (pos 0) (omega arith)
+    ∙ getD-drop placesStart w (p * recordLength + j) (pos 0)
+    ∙ ap (λ (i : ℕ). getD w i (pos 0)) (let e : placesStart + (p * recordLength + j) ≡ placesStart + p * recordLength + j = omega arith in e))
 
 -- ════ a book
 module _ (b : Book) (z : Sized b) where

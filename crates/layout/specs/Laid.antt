@@ -16,16 +16,15 @@ use Rattle.words.specs.Bools.{same-test, and-left, and-right, and-both}
 use Rattle.words.specs.Signed.{signed, unsigned, eqZ}
 use Rattle.words.specs.SignedLaws.{eqZ-true, eq-eqZ, signed-unsigned}
 use Rattle.lists.specs.All.{allBelow, all-at, all-by}
-use Rattle.network.specs.Records.{vacant, recordAt}
+use Rattle.network.specs.Places.{length-places}
 use Rattle.network.specs.RecordWords.{recordIn, recordWords, recordLength}
-use Rattle.network.specs.declared.Place.{Place}
 use Rattle.network.specs.declared.Record.{Record}
 use Rattle.lists.specs.Same.{sameEntries}
 use Rattle.book.specs.declared.Reversal.{Reversal}
 use Rattle.book.specs.Journal.{journalSize, free}
 use Rattle.book.specs.Sound.{Sized}
-use Rattle.layout.specs.Layout.{stationPart, reversalWords, bookWords, reversalIn, networkIn, placeIn, bookIn, reversalLength, placesStart, countsStart, entriesStart, matrixStart, rightStart, bookLength, stationsStart}
-use Rattle.layout.specs.BookWords.{head-word, count-word, station-word, place-word, next-word, held-word, slot-word, matrix-word, right-word}
+use Rattle.layout.specs.Layout.{stationPart, reversalWords, bookWords, reversalIn, networkIn, placesAt, bookIn, reversalLength, placesStart, countsStart, entriesStart, matrixStart, rightStart, bookLength, stationsStart}
+use Rattle.layout.specs.BookWords.{record-in, head-word, count-word, station-word, place-word, next-word, held-word, slot-word, matrix-word, right-word}
 
 -- the words from index k on are those of the record that they give
 unfoldable pub recordLaid : List ℤ → ℕ → Bool
@@ -51,15 +50,11 @@ module _ (w : List ℤ) (long : length w ≡ bookLength) where
   unfolding bookIn
   sized-in =
       record {
-        places = length-tabulate 256 _;
+        places = length-places (placesAt w);
         entries = length-tabulate journalSize _;
         matrix = length-take-le 2304 (drop matrixStart w) (omega (arith, length-left matrixStart));
         right = length-take-le 48 (drop rightStart w) (omega (arith, length-left rightStart));
       }
-
-  pub record-in : (p : ℕ) → p < 256 → recordAt (bookIn w .places) p ≡ recordIn w (placesStart + p * recordLength)
-  unfolding bookIn
-  record-in p h = ap (λ (q : Place). q .entry) (getD-tabulate 256 (placeIn w) p vacant h)
 
   pub reversal-in : (k : ℕ) → k < journalSize → getD (bookIn w .journal .entries) k free ≡ reversalIn w (entriesStart + k * reversalLength)
   unfolding bookIn
@@ -90,7 +85,7 @@ module _ (w : List ℤ) (long : length w ≡ bookLength) where
     station-new s j h l = station-word (bookIn w) sized-in s j h l
 
     place-new : (p j : ℕ) → p < 256 → j < recordLength → new (placesStart + p * recordLength + j) ≡ getD (recordWords (recordIn w (placesStart + p * recordLength))) j (pos 0)
-    place-new p j h l = place-word (bookIn w) sized-in p j h l ∙ ap (λ (r : Record). getD (recordWords r) j (pos 0)) (record-in p h)
+    place-new p j h l = place-word (bookIn w) sized-in p j h l ∙ ap (λ (r : Record). getD (recordWords r) j (pos 0)) (record-in w p h)
 
     slot-first : (k : ℕ) → k < journalSize → getD w (entriesStart + k * reversalLength + 0) (pos 0) ≡ new (entriesStart + k * reversalLength + 0)
     unfolding reversalWords

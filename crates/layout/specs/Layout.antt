@@ -12,8 +12,8 @@ use Rattle.network.specs.Stations.{stationAt, stationIn}
 use Rattle.network.specs.StationWords.{stationWords}
 use Rattle.network.specs.Records.{recordAt}
 use Rattle.network.specs.RecordWords.{recordLength, recordWords, recordIn}
+use Rattle.network.specs.Places.{placesLength, placesIn}
 use Rattle.network.specs.declared.Network.{Network}
-use Rattle.network.specs.declared.Place.{Place}
 use Rattle.normals.specs.declared.Normals.{Normals}
 use Rattle.book.specs.declared.Reversal.{Reversal}
 use Rattle.book.specs.declared.Journal.{Journal}
@@ -35,7 +35,7 @@ placesStart = stationsStart + 32 * 4
 
 -- the journal's counters: next, then held
 abbrev pub countsStart : ℕ
-countsStart = placesStart + 256 * recordLength
+countsStart = placesStart + placesLength
 
 abbrev pub entriesStart : ℕ
 entriesStart = countsStart + 2
@@ -98,11 +98,9 @@ reversalIn w at = record { place = countIn w at; prior = recordIn w (at + 1) }
 abbrev pub networkIn : List ℤ → Network
 networkIn w = record { count = countIn w 1; stations = tabulate 32 (stationIn (take 128 (drop stationsStart w))) }
 
-abbrev pub placeIn : List ℤ → ℕ → Place
-placeIn w p = record { entry = recordIn w (placesStart + p * recordLength) }
-
-abbrev pub placesIn : List ℤ → List Place
-placesIn w = tabulate 256 (placeIn w)
+-- the words of the places
+abbrev pub placesAt : List ℤ → List ℤ
+placesAt w = take placesLength (drop placesStart w)
 
 abbrev pub entriesIn : List ℤ → List Reversal
 entriesIn w = tabulate journalSize (λ k. reversalIn w (entriesStart + k * reversalLength))
@@ -114,4 +112,4 @@ abbrev pub normalsIn : List ℤ → Normals
 normalsIn w = record { matrix = take 2304 (drop matrixStart w); right = take 48 (drop rightStart w) }
 
 unfoldable pub bookIn : List ℤ → Book
-bookIn w = record { network = networkIn w; places = placesIn w; journal = journalIn w; normals = normalsIn w }
+bookIn w = record { network = networkIn w; places = placesIn (placesAt w); journal = journalIn w; normals = normalsIn w }

@@ -9,7 +9,7 @@ use native.Mathlib.Omega.{arith}
 use borrow.Author.Tests.{eqb-true}
 use lib.Dec.{ltb, eqb}
 use lib.ListN.{length, getD, take, drop}
-use lib.Seq.{take-at, drop-at, take-all}
+use lib.Seq.{ext-getD, take-at, drop-at, take-all}
 use lib.IntN.{ℤ, pos}
 use Rattle.integers.specs.Tables.{tabulate, is-tabulate, length-tabulate}
 use Rattle.words.specs.Bools.{and-left, and-right}
@@ -19,6 +19,7 @@ use Rattle.lists.specs.All.{all-at}
 use Rattle.network.specs.Stations.{blank, stationAt, kindAt, kindOf, stationIn, countFits, coordinatesFit, unknownsFit, isKnown, isBlank, blankBeyond, networkFits}
 use Rattle.network.specs.Records.{vacant, recordAt, isEmpty}
 use Rattle.network.specs.RecordWords.{recordIn, recordLength}
+use Rattle.network.specs.Places.{placesIn, length-places}
 use Rattle.network.specs.Rules.{recordFits}
 use Rattle.network.specs.RuleLaws.{network-few, empty-is, fits-empty}
 use Rattle.network.specs.declared.Kind.{Kind}
@@ -33,10 +34,10 @@ use Rattle.book.specs.Journal.{journalSize, age, free, isFree, slotBefore, entr
 use Rattle.book.specs.Book.{undoable}
 use Rattle.book.specs.Sound.{Sized, Sound, Undoes, undoable-first}
 use Rattle.words.specs.Concat.{concatBelow-at}
-use Rattle.layout.specs.BookWords.{length-station, toEntries, length-toEntries, length-toMatrix, at-matrix, at-right, place-word, next-word, held-word, slot-word, stations-part}
+use Rattle.layout.specs.BookWords.{record-in, length-station, toEntries, length-toEntries, length-toMatrix, at-matrix, at-right, place-word, next-word, held-word, slot-word, stations-part}
 use Rattle.network.specs.StationWords.{stationWords, kind-back}
 use Rattle.network.specs.RecordWordLaws.{record-back}
-use Rattle.layout.specs.Layout.{stationPart, reversalWords, stationsPart, bookWords, reversalIn, networkIn, placeIn, placesIn, entriesIn, journalIn, normalsIn, bookIn, reversalLength, placesStart, countsStart, entriesStart, matrixStart, rightStart}
+use Rattle.layout.specs.Layout.{stationPart, reversalWords, stationsPart, bookWords, reversalIn, networkIn, placesAt, entriesIn, journalIn, normalsIn, bookIn, reversalLength, placesStart, countsStart, entriesStart, matrixStart, rightStart}
 
 -- ════ a reversal
 reversal-back : (w : List ℤ) (at : ℕ) (u : Reversal) → ((j : ℕ) → j < reversalLength → getD w (at + j) (pos 0) ≡ getD (reversalWords u) j (pos 0)) → u .place < 2 ^ 64 → reversalIn w at ≡ u
@@ -168,11 +169,15 @@ module _ (b : Book) (o : Sound b) (long : length (b .network .stations) ≡ 32) 
       (λ j l. concatBelow-at 4 (stationPart (b .network)) (length-station (b .network)) 32 s j (pos 0) h l)))) in
       λ i. record { count = count i; stations = (ap (λ (l : List ℤ). tabulate 32 (stationIn l)) part ∙ stations) i }
 
-  places-back : placesIn w ≡ b .places
+  places-back : placesIn (placesAt w) ≡ b .places
+  unfolding bookIn
   places-back =
-      sym (is-tabulate 256 (placeIn w) (b .places) vacant (o .places)
-      (λ p h. ap (λ (r : Record). record { entry = r }) (sym (record-back w (placesStart + p * recordLength) (recordAt (b .places) p)
-      (λ j l. place-word b sized p j h l)))))
+      let long = length-places (placesAt w) in
+      ext-getD vacant _ _ (long ∙ sym (o .places))
+      (λ p l.
+      let h : p < 256 = omega arith in
+      ap (λ (r : Record). record { entry = r })
+      (record-in w p h ∙ record-back w (placesStart + p * recordLength) (recordAt (b .places) p) (λ j k. place-word b sized p j h k)))
 
   entries-back : entriesIn w ≡ b .journal .entries
   entries-back =

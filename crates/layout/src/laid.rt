@@ -83,7 +83,7 @@ fn fits(s: &[u8]) -> bool
         return false;
     }
     let network = reading::network_in(s);
-    let places = reading::places_in(s);
+    let places = reading::places_of(s);
     let journal = reading::journal_in(s);
     let matrix = reading::matrix_in(s);
     let right = reading::right_in(s);

@@ -14,8 +14,9 @@ ghost use lib.ListN.{getD, length, take, drop};
 ghost use Rattle.words.specs.Runs.{wordsAt};
 ghost use Rattle.network.specs.Records.{recordAt};
 ghost use Rattle.network.specs.RecordWords as words;
+ghost use Rattle.network.specs.Places.{placesIn};
 ghost use Rattle.book.specs.Journal.{journalSize, free};
-ghost use Rattle.layout.specs.Layout.{countIn, placesIn, entriesIn, journalIn, stationsStart, bookLength, bookBytes};
+ghost use Rattle.layout.specs.Layout.{countIn, entriesIn, journalIn, stationsStart, bookLength, bookBytes};
 ghost use Rattle.layout.specs.Bytes.{wordsOf, bookOf};
 
 // Word k.
@@ -99,16 +100,27 @@ pub fn record_in(s: &[u8], p: usize) -> Record
     Record::Empty
 }
 
-pub fn places_in(s: &[u8]) -> [Place; 256]
+// The words of the places, to lend.
+pub fn places_in(s: &[u8]) -> [i64; Place::LENGTH]
     requires { ⌜ bookBytes ≤ length (now s) ⌝ }
-    ensures { λ r. ⌜ r ≡ placesIn (wordsOf (now (s .entry))) ⌝ }
+    ensures { λ r. ⌜ placesIn r ≡ bookOf (now (s .entry)) .places ⌝ }
+{
+    let mut w = [0i64; Place::LENGTH];
+    words::read_words(s, 8 * Layout::PLACES_START, &mut w);
+    w
+}
+
+// The places by value.
+pub fn places_of(s: &[u8]) -> [Place; 256]
+    requires { ⌜ bookBytes ≤ length (now s) ⌝ }
+    ensures { λ r. ⌜ r ≡ bookOf (now (s .entry)) .places ⌝ }
 {
     let none = Record::Empty;
     let vacant = Place { entry: none };
     let mut places = [vacant; 256];
     let mut p: usize = 0;
     while p < 256 {
-        let r = entry_in(s, Layout::PLACES_START + p * Record::LENGTH);
+        let r = record_in(s, p);
         places[p] = Place { entry: r };
         p += 1;
     }
@@ -182,7 +194,7 @@ pub fn book_in(s: &[u8]) -> Book
     ensures { λ r. ⌜ r ≡ bookOf (now (s .entry)) ⌝ }
 {
     let network = network_in(s);
-    let places = places_in(s);
+    let places = places_of(s);
     let journal = journal_in(s);
     let matrix = matrix_in(s);
     let right = right_in(s);

@@ -9,7 +9,7 @@ use network::Record;
 use network::Station;
 use normals::Normals;
 ghost use mathlib.Core.Path.{_≡_};
-ghost use mathlib.Core.Bool.{cond};
+ghost use mathlib.Core.Bool.{true, cond};
 ghost use mathlib.Core.List.{[], _∷_};
 ghost use Prim.Native.Nat.{_+_, _*_, _≤_, _<_};
 ghost use lib.Dec.{ltb};
@@ -20,10 +20,11 @@ ghost use Rattle.words.specs.Runs.{putWords};
 ghost use Rattle.network.specs.Records.{recordAt};
 ghost use Rattle.network.specs.RecordWords.{recordWords, recordLength};
 ghost use Rattle.book.specs.Journal.{journalSize, free};
+ghost use Rattle.book.specs.Book.{sound};
 ghost use Rattle.words.specs.Concat.{concatBelow};
 ghost use Rattle.network.specs.StationWords.{stationWords};
 ghost use Rattle.layout.specs.Layout.{stationPart, reversalWords, reversalLength, stationsStart, placesStart, countsStart, entriesStart, matrixStart, rightStart, bookLength, bookBytes};
-ghost use Rattle.layout.specs.Bytes.{putBook};
+ghost use Rattle.layout.specs.Bytes.{bookOf, putBook, bytesFit};
 
 // The words of station k, which is x, of a list of `count`: 0 beyond it.
 pub fn station_part(count: usize, k: usize, x: Station) -> [i64; 4]
@@ -149,4 +150,14 @@ pub fn write_book(s: &mut [u8], book: Book)
     let matrix = normals.matrix;
     let right = normals.right;
     put_normals(s, &matrix, &right);
+}
+
+// The bytes of a sound book by value, to lend.
+pub fn book_bytes(book: Book) -> [u8; Layout::BOOK_BYTES]
+    requires { ⌜ sound book ≡ true ⌝ }
+    ensures { λ s. ⌜ (bytesFit s ≡ true) × (bookOf s ≡ book) ⌝ }
+{
+    let mut s = [0u8; Layout::BOOK_BYTES];
+    write_book(&mut s, book);
+    s
 }

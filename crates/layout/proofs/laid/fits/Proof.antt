@@ -17,8 +17,8 @@ returns c = judged-odd (c .before .before .before .args .s .now) (sym (c .before
 network-in-requires : tie.Need-network-in-requires
 network-in-requires c κs = search needs
 
-places-in-requires : tie.Need-places-in-requires
-places-in-requires c κs = search needs
+places-of-requires : tie.Need-places-of-requires
+places-of-requires c κs = search needs
 
 journal-in-requires : tie.Need-journal-in-requires
 journal-in-requires c κs = search needs
@@ -47,7 +47,7 @@ returns-2 c =
     ∙ (λ i. sound
     (record {
       network = n .network-in .ensures i;
-      places = p .places-in .ensures i;
+      places = p .places-of .ensures i;
       journal = j .journal-in .ensures i;
       normals = record { matrix = m .matrix-in .ensures i; right = r .right-in .ensures i };
     })))
@@ -59,7 +59,7 @@ fits-spec =
     laid-out-requires
     returns
     network-in-requires
-    places-in-requires
+    places-of-requires
     journal-in-requires
     matrix-in-requires
     right-in-requires

@@ -7,8 +7,8 @@ use Rattle.layout.proofs.reading.book_in.Tie as tie
 network-in-requires : tie.Need-network-in-requires
 network-in-requires c κs = search needs
 
-places-in-requires : tie.Need-places-in-requires
-places-in-requires c κs = search needs
+places-of-requires : tie.Need-places-of-requires
+places-of-requires c κs = search needs
 
 journal-in-requires : tie.Need-journal-in-requires
 journal-in-requires c κs = search needs
@@ -28,7 +28,7 @@ returns c =
     let n = p .before in
     λ i. record {
       network = n .network-in .ensures i;
-      places = p .places-in .ensures i;
+      places = p .places-of .ensures i;
       journal = j .journal-in .ensures i;
       normals = record { matrix = m .matrix-in .ensures i; right = c .right-in .ensures i };
     }
@@ -38,7 +38,7 @@ book-in-spec =
     tie.close
     (tie.spec
     network-in-requires
-    places-in-requires
+    places-of-requires
     journal-in-requires
     matrix-in-requires
     right-in-requires

@@ -1,10 +1,9 @@
 -- `record_in` reads the record at a place. Assumes nothing.
 use mathlib.Core.Path.{sym, _∙_}
-use Rattle.words.specs.RunLaws.{length-words}
 use Rattle.book.specs.PlaceLaws.{record-beyond}
 use Rattle.layout.specs.Bytes.{wordsOf, bookOf}
-use Rattle.layout.specs.Laid.{sized-in, record-in}
-use Rattle.layout.specs.Layout.{bookLength}
+use Rattle.layout.specs.BookWords.{record-in}
+use Rattle.layout.specs.CodecLaws.{read-sized}
 use borrow.Author.Needs.{needs}
 use Rattle.layout.proofs.reading.record_in.Statement.{statement}
 use Rattle.layout.proofs.reading.record_in.Tie as tie
@@ -21,12 +20,12 @@ entry-in-requires c κs = search needs
 returns : tie.Need-returns
 returns c =
     let s = c .before .before .before in
-    c .entry-in .ensures ∙ sym (record-in (wordsOf (s .args .s .now)) (length-words (s .args .s .now) 0 bookLength) (s .args .p) (c .before .if1 .taken))
+    c .entry-in .ensures ∙ sym (record-in (wordsOf (s .args .s .now)) (s .args .p) (c .before .if1 .taken))
 
 returns-2 : tie.Need-returns-2
 returns-2 c =
     let s = c .before .before in
-    sym (record-beyond (bookOf (s .args .s .now) .places) (s .args .p) (sized-in (wordsOf (s .args .s .now)) (length-words (s .args .s .now) 0 bookLength) .places) (c .if1 .left))
+    sym (record-beyond (bookOf (s .args .s .now) .places) (s .args .p) (read-sized (s .args .s .now) .places) (c .if1 .left))
 
 pub record-in-spec : {M : Type 1} → statement M
 record-in-spec = tie.close (tie.spec mul-entry-in add-entry-in entry-in-requires returns returns-2)
