@@ -4,7 +4,6 @@ use super::sets::has;
 use super::sets::with;
 use network::Kind;
 use network::Network;
-use network::Place;
 use network::Record;
 use network::Station;
 use network::Unit;
@@ -12,8 +11,10 @@ ghost use mathlib.Core.Path.{_≡_};
 ghost use mathlib.Core.Bool.{true, cond};
 ghost use Prim.Native.Nat.{_<_, _≤_};
 ghost use lib.Dec.{eqb};
+ghost use lib.ListN.{length};
 ghost use Rattle.network.specs.Stations.{unknownIn};
 ghost use Rattle.network.specs.Records.{fromOf, toOf};
+ghost use Rattle.network.specs.Places.{placesLength, placesIn};
 ghost use Rattle.chains.specs.Bits.{bit, setBit, setOf};
 ghost use Rattle.chains.specs.Scans.{firstFailing};
 ghost use Rattle.chains.specs.Chains.{edge, edges, isHeld, isTied};
@@ -30,15 +31,15 @@ fn edge_of(r: Record, c: usize) -> usize
     0
 }
 
-fn edges_in(places: [Place; Unit::PLACES], c: usize) -> [usize; Unit::PLACES]
-    requires { ⌜ EndsLow places ⌝ }
-    ensures { λ r. ⌜ r ≡ edges places c ⌝ }
+// The edges of lent places in component c, one to a place.
+fn edges_in(places: &[i64], c: usize) -> [usize; Unit::PLACES]
+    requires { ⌜ (placesLength ≤ length (now places)) × EndsLow (placesIn (now places)) ⌝ }
+    ensures { λ r. ⌜ r ≡ edges (placesIn (now (places .entry))) c ⌝ }
 {
     let mut out = [0usize; Unit::PLACES];
     let mut p: usize = 0;
     while p < Unit::PLACES {
-        let place = places[p];
-        let r = place.entry;
+        let r = network::record_at(places, p);
         let e = edge_of(r, c);
         out[p] = e;
         p += 1;
@@ -74,9 +75,9 @@ fn held_in(n: usize, stations: [Station; Unit::STATIONS], c: usize) -> u32
 }
 
 // The stations that are tied in component c.
-fn tied_in(net: Network, places: [Place; Unit::PLACES], c: usize) -> u32
-    requires { ⌜ Ends net places × (c < 3) ⌝ }
-    ensures { λ r. ⌜ SameSet net places c r ⌝ }
+fn tied_in(net: Network, places: &[i64], c: usize) -> u32
+    requires { ⌜ (placesLength ≤ length (now places)) × Ends net (placesIn (now places)) × (c < 3) ⌝ }
+    ensures { λ r. ⌜ SameSet net (placesIn (now (places .entry))) c r ⌝ }
 {
     let e = edges_in(places, c);
     let n = net.count;
@@ -114,9 +115,9 @@ fn first_missing(stations: [Station; Unit::STATIONS], found: [u32; 3]) -> usize
 }
 
 // The first component, by station and then E, N, U, that is neither held nor tied; 96 where there is none.
-pub fn first_untied(net: Network, places: [Place; Unit::PLACES]) -> usize
-    requires { ⌜ Ends net places ⌝ }
-    ensures { λ r. ⌜ r ≡ firstFailing 96 (isTied net places) ⌝ }
+pub fn first_untied(net: Network, places: &[i64]) -> usize
+    requires { ⌜ (placesLength ≤ length (now places)) × Ends net (placesIn (now places)) ⌝ }
+    ensures { λ r. ⌜ r ≡ firstFailing 96 (isTied net (placesIn (now (places .entry)))) ⌝ }
 {
     let east = tied_in(net, places, 0);
     let north = tied_in(net, places, 1);
