@@ -7,13 +7,14 @@ use super::refinement::normal_residual;
 use super::refinement::refinements_within;
 use super::sizes::first_within;
 use network::Network;
-use network::Place;
 use network::Unit;
 use normals::Normals;
 ghost use mathlib.Core.Path.{_≡_};
 ghost use mathlib.Core.Bool.{_&&_};
 ghost use Prim.Native.Nat.{_*_, _≤_};
 ghost use lib.Dec.{eqb};
+ghost use lib.ListN.{length};
+ghost use Rattle.network.specs.Places.{placesLength, placesIn};
 ghost use Rattle.acceptance.specs.Tests.{at, byRows};
 ghost use Rattle.acceptance.specs.Judge.{refusalNumber, refusalUnknown, numberOf, unknownOf, judgeNumbers, judge};
 ghost use Rattle.acceptance.specs.JudgeLaws.{Fit, Numbers};
@@ -113,18 +114,18 @@ fn judge_numbers(
     Answer::Accepted
 }
 
-// The seven tests of x and M against the book's stations, records, N and u; `room`: the sheet, where one is lent, has room.
+// The seven tests of x and M against the book's stations, lent places, N and u; `room`: the sheet, where one is lent, has room.
 pub fn accept(
     net: Network,
-    places: [Place; Unit::PLACES],
+    places: &[i64],
     normal: &[i64],
     right: &[i64; Normals::ROW],
     x: &[i64],
     m: &[i64],
     room: bool,
 ) -> Answer
-    requires { ⌜ Fit net places (now normal) (now right) ⌝ }
-    ensures { λ r. ⌜ r ≡ judge net places (byRows 48 (now (normal .entry))) (at (now (right .entry))) (now (x .entry)) (now (m .entry)) room ⌝ }
+    requires { ⌜ (placesLength ≤ length (now places)) × Fit net (placesIn (now places)) (now normal) (now right) ⌝ }
+    ensures { λ r. ⌜ r ≡ judge net (placesIn (now (places .entry))) (byRows 48 (now (normal .entry))) (at (now (right .entry))) (now (x .entry)) (now (m .entry)) room ⌝ }
 {
     let stations = net.stations;
     let n = network::number_of(stations, Unit::COMPONENTS);

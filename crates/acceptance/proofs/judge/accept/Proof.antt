@@ -1,4 +1,4 @@
--- `accept` judges lengths and chains, then the numbers. Assumes nothing.
+-- `judge` unfolds test by test: what each test told decides its `unless`, and the first untied component is below 96 exactly where test 2 fails.
 use Prim.Native.Nat.{ℕ, _+_}
 use mathlib.Core.Path.{_≡_, sym, ap, _∙_}
 use mathlib.Core.Bool.{Bool, true, false}
@@ -6,6 +6,7 @@ use native.Mathlib.Omega.{arith}
 use borrow.Author.Needs.{needs}
 use borrow.Author.Tests.{not-true, not-false}
 use Rattle.network.specs.Stations.{unknownCount}
+use Rattle.network.specs.Places.{placesIn}
 use Rattle.network.specs.StationLaws.{number-small}
 use Rattle.chains.specs.ChainLaws.{untied-by, tied-by, untied-number}
 use Rattle.acceptance.specs.Tests.{lengthsFit}
@@ -26,14 +27,14 @@ number-of-requires : tie.Need-number-of-requires
 number-of-requires c κs = search needs
 
 lengths-fit-requires : tie.Need-lengths-fit-requires
-lengths-fit-requires c κs = rw (c .number-of .ensures) (c .before .before .pre .few)
+lengths-fit-requires c κs = rw (c .number-of .ensures) (c .before .before .pre .1 .few)
 
 returns : tie.Need-returns
 unfolding judge
 returns c = rw (one (c .before) false (not-true _ (c .if1 .taken)))
 
 first-untied-requires : tie.Need-first-untied-requires
-first-untied-requires c κs = c .before .before .before .before .pre .ends
+first-untied-requires c κs = (c .before .before .before .before .pre .0, c .before .before .before .before .pre .1 .ends)
 
 number-of-requires-2 : tie.Need-number-of-requires-2
 number-of-requires-2 c κs = search needs
@@ -51,9 +52,9 @@ returns-2 c =
     let u = c .before .before .first-untied .ensures in
     rw (
       one (c .before .before .before .before) true (not-false _ (c .before .before .before .if1 .left)),
-      untied-by (s .args .net) (s .args .places) u (c .before .if2 .taken),
+      untied-by (s .args .net) (placesIn (s .args .places .now)) u (c .before .if2 .taken),
     )
-    (ap (λ (k : ℕ). Refused (Untied k)) (ap (λ (k : ℕ). k + 1) (c .number-of2 .ensures) ∙ sym (untied-number (s .args .net) (s .args .places) u)))
+    (ap (λ (k : ℕ). Refused (Untied k)) (ap (λ (k : ℕ). k + 1) (c .number-of2 .ensures) ∙ sym (untied-number (s .args .net) (placesIn (s .args .places .now)) u)))
 
 judge-numbers-requires : tie.Need-judge-numbers-requires
 judge-numbers-requires c κs =
@@ -61,11 +62,11 @@ judge-numbers-requires c κs =
     let n = c .before .before .before .before .number-of .ensures in
     let l = lengths-of _ _ _ _ (one (c .before .before .before) true (not-false _ (c .before .before .if1 .left))) in
     record {
-      few = rw n (s .pre .few);
+      few = rw n (s .pre .1 .few);
       corrections = rw n (l .0);
       square = rw n (l .1);
-      matrix = s .pre .matrix;
-      absolute = s .pre .absolute;
+      matrix = s .pre .1 .matrix;
+      absolute = s .pre .1 .absolute;
     }
 
 returns-3 : tie.Need-returns-3
@@ -74,7 +75,7 @@ returns-3 c =
     let s = c .before .before .before .before .before .before .before in
     rw (
       one (c .before .before .before .before) true (not-false _ (c .before .before .before .if1 .left)),
-      tied-by (s .args .net) (s .args .places) (c .before .before .first-untied .ensures) (c .before .if2 .left),
+      tied-by (s .args .net) (placesIn (s .args .places .now)) (c .before .before .first-untied .ensures) (c .before .if2 .left),
     )
     (rw (c .before .before .before .before .before .number-of .ensures) at (c .judge-numbers .ensures))
 
