@@ -10,20 +10,21 @@ use normals::Normals;
 ghost use mathlib.Core.Path.{_≡_};
 ghost use mathlib.Core.Bool.{true};
 ghost use Prim.Native.Nat.{_≤_};
+ghost use lib.ListN.{length};
 ghost use Rattle.lists.specs.All.{allBelow};
 ghost use Rattle.network.specs.Stations.{coordinatesFit};
 ghost use Rattle.network.specs.Records.{recordAt};
+ghost use Rattle.network.specs.Places.{placesLength, placesIn};
 ghost use Rattle.network.specs.Rules.{recordFits};
 
 // Whether each place is empty or holds a record that is not refused.
-fn all_fit(net: Network, places: [Place; Unit::PLACES]) -> bool
-    requires { ⌜ (net .count ≤ 32) × (coordinatesFit (net .stations) ≡ true) ⌝ }
-    ensures { λ r. ⌜ r ≡ allBelow 256 (λ p. recordFits net (recordAt places p)) ⌝ }
+fn all_fit(net: Network, places: &[i64]) -> bool
+    requires { ⌜ (placesLength ≤ length (now places)) × (net .count ≤ 32) × (coordinatesFit (net .stations) ≡ true) ⌝ }
+    ensures { λ r. ⌜ r ≡ allBelow 256 (λ p. recordFits net (recordAt (placesIn (now (places .entry))) p)) ⌝ }
 {
     let mut p = 0;
     while p < Unit::PLACES {
-        let place = places[p];
-        let r = place.entry;
+        let r = network::record_at(places, p);
         if !network::record_fits(net, r) {
             return false;
         }
@@ -66,14 +67,15 @@ fn print_judged(net: Network, places: [Place; Unit::PLACES], x: &[i64], m: &[i64
         io::write_all(1, b": network against the rules\n");
         return;
     }
-    if !all_fit(net, places) {
+    let w = network::place_words(places);
+    if !all_fit(net, &w) {
         io::write_all(1, b": record against the rules\n");
         return;
     }
     let normals = Normals::of(net, places);
     let matrix = normals.matrix;
     let right = normals.right;
-    print_answer(acceptance::accept(net, places, &matrix, &right, x, m, true));
+    print_answer(acceptance::accept(net, &w, &matrix, &right, x, m, true));
 }
 
 // The same with x and M before it.

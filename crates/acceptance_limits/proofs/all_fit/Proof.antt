@@ -1,40 +1,39 @@
--- `all_fit` stops at the first record that is refused; all before it are by the rules. Assumes nothing.
+-- All records before place p are by the rules; the loop stops at the first that is refused.
 use Prim.Native.Nat.{ℕ, _≤_, _-_}
-use mathlib.Core.Path.{_≡_, sym, _∙_}
+use mathlib.Core.Path.{_≡_, sym, ap, _∙_}
 use mathlib.Core.Bool.{Bool, true, false}
 use native.Mathlib.Omega.{arith}
 use borrow.Author.Needs.{needs}
 use borrow.Author.Tests.{not-true, not-false}
 use Rattle.lists.specs.All.{allBelow, all-none, all-more, all-fails, all-done}
 use Rattle.network.specs.Records.{recordAt}
+use Rattle.network.specs.Places.{placesIn}
 use Rattle.network.specs.Rules.{recordFits}
+use Rattle.network.specs.declared.Record.{Record}
 use Rattle.acceptance_limits.proofs.all_fit.Statement.{statement}
 use Rattle.acceptance_limits.proofs.all_fit.Tie as tie
 
 abbrev Inv-loop : tie.InvT-loop
-Inv-loop net places p₀ p = (p ≤ 256) × (allBelow p (λ p. recordFits net (recordAt places p)) ≡ true)
+Inv-loop net places p₀ p = (p ≤ 256) × (allBelow p (λ p. recordFits net (recordAt (placesIn places) p)) ≡ true)
 
 abbrev μ-loop : tie.MeasureT-loop
 μ-loop net places p₀ p = 256 - p
 
 abbrev passes : tie.Start Inv-loop μ-loop → ℕ → Bool
-passes s p = recordFits (s .args .net) (recordAt (s .args .t2) p)
+passes s p = recordFits (s .args .net) (recordAt (placesIn (s .args .places .now)) p)
 
 -- what the test told is of place p
 told : (c : tie.After-record-fits Inv-loop μ-loop) (b : Bool) → c .record-fits .result ≡ b → passes (c .before .before .before .before) (c .before .before .before .loop .p) ≡ b
-told c b e = sym (c .record-fits .ensures) ∙ e
+told c b e = ap (λ (r : Record). recordFits (c .before .before .before .before .args .net) r) (sym (c .before .record-at .ensures)) ∙ sym (c .record-fits .ensures) ∙ e
 
 loop-holds : tie.Need-loop-holds Inv-loop μ-loop
 loop-holds c = (omega arith, all-none _)
 
-mul-place : tie.Need-mul-place Inv-loop μ-loop
-mul-place c = search needs
-
-array-copy-out-place : tie.Need-array-copy-out-place Inv-loop μ-loop
-array-copy-out-place c = search needs
+record-at-requires : tie.Need-record-at-requires Inv-loop μ-loop
+record-at-requires c κs = search needs
 
 record-fits-requires : tie.Need-record-fits-requires Inv-loop μ-loop
-record-fits-requires c κs = c .before .before .before .pre
+record-fits-requires c κs = let g = c .before .before .before .pre in (g .1, g .2)
 
 returns : tie.Need-returns Inv-loop μ-loop
 returns c =
@@ -62,8 +61,7 @@ all-fit-spec =
     Inv-loop
     μ-loop
     loop-holds
-    mul-place
-    array-copy-out-place
+    record-at-requires
     record-fits-requires
     returns
     add-p

@@ -1,10 +1,11 @@
--- `print_judged` asks for an answer only of a network and records by the rules. Assumes nothing.
+-- What the two tests told makes network and places `Sound`, and N and u worked out from them fit `accept`.
 use mathlib.Core.Path.{_≡_, sym, _∙_}
 use mathlib.Core.Bool.{true}
 use borrow.Author.Needs.{needs}
 use borrow.Author.Tests.{not-false}
 use Rattle.lists.specs.All.{all-at}
 use Rattle.network.specs.Stations.{networkFits}
+use Rattle.network.specs.Places.{placesIn}
 use Rattle.network.specs.RuleLaws.{network-few, network-coordinates}
 use Rattle.normals.specs.Sound.{Sound}
 use Rattle.acceptance.specs.Exactly.{fit-of}
@@ -14,9 +15,9 @@ use Rattle.acceptance_limits.proofs.print_judged.Tie as tie
 fits : (c : tie.Else1) → networkFits (c .before .before .args .net) ≡ true
 fits c = sym (c .before .network-fits .ensures) ∙ not-false _ (c .if1 .left)
 
-sound : (c : tie.Else2) → Sound (c .before .before .before .before .args .net) (c .before .before .before .before .args .places)
+sound : (c : tie.Else2) → Sound (c .before .before .before .before .before .before .args .net) (placesIn (c .before .before .before .place-words .result))
 sound c =
-    record { network = fits (c .before .before); each = λ p h. all-at 256 _ p (sym (c .before .all-fit .ensures) ∙ not-false _ (c .if2 .left)) h }
+    record { network = fits (c .before .before .before .before); each = λ p h. all-at 256 _ p (sym (c .before .all-fit .ensures) ∙ not-false _ (c .if2 .left)) h }
 
 network-fits-requires : tie.Need-network-fits-requires
 network-fits-requires c κs = search needs
@@ -30,8 +31,14 @@ write-all-requires c κs = search needs
 returns : tie.Need-returns
 returns c = search needs
 
+place-words-requires : tie.Need-place-words-requires
+place-words-requires c κs = search needs
+
+slice-aggregate-all-fit : tie.Need-slice-aggregate-all-fit
+slice-aggregate-all-fit c = search needs
+
 all-fit-requires : tie.Need-all-fit-requires
-all-fit-requires c κs = (network-few _ (fits c), network-coordinates _ (fits c))
+all-fit-requires c κs = let f = fits (c .before .before) in (search needs, network-few _ f, network-coordinates _ f)
 
 slice-aggregate-write-all-2 : tie.Need-slice-aggregate-write-all-2
 slice-aggregate-write-all-2 c = search needs
@@ -43,14 +50,19 @@ returns-2 : tie.Need-returns-2
 returns-2 c = search needs
 
 of-requires : tie.Need-of-requires
-of-requires c κs = sound c
+of-requires c κs = rw (c .before .before .before .place-words .ensures) at (sound c)
 
 slice-aggregate-accept : tie.Need-slice-aggregate-accept
 slice-aggregate-accept c = search needs
 
+slice-aggregate-accept-2 : tie.Need-slice-aggregate-accept-2
+slice-aggregate-accept-2 c = search needs
+
 accept-requires : tie.Need-accept-requires
 accept-requires c κs =
-    rw (c .before .before .before .before .of .ensures) (fit-of _ _ (sound (c .before .before .before .before .before)))
+    let t = c .before .before .before .before .before in
+    let places = t .before .before .before .before .place-words .ensures in
+    (search needs, rw (t .of .ensures, places) (fit-of _ _ (rw places at (sound (t .before)))))
 
 print-answer-requires : tie.Need-print-answer-requires
 print-answer-requires c κs = search needs
@@ -66,12 +78,15 @@ print-judged-spec =
     slice-aggregate-write-all
     write-all-requires
     returns
+    place-words-requires
+    slice-aggregate-all-fit
     all-fit-requires
     slice-aggregate-write-all-2
     write-all-requires-2
     returns-2
     of-requires
     slice-aggregate-accept
+    slice-aggregate-accept-2
     accept-requires
     print-answer-requires
     returns-3)
