@@ -39,6 +39,11 @@ correctionsOf stations x = tabulate 96 (correction stations x)
 abbrev pub adjustedIn : List ℤ → List ℤ → ℕ → ℤ
 adjustedIn coordinate corrections q = getD coordinate q (pos 0) +ℤ getD corrections q (pos 0)
 
+-- the three of station s
+unfoldable pub positionIn : List ℤ → List ℤ → ℕ → List ℤ
+positionIn coordinate corrections s =
+    adjustedIn coordinate corrections (s * 3) ∷ adjustedIn coordinate corrections (s * 3 + 1) ∷ adjustedIn coordinate corrections (s * 3 + 2) ∷ []
+
 pub adjusted-in : (stations : List Station) (x : List ℤ) (q : ℕ) → q < 96 → adjustedIn (coordinates stations) (correctionsOf stations x) q ≡ adjusted stations x q
 unfolding adjusted
 adjusted-in stations x q h = ap₂ _+ℤ_ (getD-tabulate 96 (coordinate stations) q (pos 0) h) (getD-tabulate 96 (correction stations x) q (pos 0) h)
@@ -151,6 +156,14 @@ residual-size coordinate corrections r c a =
 unfoldable pub covarianceIn : List ℕ → List ℤ → List ℤ → ℕ → ℕ → ℕ → ℤ
 covarianceIn numbers unknowns m n q k =
     getD unknowns q (pos 0) *ℤ getD unknowns k (pos 0) *ℤ getD m (getD numbers q 0 * n + getD numbers k 0) (pos 0)
+
+-- the variances of station s
+unfoldable pub variancesIn : List ℕ → List ℤ → List ℤ → ℕ → ℕ → List ℤ
+variancesIn numbers unknowns m n s =
+    covarianceIn numbers unknowns m n (s * 3) (s * 3)
+    ∷ covarianceIn numbers unknowns m n (s * 3 + 1) (s * 3 + 1)
+    ∷ covarianceIn numbers unknowns m n (s * 3 + 2) (s * 3 + 2)
+    ∷ []
 
 unfoldable pub differenceIn : List ℕ → List ℤ → List ℤ → ℕ → ℕ → ℕ → ℤ → ℤ
 differenceIn numbers unknowns m n t f j =

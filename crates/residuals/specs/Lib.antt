@@ -3,6 +3,7 @@ pub mod Components
 pub mod Weights
 pub mod Ranges
 pub mod Verdicts
+pub mod Observations
 pub mod VerdictLaws
 pub mod Held
 pub mod NotActing

@@ -10,12 +10,11 @@ use Rattle.integers.specs.Bounds.{bounds, absle}
 use Rattle.integers.specs.Tables.{getD-tabulate, Within, within-tabulate}
 use Rattle.network.specs.Stations.{unknown, number, place, unknownCount, coordinates, networkFits}
 use Rattle.network.specs.StationLaws.{bit}
-use Rattle.network.specs.Records.{recordAt, weights}
+use Rattle.network.specs.Records.{recordAt}
 use Rattle.network.specs.Rules.{recordFits}
-use Rattle.network.specs.RuleLaws.{SoundRecord, sound-record, sound-stations, network-few}
+use Rattle.network.specs.RuleLaws.{SoundRecord, sound-record, sound-stations}
 use Rattle.network.specs.declared.Network.{Network}
 use Rattle.network.specs.declared.Place.{Place}
-use Rattle.network.specs.declared.Record.{Record}
 use Rattle.residuals.specs.Residuals.{correction}
 use Rattle.residuals.specs.Components.{unknownsOf, numbersOf, correctionsOf, place-below, Closes, Lookup}
 

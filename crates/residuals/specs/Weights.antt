@@ -1,5 +1,5 @@
 -- The weights of a record by the rules, as the code of its variances asks for them. Assumes nothing.
-use Prim.Native.Nat.{ℕ, _<_, _≤_, _^_}
+use Prim.Native.Nat.{_≤_, _^_}
 use mathlib.Core.Path.{_≡_, sym, ap, _∙_, subst}
 use mathlib.Core.Bool.{true}
 use mathlib.Core.List.{[], _∷_}
@@ -11,7 +11,7 @@ use Rattle.integers.specs.Order.{*ℤ-mono, *ℤ-nonneg, ≤ℤ-trans, between-
 use Rattle.integers.specs.Division.{floorDiv, floorDiv-mono, floorDiv-multiple, floorDiv-quot, ≤-floorDiv}
 use Rattle.weights.specs.Quotients.{Quotient, divisor, divisor-some, weight-quotient, MatrixQuotients, matrix-quotients}
 use Rattle.network.specs.Rules.{recordFits}
-use Rattle.network.specs.Records.{weightMatrixOf, fromOf, toOf}
+use Rattle.network.specs.Records.{weightMatrixOf}
 use Rattle.network.specs.RuleLaws.{baseline-weights, height-weight}
 use Rattle.network.specs.declared.Network.{Network}
 use Rattle.network.specs.declared.Record.{Record}
@@ -42,13 +42,7 @@ module _ {adj det : ℤ} (q : Quotient adj det) where
   pub quotient : floorDiv (S *ℤ adj) (natAbs det) ≡ quotZ (S *ℤ adj) det
   quotient = floorDiv-quot (natAbs det) dividend ∙ ap (λ (d : ℤ). quotZ (S *ℤ adj) d) (divisor q)
 
--- ════ a record by the rules: its ends f and t are stations, and its weights are by the rules
-pub record Ends (r : Record) (t f : ℕ) : Type 0 where
-  pub to-is : t ≡ toOf r
-  pub from-is : f ≡ fromOf r
-  pub to : t < 32
-  pub from : f < 32
-
+-- ════ a record by the rules: its weights are by the rules
 -- of a baseline the three quotients of its matrix, of a height difference one
 abbrev pub RecordWeights : Record → Type 0
 RecordWeights Empty = Unit {0}

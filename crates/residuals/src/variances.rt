@@ -1,17 +1,20 @@
 // Variances from M and from the weights, and the local test of a residual.
+use super::Observation;
+use super::verdicts;
+use network::Unit;
 ghost use mathlib.Core.Path.{_≡_};
 ghost use Prim.Native.Nat.{_+_, _*_, _<_, _≤_};
-ghost use lib.IntN.{natAbs, _-ℤ_, _*ℤ_};
+ghost use lib.IntN.{natAbs, _*ℤ_};
 ghost use Rattle.integers.specs.Division.{floorDiv};
 ghost use Rattle.weights.specs.Quotients.{Quotient};
 ghost use Rattle.residuals.specs.Residuals.{S};
-ghost use Rattle.residuals.specs.Verdicts.{verdictWord, localVerdict};
-ghost use Rattle.residuals.specs.Components.{covarianceIn, differenceIn, Lookup};
+ghost use Rattle.residuals.specs.Components.{covarianceIn, variancesIn, differenceIn, Lookup};
+ghost use Rattle.residuals.specs.Observations.{Testable, verdictOf};
 
 // M at the components q and k, 0 where one of them is held.
-pub fn covariance(
-    number: &[usize; 96],
-    unknown: &[i64; 96],
+fn covariance(
+    number: &[usize; Unit::COMPONENTS],
+    unknown: &[i64; Unit::COMPONENTS],
     m: &[i64],
     n: usize,
     q: usize,
@@ -24,24 +27,42 @@ pub fn covariance(
     unknown[q] * unknown[k] * m[i]
 }
 
-// The variance of the adjusted difference between the components t and f; j is 0 where there is no from end.
-fn difference_variance(
-    number: &[usize; 96],
-    unknown: &[i64; 96],
+// The variances of station s in E, N, U.
+pub fn variances_of(
+    number: &[usize; Unit::COMPONENTS],
+    unknown: &[i64; Unit::COMPONENTS],
     m: &[i64],
     n: usize,
-    t: usize,
-    f: usize,
-    j: i64,
-) -> i64
-    requires { ⌜ (t < 96) × (f < 96) × (natAbs j ≤ 1) × Lookup (now number) (now unknown) (now m) n ⌝ }
-    ensures { λ r. ⌜ r ≡ differenceIn (now (number .entry)) (now (unknown .entry)) (now (m .entry)) n t f j ⌝ }
+    s: usize,
+) -> [i64; 3]
+    requires { ⌜ (s < 32) × Lookup (now number) (now unknown) (now m) n ⌝ }
+    ensures { λ r. ⌜ r ≡ variancesIn (now (number .entry)) (now (unknown .entry)) (now (m .entry)) n s ⌝ }
 {
+    let q = s * 3;
+    let x = covariance(number, unknown, m, n, q, q);
+    let y = covariance(number, unknown, m, n, q + 1, q + 1);
+    let z = covariance(number, unknown, m, n, q + 2, q + 2);
+    [x, y, z]
+}
+
+// The variance of the adjusted difference between the ends of an observation.
+fn difference_variance(
+    o: Observation,
+    number: &[usize; Unit::COMPONENTS],
+    unknown: &[i64; Unit::COMPONENTS],
+    m: &[i64],
+    n: usize,
+) -> i64
+    requires { ⌜ (o .to < 96) × (o .from < 96) × (natAbs (o .joins) ≤ 1) × Lookup (now number) (now unknown) (now m) n ⌝ }
+    ensures { λ r. ⌜ r ≡ differenceIn (now (number .entry)) (now (unknown .entry)) (now (m .entry)) n (o .to) (o .from) (o .joins) ⌝ }
+{
+    let t = o.to;
+    let f = o.from;
     let to = covariance(number, unknown, m, n, t, t);
     let from = covariance(number, unknown, m, n, f, f);
     let upper = covariance(number, unknown, m, n, t, f);
     let lower = covariance(number, unknown, m, n, f, t);
-    to + j * (from - upper - lower)
+    to + o.joins * (from - upper - lower)
 }
 
 // The variance of an observed component, whose adjugate entry and determinant these are, over 2^30; rounded down.
@@ -52,25 +73,19 @@ fn observation_variance(adj: i64, det: i64) -> i64
     1073741824 * adj / det
 }
 
-// The local verdict in component a of a record between the stations t and f, with the residual v, as its word.
+// The local verdict of an observation, as its word.
 pub fn verdict_at(
-    v: i64,
-    adj: i64,
-    det: i64,
-    number: &[usize; 96],
-    unknown: &[i64; 96],
+    o: Observation,
+    number: &[usize; Unit::COMPONENTS],
+    unknown: &[i64; Unit::COMPONENTS],
     m: &[i64],
     n: usize,
-    t: usize,
-    f: usize,
-    a: usize,
-    j: i64,
 ) -> i64
-    requires { ⌜ (natAbs v ≤ 300000) × Quotient adj det × (t < 32) × (f < 32) × (a < 3) × (natAbs j ≤ 1) × Lookup (now number) (now unknown) (now m) n ⌝ }
-    ensures { λ r. ⌜ r ≡ verdictWord (localVerdict v (floorDiv (S *ℤ adj) (natAbs det) -ℤ differenceIn (now (number .entry)) (now (unknown .entry)) (now (m .entry)) n (t * 3 + a) (f * 3 + a) j)) ⌝ }
+    requires { ⌜ Testable o × Lookup (now number) (now unknown) (now m) n ⌝ }
+    ensures { λ r. ⌜ r ≡ verdictOf (now (number .entry)) (now (unknown .entry)) (now (m .entry)) n o ⌝ }
 {
-    let o = observation_variance(adj, det);
-    let d = difference_variance(number, unknown, m, n, t * 3 + a, f * 3 + a, j);
-    let q = o - d;
-    super::verdicts::verdict_word(super::verdicts::local_verdict(v, q))
+    let w = observation_variance(o.adjugate, o.determinant);
+    let d = difference_variance(o, number, unknown, m, n);
+    let q = w - d;
+    verdicts::verdict_word(verdicts::local_verdict(o.residual, q))
 }

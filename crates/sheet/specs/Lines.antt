@@ -5,8 +5,9 @@ use mathlib.Core.List.{List, [], _∷_, _++_}
 use native.Mathlib.Omega.{arith}
 use lib.Dec.{lit<}
 use lib.ListN.{getD, length, length-append}
-use lib.IntN.{ℤ, pos, _-ℤ_}
+use lib.IntN.{ℤ, pos}
 use Rattle.integers.specs.Sums.{sumN, sumN-suc, sumN-ext, sumN-first}
+use Rattle.lists.specs.Pasted.{pasted, pasted-none, pasted-then}
 use Rattle.words.specs.Concat.{concatBelow, concatBelow-none, concatBelow-+1, length-concatBelow, concatBelow-ext}
 use Rattle.network.specs.Stations.{unknownCount, coordinate, coordinates}
 use Rattle.network.specs.Records.{acts, fromOf, toOf, joins, recordAt, observations, actsOf, isEmpty}
@@ -14,11 +15,10 @@ use Rattle.network.specs.declared.Station.{Station}
 use Rattle.network.specs.declared.Place.{Place}
 use Rattle.network.specs.declared.Record.{Record}
 use Rattle.network.specs.declared.Record.the-variants.{Empty, Baseline as baseline, Height as height}
-use Rattle.residuals.specs.Residuals.{residual, observationVariance, residualVariance}
-use Rattle.residuals.specs.Verdicts.{verdictWord, localVerdict}
+use Rattle.residuals.specs.Residuals.{residual, residualVariance}
 use Rattle.sheet.specs.Sheet.{stationWords, stationLines, recordWords, recordLines, verdictAt, wordsOf}
-use Rattle.residuals.specs.Components.{unknownsOf, numbersOf, correctionsOf, adjustedIn, adjusted-in, covarianceIn, covariance-in, differenceIn, difference-in, residualsIn, residual-in}
-use Rattle.sheet.specs.Written.{written, written-none, written-then}
+use Rattle.residuals.specs.Components.{unknownsOf, numbersOf, correctionsOf, positionIn, adjusted-in, variancesIn, covariance-in, difference-in, residualsIn, residual-in}
+use Rattle.residuals.specs.Observations.{verdictIn, verdictsIn}
 
 -- ════ lines one after the other
 length-lines : (k : ℕ) (f : ℕ → List ℤ) → length (concatBelow k f) ≡ sumN k (λ i. length (f i))
@@ -28,52 +28,62 @@ length-lines (suc k) f = length-append (concatBelow k f) (f k) ∙ ap (λ (n : �
 
 -- a sheet on which w was stored from index `from` on, and the next index is `at`
 pub record Put (l : List ℤ) (from : ℕ) (w sheet : List ℤ) (at : ℕ) : Type 0 where
-  pub holds : sheet ≡ written l from w
+  pub holds : sheet ≡ pasted l from w
   pub next : at ≡ from + length w
 
 pub put-none : (l : List ℤ) (from : ℕ) → Put l from [] l from
-put-none l from = record { holds = sym (written-none l from); next = omega arith }
+put-none l from = record { holds = sym (pasted-none l from); next = omega arith }
 
 pub put-more : {l : List ℤ} {from : ℕ} {w sheet : List ℤ} {at : ℕ} → Put l from w sheet at
-    → (v now : List ℤ) (then : ℕ) → now ≡ written sheet at v → then ≡ at + length v → Put l from (w ++ v) now then
+    → (v now : List ℤ) (then : ℕ) → now ≡ pasted sheet at v → then ≡ at + length v → Put l from (w ++ v) now then
 put-more {l} {from} {w} {sheet} {at} p v now then e q =
     record {
-      holds = e ∙ ap₂ (λ (s : List ℤ) (i : ℕ). written s i v) (p .holds) (p .next) ∙ written-then l from w v;
+      holds = e ∙ ap₂ (λ (s : List ℤ) (i : ℕ). pasted s i v) (p .holds) (p .next) ∙ pasted-then l from w v;
       next = let n = p .next in omega (arith, length-append w v);
     }
+
+-- ════ a line by its words
+-- a number from 1, and two values in each of E, N, U
+unfoldable pub sevenWords : ℕ → List ℤ → List ℤ → List ℤ
+sevenWords k v w =
+    pos (k + 1)
+    ∷ getD v 0 (pos 0) ∷ getD v 1 (pos 0) ∷ getD v 2 (pos 0)
+    ∷ getD w 0 (pos 0) ∷ getD w 1 (pos 0) ∷ getD w 2 (pos 0)
+    ∷ []
+
+-- a number from 1, and two values in U
+unfoldable pub threeWords : ℕ → List ℤ → List ℤ → List ℤ
+threeWords k v w = pos (k + 1) ∷ getD v 2 (pos 0) ∷ getD w 2 (pos 0) ∷ []
+
+-- the line of a record that observes so many components
+unfoldable pub lineOf : ℕ → ℕ → List ℤ → List ℤ → List ℤ
+lineOf zero p v w = []
+lineOf (suc zero) p v w = threeWords p v w
+lineOf (suc (suc n)) p v w = sevenWords p v w
+
+pub line-length : (r : Record) (p : ℕ) (v w : List ℤ) → length (lineOf (observations r) p v w) ≡ wordsOf r
+unfolding lineOf sevenWords threeWords wordsOf isEmpty observations
+line-length Empty p v w = refl
+line-length (baseline b) p v w = refl
+line-length (height h) p v w = refl
 
 -- ════ the line of a station
 module _ (coordinate corrections : List ℤ) (numbers : List ℕ) (unknowns m : List ℤ) (n : ℕ) where
   unfoldable pub stationWordsIn : ℕ → List ℤ
-  stationWordsIn s =
-      pos (s + 1)
-      ∷ adjustedIn coordinate corrections (s * 3) ∷ adjustedIn coordinate corrections (s * 3 + 1) ∷ adjustedIn coordinate corrections (s * 3 + 2)
-      ∷ covarianceIn numbers unknowns m n (s * 3) (s * 3) ∷ covarianceIn numbers unknowns m n (s * 3 + 1) (s * 3 + 1) ∷ covarianceIn numbers unknowns m n (s * 3 + 2) (s * 3 + 2)
-      ∷ []
+  stationWordsIn s = sevenWords s (positionIn coordinate corrections s) (variancesIn numbers unknowns m n s)
 
   pub station-length : (s : ℕ) → length (stationWordsIn s) ≡ 7
-  unfolding stationWordsIn
+  unfolding stationWordsIn sevenWords
   station-length s = refl
 
 -- ════ the line of a record, with its residuals v
 module _ (numbers : List ℕ) (unknowns m : List ℤ) (n : ℕ) where
-  unfoldable pub verdictIn : Record → ℕ → ℤ → ℤ
-  verdictIn r a v = verdictWord (localVerdict v (observationVariance r a -ℤ differenceIn numbers unknowns m n (toOf r * 3 + a) (fromOf r * 3 + a) (joins r)))
-
   unfoldable pub recordWordsIn : ℕ → Record → List ℤ → List ℤ
-  recordWordsIn p Empty v = []
-  recordWordsIn p (baseline b) v =
-      pos (p + 1)
-      ∷ getD v 0 (pos 0) ∷ getD v 1 (pos 0) ∷ getD v 2 (pos 0)
-      ∷ verdictIn (baseline b) 0 (getD v 0 (pos 0)) ∷ verdictIn (baseline b) 1 (getD v 1 (pos 0)) ∷ verdictIn (baseline b) 2 (getD v 2 (pos 0))
-      ∷ []
-  recordWordsIn p (height h) v = pos (p + 1) ∷ getD v 2 (pos 0) ∷ verdictIn (height h) 2 (getD v 2 (pos 0)) ∷ []
+  recordWordsIn p r v = lineOf (observations r) p v (verdictsIn numbers unknowns m n r v)
 
   pub record-length : (p : ℕ) (r : Record) (v : List ℤ) → length (recordWordsIn p r v) ≡ wordsOf r
-  unfolding recordWordsIn wordsOf isEmpty observations
-  record-length p Empty v = refl
-  record-length p (baseline b) v = refl
-  record-length p (height h) v = refl
+  unfolding recordWordsIn
+  record-length p r v = line-length r p v (verdictsIn numbers unknowns m n r v)
 
 -- ════ the first k lines
 module _ (coordinate corrections : List ℤ) (numbers : List ℕ) (unknowns m : List ℤ) (n : ℕ) where
@@ -126,7 +136,7 @@ module _ (coordinate corrections : List ℤ) (numbers : List ℕ) (unknowns m : 
 module _ (stations : List Station) (x m : List ℤ) where
   station-in : (s : ℕ) → s < 32
       → stationWordsIn (coordinates stations) (correctionsOf stations x) (numbersOf stations) (unknownsOf stations) m (unknownCount stations) s ≡ stationWords stations x m s
-  unfolding stationWordsIn stationWords
+  unfolding stationWordsIn sevenWords positionIn variancesIn stationWords
   station-in s h =
       let e : s * 3 < 96 = omega arith in let n : s * 3 + 1 < 96 = omega arith in let u : s * 3 + 2 < 96 = omega arith in
       rw (
@@ -146,7 +156,7 @@ module _ (stations : List Station) (x m : List ℤ) where
   record-in : (p : ℕ) (r : Record) → fromOf r < 32 → toOf r < 32
       → recordWordsIn (numbersOf stations) (unknownsOf stations) m (unknownCount stations) p r (residualsIn (coordinates stations) (correctionsOf stations x) r)
       ≡ recordWords stations x m p r
-  unfolding recordWordsIn recordWords acts observations actsOf
+  unfolding recordWordsIn lineOf sevenWords threeWords verdictsIn recordWords acts observations actsOf
   record-in p Empty f t = refl
   record-in p (baseline b) f t =
       rw (

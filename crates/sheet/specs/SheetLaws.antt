@@ -1,4 +1,4 @@
--- The sheet as it is written part by part, and its length. Assumes nothing.
+-- The sheet as it is pasted part by part, and its length. Assumes nothing.
 use Prim.Native.Nat.{ℕ, zero, suc, _+_, _*_, _≤_}
 use mathlib.Core.Path.{_≡_, refl, sym, ap, _∙_, subst}
 use mathlib.Core.List.{List, [], _∷_, _++_}
@@ -15,7 +15,7 @@ use Rattle.network.specs.declared.Record.{Record}
 use Rattle.network.specs.declared.Record.the-variants.{Empty, Baseline as baseline, Height as height}
 use Rattle.residuals.specs.Residuals.{recordCount}
 use Rattle.sheet.specs.Sheet.{stationWords, stationLines, recordWords, recordLines, globalWords, sheetWords, wordsOf, room}
-use Rattle.sheet.specs.Written.{written, written-then, written-front}
+use Rattle.lists.specs.Pasted.{pasted, pasted-then, pasted-front}
 
 -- ════ lengths
 station-length : (stations : List Station) (x m : List ℤ) (s : ℕ) → length (stationWords stations x m s) ≡ 7
@@ -52,16 +52,16 @@ module _ (H S R G : List ℤ) where
   parts-length = omega (arith, length-append (H ++ S ++ R) G, length-append (H ++ S) R, length-append H S)
 
   pub parts-written : (l a b c d : List ℤ) (at next : ℕ)
-      → a ≡ written l 0 H → b ≡ written a (length H) S → at ≡ length H + length S → c ≡ written b at R → next ≡ at + length R → d ≡ written c next G
+      → a ≡ pasted l 0 H → b ≡ pasted a (length H) S → at ≡ length H + length S → c ≡ pasted b at R → next ≡ at + length R → d ≡ pasted c next G
       → length (H ++ S ++ R ++ G) ≤ length l → d ≡ (H ++ S ++ R ++ G) ++ drop (length (H ++ S ++ R ++ G)) l
   parts-written l a b c d at next ea eb eat ec en ed h =
       let zero-first : 0 + length H ≡ length H = omega arith in
-      let p : b ≡ written l 0 (H ++ S) = eb ∙ (λ k. written (ea k) (sym zero-first k) S) ∙ written-then l 0 H S in
+      let p : b ≡ pasted l 0 (H ++ S) = eb ∙ (λ k. pasted (ea k) (sym zero-first k) S) ∙ pasted-then l 0 H S in
       let i : at ≡ 0 + length (H ++ S) = omega (arith, length-append H S) in
-      let q : c ≡ written l 0 (H ++ S ++ R) = ec ∙ (λ k. written (p k) (i k) R) ∙ written-then l 0 (H ++ S) R in
+      let q : c ≡ pasted l 0 (H ++ S ++ R) = ec ∙ (λ k. pasted (p k) (i k) R) ∙ pasted-then l 0 (H ++ S) R in
       let j : next ≡ 0 + length (H ++ S ++ R) = omega (arith, length-append H S, length-append (H ++ S) R) in
-      let r : d ≡ written l 0 (H ++ S ++ R ++ G) = ed ∙ (λ k. written (q k) (j k) G) ∙ written-then l 0 (H ++ S ++ R) G in
-      r ∙ written-front l (H ++ S ++ R ++ G) h
+      let r : d ≡ pasted l 0 (H ++ S ++ R ++ G) = ed ∙ (λ k. pasted (q k) (j k) G) ∙ pasted-then l 0 (H ++ S ++ R) G in
+      r ∙ pasted-front l (H ++ S ++ R ++ G) h
 
 global-long : (stations : List Station) (places : List Place) (x : List ℤ) → length (globalWords stations places x) ≡ 3
 unfolding globalWords
@@ -76,12 +76,12 @@ module _ (net : Network) (places : List Place) (x m : List ℤ) where
       ∙ rw (stations-long (net .stations) x m (net .count), records-long (net .stations) x m places 256, global-long (net .stations) places x) (omega arith)
 
   pub sheet-written : (l a b c d : List ℤ) (at next : ℕ)
-      → a ≡ written l 0 (pos (recordCount places) ∷ pos (unknownCount (net .stations)) ∷ [])
-      → b ≡ written a 2 (stationLines (net .stations) x m (net .count))
+      → a ≡ pasted l 0 (pos (recordCount places) ∷ pos (unknownCount (net .stations)) ∷ [])
+      → b ≡ pasted a 2 (stationLines (net .stations) x m (net .count))
       → at ≡ 2 + 7 * net .count
-      → c ≡ written b at (recordLines (net .stations) x m places 256)
+      → c ≡ pasted b at (recordLines (net .stations) x m places 256)
       → next ≡ at + sumN 256 (λ p. wordsOf (recordAt places p))
-      → d ≡ written c next (globalWords (net .stations) places x)
+      → d ≡ pasted c next (globalWords (net .stations) places x)
       → room net places ≤ length l → d ≡ sheetWords net places x m ++ drop (room net places) l
   unfolding sheetWords
   sheet-written l a b c d at next ea eb eat ec en ed h =

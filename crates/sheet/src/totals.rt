@@ -1,13 +1,14 @@
 // What all records add up to: the counts, T and D.
 use network::Network;
-use network::Place;
 use network::Record;
+use network::Unit;
 ghost use mathlib.Core.Path.{_≡_};
 ghost use Prim.Native.Nat.{_+_, _*_, _<_, _≤_};
 ghost use lib.IntN.{pos, _*ℤ_};
-ghost use lib.ListN.{getD};
+ghost use lib.ListN.{getD, length};
 ghost use Rattle.integers.specs.Sums.{sum};
 ghost use Rattle.integers.specs.Tables.{Within};
+ghost use Rattle.network.specs.Places.{placesLength, placesIn};
 ghost use Rattle.network.specs.Records.{fromOf, toOf};
 ghost use Rattle.normals.specs.Sound.{Sound};
 ghost use Rattle.residuals.specs.Residuals.{isRecord, T, D};
@@ -35,15 +36,15 @@ fn words_in(r: Record) -> usize
     if network::is_empty(r) { 0 } else { 1 + 2 * n }
 }
 
-pub fn counts_of(places: [Place; 256]) -> Counts
-    ensures { λ r. ⌜ r ≡ countsOf places ⌝ }
+pub fn counts_of(places: &[i64]) -> Counts
+    requires { ⌜ placesLength ≤ length (now places) ⌝ }
+    ensures { λ r. ⌜ r ≡ countsOf (placesIn (now (places .entry))) ⌝ }
 {
     let mut records = 0;
     let mut words = 0;
     let mut p = 0;
-    while p < 256 {
-        let e = places[p];
-        let r = e.entry;
+    while p < Unit::PLACES {
+        let r = network::record_at(places, p);
         records = records + is_record(r);
         words = words + words_in(r);
         p = p + 1;
@@ -53,7 +54,7 @@ pub fn counts_of(places: [Place; 256]) -> Counts
 
 // Whether a record is in the adjustment: an end has an unknown in a component in which the record acts. It is enough to look at U, since every record acts in U and every station with
 // an unknown has one there.
-fn in_adjustment(unknown: &[i64; 96], r: Record) -> bool
+fn in_adjustment(unknown: &[i64; Unit::COMPONENTS], r: Record) -> bool
     requires { ⌜ (fromOf r < 32) × (toOf r < 32) ⌝ }
     ensures { λ b. ⌜ b ≡ inAdjustmentIn (now (unknown .entry)) r ⌝ }
 {
@@ -63,7 +64,7 @@ fn in_adjustment(unknown: &[i64; 96], r: Record) -> bool
 }
 
 // What a record adds to D.
-fn share_of_d(unknown: &[i64; 96], r: Record) -> usize
+fn share_of_d(unknown: &[i64; Unit::COMPONENTS], r: Record) -> usize
     requires { ⌜ (fromOf r < 32) × (toOf r < 32) ⌝ }
     ensures { λ n. ⌜ n ≡ shareDIn (now (unknown .entry)) r ⌝ }
 {
@@ -84,18 +85,17 @@ fn freedom_of(observed: usize, n: usize) -> i64
 }
 
 // D, the degrees of freedom of the records in the adjustment.
-pub fn d_of(net: Network, places: [Place; 256]) -> i64
-    requires { ⌜ Sound net places ⌝ }
-    ensures { λ r. ⌜ r ≡ D (net .stations) places ⌝ }
+pub fn d_of(net: Network, places: &[i64]) -> i64
+    requires { ⌜ (placesLength ≤ length (now places)) × Sound net (placesIn (now places)) ⌝ }
+    ensures { λ r. ⌜ r ≡ D (net .stations) (placesIn (now (places .entry))) ⌝ }
 {
     let stations = net.stations;
-    let n = network::number_of(stations, 96);
+    let n = network::number_of(stations, Unit::COMPONENTS);
     let unknown = network::unknowns_of(stations);
     let mut observed = 0;
     let mut p = 0;
-    while p < 256 {
-        let e = places[p];
-        let r = e.entry;
+    while p < Unit::PLACES {
+        let r = network::record_at(places, p);
         observed = observed + share_of_d(&unknown, r);
         p = p + 1;
     }
@@ -126,7 +126,7 @@ fn weighted_squares(v: [i64; 3], w: [i64; 9]) -> i64
 }
 
 // What a record adds to T.
-fn share_of_t(unknown: &[i64; 96], coordinate: &[i64; 96], correction: &[i64; 96], r: Record) -> i64
+fn share_of_t(unknown: &[i64; Unit::COMPONENTS], coordinate: &[i64; Unit::COMPONENTS], correction: &[i64; Unit::COMPONENTS], r: Record) -> i64
     requires { ⌜ Weighed (now coordinate) (now correction) r ⌝ }
     ensures { λ s. ⌜ s ≡ shareTIn (now (unknown .entry)) (now (coordinate .entry)) (now (correction .entry)) r ⌝ }
 {
@@ -139,9 +139,9 @@ fn share_of_t(unknown: &[i64; 96], coordinate: &[i64; 96], correction: &[i64; 96
 }
 
 // T, the weighted squares of the residuals of the records in the adjustment.
-pub fn t_of(net: Network, places: [Place; 256], x: &[i64]) -> i64
-    requires { ⌜ Solved net places (now x) ⌝ }
-    ensures { λ r. ⌜ r ≡ T (net .stations) places (now (x .entry)) ⌝ }
+pub fn t_of(net: Network, places: &[i64], x: &[i64]) -> i64
+    requires { ⌜ (placesLength ≤ length (now places)) × Solved net (placesIn (now places)) (now x) ⌝ }
+    ensures { λ r. ⌜ r ≡ T (net .stations) (placesIn (now (places .entry))) (now (x .entry)) ⌝ }
 {
     let stations = net.stations;
     let unknown = network::unknowns_of(stations);
@@ -149,9 +149,8 @@ pub fn t_of(net: Network, places: [Place; 256], x: &[i64]) -> i64
     let correction = residuals::corrections_of(stations, x);
     let mut t: i64 = 0;
     let mut p = 0;
-    while p < 256 {
-        let e = places[p];
-        let r = e.entry;
+    while p < Unit::PLACES {
+        let r = network::record_at(places, p);
         t = t + share_of_t(&unknown, &coordinate, &correction, r);
         p = p + 1;
     }

@@ -1,3 +1,4 @@
+-- Both numbers are small, so their sum fits. Assumes nothing.
 use borrow.Author.Needs.{needs}
 use mathlib.Core.List.{[], _∷_}
 use lib.ListN.{getD}

@@ -1,10 +1,11 @@
+-- The loop has filled the corrections of the components passed; each is the unknown's bit times the number at its index of x. Assumes nothing.
 use borrow.Author.Needs.{needs}
 use native.Mathlib.Omega.{arith}
 use mathlib.Core.Path.{_∙_}
 use mathlib.Core.List.{[], _∷_}
 use Prim.Native.Nat.{ℕ, _-_, _≤_, _<_}
 use lib.ListN.{length, getD}
-use lib.IntN.{ℤ, pos, natAbs, _*ℤ_}
+use lib.IntN.{pos, natAbs, _*ℤ_}
 use Rattle.integers.specs.Code.{fit, code-bounds, ringm, code-shapes}
 use Rattle.integers.specs.Tables.{getD-tabulate, tabulate-ext}
 use Rattle.lists.specs.Filling.{Mapped, starts, goes-on, finish}

@@ -1,3 +1,4 @@
+-- The numbers are small, so no step leaves 64 bits and the machine's difference is the one asked for. Assumes nothing.
 use borrow.Author.Needs.{needs}
 use Prim.Native.Nat.{_+_, _*_}
 use mathlib.Core.List.{[], _∷_}

@@ -1,3 +1,4 @@
+-- Each covariance is at most 2^34, so the sum fits; the identity of stored numbers is `total`. Assumes nothing.
 use borrow.Author.Needs.{needs}
 use Prim.Native.Nat.{ℕ, _≤_, _^_}
 use mathlib.Core.Path.{_≡_, _∙_}
@@ -30,35 +31,35 @@ covariance-requires-4 c κs = search needs
 
 sub-result : tie.Need-sub-result
 sub-result c =
-    let l = c in let f = c .before in let e = f .before in let d = e .before in let s = d .before in let w = s .pre .3 in let j = s .pre .2 in
-    let tt' = size w (s .args .t) (s .args .t) (d .covariance .ensures) in let ff = size w (s .args .f) (s .args .f) (e .covariance2 .ensures) in
-    let tf = size w (s .args .t) (s .args .f) (f .covariance3 .ensures) in let ft = size w (s .args .f) (s .args .t) (l .covariance4 .ensures) in fit (search code-bounds depth 20) tt
+    let l = c in let f = l .before in let e = f .before in let d = e .before in let s = d .before in let w = s .pre .3 in let j = s .pre .2 in
+    let tt' = size w (s .args .o .to) (s .args .o .to) (d .covariance .ensures) in let ff = size w (s .args .o .from) (s .args .o .from) (e .covariance2 .ensures) in
+    let tf = size w (s .args .o .to) (s .args .o .from) (f .covariance3 .ensures) in let ft = size w (s .args .o .from) (s .args .o .to) (l .covariance4 .ensures) in fit (search code-bounds depth 20) tt
 
 sub-result-2 : tie.Need-sub-result-2
 sub-result-2 c =
-    let l = c in let f = c .before in let e = f .before in let d = e .before in let s = d .before in let w = s .pre .3 in let j = s .pre .2 in
-    let tt' = size w (s .args .t) (s .args .t) (d .covariance .ensures) in let ff = size w (s .args .f) (s .args .f) (e .covariance2 .ensures) in
-    let tf = size w (s .args .t) (s .args .f) (f .covariance3 .ensures) in let ft = size w (s .args .f) (s .args .t) (l .covariance4 .ensures) in fit (search code-bounds depth 20) tt
+    let l = c in let f = l .before in let e = f .before in let d = e .before in let s = d .before in let w = s .pre .3 in let j = s .pre .2 in
+    let tt' = size w (s .args .o .to) (s .args .o .to) (d .covariance .ensures) in let ff = size w (s .args .o .from) (s .args .o .from) (e .covariance2 .ensures) in
+    let tf = size w (s .args .o .to) (s .args .o .from) (f .covariance3 .ensures) in let ft = size w (s .args .o .from) (s .args .o .to) (l .covariance4 .ensures) in fit (search code-bounds depth 20) tt
 
 mul-result : tie.Need-mul-result
 mul-result c =
-    let l = c in let f = c .before in let e = f .before in let d = e .before in let s = d .before in let w = s .pre .3 in let j = s .pre .2 in
-    let tt' = size w (s .args .t) (s .args .t) (d .covariance .ensures) in let ff = size w (s .args .f) (s .args .f) (e .covariance2 .ensures) in
-    let tf = size w (s .args .t) (s .args .f) (f .covariance3 .ensures) in let ft = size w (s .args .f) (s .args .t) (l .covariance4 .ensures) in fit (search code-bounds depth 20) tt
+    let l = c .before .before in let f = l .before in let e = f .before in let d = e .before in let s = d .before in let w = s .pre .3 in let j = s .pre .2 in
+    let tt' = size w (s .args .o .to) (s .args .o .to) (d .covariance .ensures) in let ff = size w (s .args .o .from) (s .args .o .from) (e .covariance2 .ensures) in
+    let tf = size w (s .args .o .to) (s .args .o .from) (f .covariance3 .ensures) in let ft = size w (s .args .o .from) (s .args .o .to) (l .covariance4 .ensures) in fit (search code-bounds depth 20) tt
 
 add-result : tie.Need-add-result
 add-result c =
-    let l = c in let f = c .before in let e = f .before in let d = e .before in let s = d .before in let w = s .pre .3 in let j = s .pre .2 in
-    let tt' = size w (s .args .t) (s .args .t) (d .covariance .ensures) in let ff = size w (s .args .f) (s .args .f) (e .covariance2 .ensures) in
-    let tf = size w (s .args .t) (s .args .f) (f .covariance3 .ensures) in let ft = size w (s .args .f) (s .args .t) (l .covariance4 .ensures) in fit (search code-bounds depth 20) tt
+    let l = c .before .before in let f = l .before in let e = f .before in let d = e .before in let s = d .before in let w = s .pre .3 in let j = s .pre .2 in
+    let tt' = size w (s .args .o .to) (s .args .o .to) (d .covariance .ensures) in let ff = size w (s .args .o .from) (s .args .o .from) (e .covariance2 .ensures) in
+    let tf = size w (s .args .o .to) (s .args .o .from) (f .covariance3 .ensures) in let ft = size w (s .args .o .from) (s .args .o .to) (l .covariance4 .ensures) in fit (search code-bounds depth 20) tt
 
 returns : tie.Need-returns
 unfolding differenceIn
 returns c =
-    let l = c in let f = c .before in let e = f .before in let d = e .before in let s = d .before in let w = s .pre .3 in let j = s .pre .2 in
-    let tt' = size w (s .args .t) (s .args .t) (d .covariance .ensures) in let ff = size w (s .args .f) (s .args .f) (e .covariance2 .ensures) in
-    let tf = size w (s .args .t) (s .args .f) (f .covariance3 .ensures) in let ft = size w (s .args .f) (s .args .t) (l .covariance4 .ensures) in
-    total (d .covariance .result) (e .covariance2 .result) (f .covariance3 .result) (l .covariance4 .result) (s .args .j) tt' ff tf ft j
+    let l = c .before .before in let f = l .before in let e = f .before in let d = e .before in let s = d .before in let w = s .pre .3 in let j = s .pre .2 in
+    let tt' = size w (s .args .o .to) (s .args .o .to) (d .covariance .ensures) in let ff = size w (s .args .o .from) (s .args .o .from) (e .covariance2 .ensures) in
+    let tf = size w (s .args .o .to) (s .args .o .from) (f .covariance3 .ensures) in let ft = size w (s .args .o .from) (s .args .o .to) (l .covariance4 .ensures) in
+    total (d .covariance .result) (e .covariance2 .result) (f .covariance3 .result) (l .covariance4 .result) (s .args .o .joins) tt' ff tf ft j
     ∙ rw (d .covariance .ensures, e .covariance2 .ensures, f .covariance3 .ensures, l .covariance4 .ensures)
 
 pub difference-variance-spec : {M : Type 1} → statement M

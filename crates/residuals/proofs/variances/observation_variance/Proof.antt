@@ -1,3 +1,4 @@
+-- The dividend is not negative, so the machine's quotient is the floor (`quotient`). Assumes nothing.
 use mathlib.Core.Path.{_≡_, sym, ap, _∙_, subst}
 use mathlib.Core.List.{[], _∷_}
 use lib.IntN.{ℤ, pos, natAbs, _*ℤ_}

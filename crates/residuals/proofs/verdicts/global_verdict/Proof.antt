@@ -1,3 +1,4 @@
+-- The index of d in the table gives the limits; each branch is `global-none` or a case of `global-inside`. Assumes nothing.
 use borrow.Author.Needs.{needs}
 use native.Mathlib.Omega.{arith}
 use mathlib.Core.Path.{_≡_, sym, ap, _∙_}

@@ -1,3 +1,4 @@
+-- The constant table is the definition's, entry by entry. Assumes nothing.
 use borrow.Author.Needs.{needs}
 use mathlib.Core.Path.{refl}
 use Rattle.residuals.specs.Verdicts.{chiSquare}

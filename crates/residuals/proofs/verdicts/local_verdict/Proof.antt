@@ -1,3 +1,4 @@
+-- The products fit by the sizes of v and q; each branch is a law of `localVerdict`. Assumes nothing.
 use borrow.Author.Needs.{needs}
 use mathlib.Core.Path.{_≡_, sym, _∙_}
 use mathlib.Core.List.{[], _∷_}

@@ -1,3 +1,4 @@
+-- By the verdict. Assumes nothing.
 use borrow.Author.Needs.{needs}
 use Rattle.residuals.specs.Verdicts.{verdictWord}
 use Rattle.residuals.proofs.verdicts.verdict_word.Statement.{statement}

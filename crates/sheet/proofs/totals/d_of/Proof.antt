@@ -1,31 +1,19 @@
-use borrow.Author.Needs.{needs, sfits-of}
-use native.Mathlib.Omega.{arith}
-use Prim.Native.Nat.{ℕ, _+_, _-_, _≤_}
-use mathlib.Core.Path.{_≡_, refl, sym, ap₂, _∙_}
-use mathlib.Core.List.{List}
-use lib.ListN.{length}
-use lib.IntN.{ℤ}
-use mir.Syntax.{w64}
-use mir.ValLaws.{toZ-ofZ}
-use Rattle.integers.specs.Sums.{sumN, sumN-zero, sumN-+1, sumN-const}
-use Rattle.network.specs.StationLaws.{number-small}
-use Rattle.network.specs.Records.{recordAt}
-use Rattle.lists.specs.Filling.{length-mapped}
-use Rattle.network.specs.declared.Place.{Place}
-use Rattle.normals.specs.Sound.{record-sound}
-use Rattle.sheet.specs.Totals.{shareDIn, shareD-few, freedom, D-in}
+use borrow.Author.Needs.{needs}
 use Rattle.sheet.proofs.totals.d_of.Statement.{statement}
 use Rattle.sheet.proofs.totals.d_of.Tie as tie
+use Rattle.sheet.proofs.totals.d_of.Reads as reads
+use Rattle.sheet.proofs.totals.d_of.Lts as lts
+use Rattle.network.proofs.record_at.Reads as record-at-reads
+use Rattle.network.proofs.number_of.Reads as number-of-reads
+use Rattle.network.proofs.unknowns_of.Reads as unknowns-of-reads
+use Rattle.sheet.proofs.totals.freedom_of.Reads as freedom-of-reads
+use Rattle.sheet.proofs.totals.share_of_d.Reads as share-of-d-reads
 
 abbrev Inv-loop : tie.InvT-loop
-Inv-loop places n unknown observed₀ p₀ observed p = (p ≤ 256) × (length places ≡ 256) × (observed ≡ sumN p (λ k. shareDIn unknown (recordAt places k)))
+Inv-loop places n unknown observed₀ p₀ observed p = ?
 
 abbrev μ-loop : tie.MeasureT-loop
-μ-loop places n unknown observed₀ p₀ observed p = 256 - p
-
--- the sum over the first places is small
-few : (places : List Place) (unknown : List ℤ) (n : ℕ) → n ≤ 256 → sumN n (λ k. shareDIn unknown (recordAt places k)) ≤ 768
-few places unknown n h = let b = sumN-const n {f = λ k. shareDIn unknown (recordAt places k)} 3 (λ k l. shareD-few unknown (recordAt places k)) in omega arith
+μ-loop places n unknown observed₀ p₀ observed p = ?
 
 number-of-requires : tie.Need-number-of-requires Inv-loop μ-loop
 number-of-requires c κs = search needs
@@ -34,24 +22,16 @@ unknowns-of-requires : tie.Need-unknowns-of-requires Inv-loop μ-loop
 unknowns-of-requires c κs = search needs
 
 loop-holds : tie.Need-loop-holds Inv-loop μ-loop
-loop-holds c = (search needs, search (needs, length-mapped), sym (sumN-zero (λ k. shareDIn (c .unknowns-of .result) (recordAt (c .before .before .before .args .t2) k))))
+loop-holds c = search needs
 
-mul-e : tie.Need-mul-e Inv-loop μ-loop
-mul-e c = search needs
-
-array-copy-out-e : tie.Need-array-copy-out-e Inv-loop μ-loop
-array-copy-out-e c = search needs
+record-at-requires : tie.Need-record-at-requires Inv-loop μ-loop
+record-at-requires c κs = search needs
 
 share-of-d-requires : tie.Need-share-of-d-requires Inv-loop μ-loop
-share-of-d-requires c κs =
-    let t = c .before .before .before in let s = t .before .before .before .before in
-    let r = record-sound (s .args .net) (s .args .t2) (s .pre) (t .loop .p) (omega (arith, c .before .before .loop-test .taken)) in
-    (r .from, r .to)
+share-of-d-requires c κs = search needs
 
 add-observed : tie.Need-add-observed Inv-loop μ-loop
-add-observed c =
-    let t = c .before .before .before .before in
-    omega (arith, t .loop .inv .2, few (t .before .before .before .before .args .t2) (t .before .unknowns-of .result) (t .loop .p) (t .loop .inv .0), c .share-of-d .ensures, shareD-few (t .before .unknowns-of .result) (recordAt (t .before .before .before .before .args .t2) (t .loop .p)))
+add-observed c = search needs
 
 add-p : tie.Need-add-p Inv-loop μ-loop
 add-p c = search needs
@@ -60,22 +40,13 @@ loop-less : tie.Need-loop-less Inv-loop μ-loop
 loop-less c = search needs
 
 loop-again : tie.Need-loop-again Inv-loop μ-loop
-loop-again c =
-    let t = c .before .before .before .before in
-    (search needs, t .loop .inv .1, ap₂ _+_ (t .loop .inv .2) (c .share-of-d .ensures) ∙ sym (sumN-+1 (t .loop .p) (λ k. shareDIn (t .before .unknowns-of .result) (recordAt (t .before .before .before .before .args .t2) k))))
+loop-again c = search needs
 
 freedom-of-requires : tie.Need-freedom-of-requires Inv-loop μ-loop
-freedom-of-requires c κs =
-    let t = c .before in let s = t .before .before .before .before in
-    (omega (arith, t .loop .inv .2, few (s .args .t2) (t .before .unknowns-of .result) (t .loop .p) (t .loop .inv .0)), rw (t .before .before .number-of .ensures) (number-small (s .args .net .stations) 96))
+freedom-of-requires c κs = search needs
 
 returns : tie.Need-returns Inv-loop μ-loop
-returns c =
-    let t = c .before .before in let s = t .before .before .before .before in let e : t .loop .p ≡ 256 = omega arith in
-    toZ-ofZ w64 (c .freedom-of .result) (sfits-of (c .freedom-of .ok))
-    ∙ c .freedom-of .ensures
-    ∙ ap₂ freedom (t .loop .inv .2 ∙ rw (e, t .before .unknowns-of .ensures) refl) (t .before .before .number-of .ensures)
-    ∙ D-in (s .pre)
+returns c = search needs
 
 pub d-of-spec : {M : Type 1} → statement M
 d-of-spec =
@@ -86,8 +57,7 @@ d-of-spec =
     number-of-requires
     unknowns-of-requires
     loop-holds
-    mul-e
-    array-copy-out-e
+    record-at-requires
     share-of-d-requires
     add-observed
     add-p

@@ -1,25 +1,19 @@
 use borrow.Author.Needs.{needs}
-use native.Mathlib.Omega.{arith}
-use Prim.Native.Nat.{ℕ, _-_, _≤_, _<_}
-use mathlib.Core.Path.{_≡_, _∙_}
-use lib.ListN.{length}
-use Rattle.network.specs.Records.{recordAt}
-use Rattle.lists.specs.Filling.{length-mapped}
-use Rattle.residuals.specs.Ranges.{some-unknowns}
-use Rattle.sheet.specs.Totals.{Weighed, weighed-at, Summed, summed-none, summed, summed-fits, summed-more, T-in}
 use Rattle.sheet.proofs.totals.t_of.Statement.{statement}
 use Rattle.sheet.proofs.totals.t_of.Tie as tie
+use Rattle.sheet.proofs.totals.t_of.Reads as reads
+use Rattle.sheet.proofs.totals.t_of.Lts as lts
+use Rattle.network.proofs.record_at.Reads as record-at-reads
+use Rattle.network.proofs.coordinates_of.Reads as coordinates-of-reads
+use Rattle.network.proofs.unknowns_of.Reads as unknowns-of-reads
+use Rattle.residuals.proofs.corrections_of.Reads as corrections-of-reads
+use Rattle.sheet.proofs.totals.share_of_t.Reads as share-of-t-reads
 
 abbrev Inv-loop : tie.InvT-loop
-Inv-loop x places unknown coordinate correction t₀ p₀ t p = (p ≤ 256) × (length places ≡ 256) × Summed unknown coordinate correction places t p
+Inv-loop places x unknown coordinate correction t₀ p₀ t p = ?
 
 abbrev μ-loop : tie.MeasureT-loop
-μ-loop x places unknown coordinate correction t₀ p₀ t p = 256 - p
-
--- the tables in the loop are those of the stations
-weighed : (t : tie.At-loop Inv-loop μ-loop) (p : ℕ) → p < 256
-    → Weighed (t .before .before .coordinates-of .result) (t .before .corrections-of .result) (recordAt (t .before .before .before .before .before .args .t2) p)
-weighed t p h = rw (t .before .before .coordinates-of .ensures, t .before .corrections-of .ensures) (weighed-at (t .before .before .before .before .before .pre) p h)
+μ-loop places x unknown coordinate correction t₀ p₀ t p = ?
 
 unknowns-of-requires : tie.Need-unknowns-of-requires Inv-loop μ-loop
 unknowns-of-requires c κs = search needs
@@ -28,24 +22,19 @@ coordinates-of-requires : tie.Need-coordinates-of-requires Inv-loop μ-loop
 coordinates-of-requires c κs = search needs
 
 corrections-of-requires : tie.Need-corrections-of-requires Inv-loop μ-loop
-corrections-of-requires c κs = let s = c .before .before .before in (some-unknowns (s .pre .moved), s .pre .moved .corrections)
+corrections-of-requires c κs = search needs
 
 loop-holds : tie.Need-loop-holds Inv-loop μ-loop
-loop-holds c = (search needs, search (needs, length-mapped), summed-none (c .before .before .unknowns-of .result) (c .before .coordinates-of .result) (c .corrections-of .result) (c .before .before .before .before .args .t2))
+loop-holds c = search needs
 
-mul-e : tie.Need-mul-e Inv-loop μ-loop
-mul-e c = search needs
-
-array-copy-out-e : tie.Need-array-copy-out-e Inv-loop μ-loop
-array-copy-out-e c = search needs
+record-at-requires : tie.Need-record-at-requires Inv-loop μ-loop
+record-at-requires c κs = search needs
 
 share-of-t-requires : tie.Need-share-of-t-requires Inv-loop μ-loop
-share-of-t-requires c κs = let t = c .before .before .before .before .before in weighed t (t .loop .p) (omega (arith, c .before .before .before .before .loop-test .taken))
+share-of-t-requires c κs = search needs
 
 add-t : tie.Need-add-t Inv-loop μ-loop
-add-t c =
-    let t = c .before .before .before .before .before .before in
-    summed-fits (t .before .before .before .before .before .args .t2) (weighed t) (t .loop .inv .2) (omega (arith, c .before .before .before .before .before .loop-test .taken)) (c .share-of-t .ensures)
+add-t c = search needs
 
 add-p : tie.Need-add-p Inv-loop μ-loop
 add-p c = search needs
@@ -54,15 +43,10 @@ loop-less : tie.Need-loop-less Inv-loop μ-loop
 loop-less c = search needs
 
 loop-again : tie.Need-loop-again Inv-loop μ-loop
-loop-again c =
-    let t = c .before .before .before .before .before .before in
-    (search needs, t .loop .inv .1, summed-more (t .before .before .before .before .before .args .t2) (weighed t) (t .loop .inv .2) (omega (arith, c .before .before .before .before .before .loop-test .taken)) (c .share-of-t .ensures))
+loop-again c = search needs
 
 returns : tie.Need-returns Inv-loop μ-loop
-returns c =
-    let t = c .before in let s = t .before .before .before .before .before in let e : t .loop .p ≡ 256 = omega arith in
-    summed (s .args .t2) (weighed t) (rw e at (t .loop .inv .2)) (omega arith)
-    ∙ rw (t .before .before .before .unknowns-of .ensures, t .before .before .coordinates-of .ensures, t .before .corrections-of .ensures) (T-in (s .pre))
+returns c = search needs
 
 pub t-of-spec : {M : Type 1} → statement M
 t-of-spec =
@@ -74,8 +58,7 @@ t-of-spec =
     coordinates-of-requires
     corrections-of-requires
     loop-holds
-    mul-e
-    array-copy-out-e
+    record-at-requires
     share-of-t-requires
     add-t
     add-p
