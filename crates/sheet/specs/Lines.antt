@@ -10,7 +10,7 @@ use Rattle.integers.specs.Sums.{sumN, sumN-suc, sumN-ext, sumN-first}
 use Rattle.lists.specs.Pasted.{pasted, pasted-none, pasted-then}
 use Rattle.words.specs.Concat.{concatBelow, concatBelow-none, concatBelow-+1, length-concatBelow, concatBelow-ext}
 use Rattle.network.specs.Stations.{unknownCount, coordinate, coordinates}
-use Rattle.network.specs.Records.{acts, fromOf, toOf, joins, recordAt, observations, actsOf, isEmpty}
+use Rattle.network.specs.Records.{acts, fromOf, toOf, recordAt, observations, actsOf, isEmpty}
 use Rattle.network.specs.declared.Station.{Station}
 use Rattle.network.specs.declared.Place.{Place}
 use Rattle.network.specs.declared.Record.{Record}
@@ -66,6 +66,13 @@ unfolding lineOf sevenWords threeWords wordsOf isEmpty observations
 line-length Empty p v w = refl
 line-length (baseline b) p v w = refl
 line-length (height h) p v w = refl
+
+-- a record that observes more than one component observes three
+pub three-observed : (r : Record) → (observations r ≡ 0 → ⊥) → (observations r ≡ 1 → ⊥) → observations r ≡ 3
+unfolding observations
+three-observed Empty f g = absurd (f refl)
+three-observed (baseline b) f g = refl
+three-observed (height h) f g = absurd (g refl)
 
 -- ════ the line of a station
 module _ (coordinate corrections : List ℤ) (numbers : List ℕ) (unknowns m : List ℤ) (n : ℕ) where

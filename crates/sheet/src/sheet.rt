@@ -39,14 +39,7 @@ fn put_stations(sheet: &mut [i64], from: usize, net: Network, x: &[i64], m: &[i6
 }
 
 // The records' lines, stored from index `from` on.
-fn put_records(
-    sheet: &mut [i64],
-    from: usize,
-    net: Network,
-    places: &[i64],
-    x: &[i64],
-    m: &[i64],
-)
+fn put_records(sheet: &mut [i64], from: usize, net: Network, places: &[i64], x: &[i64], m: &[i64])
     requires { ⌜ (placesLength ≤ length (now places)) × Solved net (placesIn (now places)) (now x) × Inverse net (now m) × (from + wordCount (placesIn (now places)) ≤ length (now sheet)) ⌝ }
     ensures { λ _. ⌜ now (sheet .exit) ≡ pasted (now (sheet .entry)) from (recordLines (net .stations) (now (x .entry)) (now (m .entry)) (placesIn (now (places .entry))) 256) ⌝ }
 {

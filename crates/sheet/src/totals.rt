@@ -126,7 +126,12 @@ fn weighted_squares(v: [i64; 3], w: [i64; 9]) -> i64
 }
 
 // What a record adds to T.
-fn share_of_t(unknown: &[i64; Unit::COMPONENTS], coordinate: &[i64; Unit::COMPONENTS], correction: &[i64; Unit::COMPONENTS], r: Record) -> i64
+fn share_of_t(
+    unknown: &[i64; Unit::COMPONENTS],
+    coordinate: &[i64; Unit::COMPONENTS],
+    correction: &[i64; Unit::COMPONENTS],
+    r: Record,
+) -> i64
     requires { ⌜ Weighed (now coordinate) (now correction) r ⌝ }
     ensures { λ s. ⌜ s ≡ shareTIn (now (unknown .entry)) (now (coordinate .entry)) (now (correction .entry)) r ⌝ }
 {

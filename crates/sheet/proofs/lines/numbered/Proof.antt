@@ -1,3 +1,4 @@
+-- The number is small, so the cast keeps it. Assumes nothing.
 use borrow.Author.Needs.{needs}
 use native.Mathlib.Omega.{arith}
 use Prim.Native.Nat.{_+_, _≤_}

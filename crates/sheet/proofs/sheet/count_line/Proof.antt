@@ -1,3 +1,4 @@
+-- Both counts are small, so the casts keep them. Assumes nothing.
 use borrow.Author.Needs.{needs}
 use mathlib.Core.Path.{refl, ap₂}
 use mathlib.Core.List.{_∷_}

@@ -1,9 +1,10 @@
+-- The words are read back from their bits; the third is what the two calls ensure. Assumes nothing.
 use borrow.Author.Needs.{needs, sfits-of}
 use mathlib.Core.Path.{refl, ap, ap₂, _∙_}
 use mathlib.Core.List.{_∷_}
 use mir.Syntax.{w64}
 use mir.ValLaws.{toZ-ofZ}
-use Rattle.residuals.specs.Verdicts.{verdictWord, globalVerdict}
+use Rattle.residuals.specs.Verdicts.{verdictWord}
 use Rattle.sheet.proofs.sheet.global_line.Statement.{statement}
 use Rattle.sheet.proofs.sheet.global_line.Tie as tie
 

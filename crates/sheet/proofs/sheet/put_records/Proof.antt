@@ -1,23 +1,53 @@
+-- The loop has stored the lines of the places passed (`Put`), over the tables of components; at the end they are the sheet's (`records-in`). Assumes nothing.
 use borrow.Author.Needs.{needs}
+use native.Mathlib.Omega.{arith}
+use Prim.Native.Nat.{ℕ, _+_, _-_, _≤_, _<_}
+use mathlib.Core.Path.{_≡_, refl, sym, ap, _∙_, subst}
+use mathlib.Core.List.{List}
+use lib.ListN.{length}
+use lib.IntN.{ℤ}
+use Rattle.lists.specs.Pasted.{pasted}
+use Rattle.network.specs.Records.{recordAt, observations}
+use Rattle.network.specs.Places.{placesIn}
+use Rattle.network.specs.declared.Place.{Place}
+use Rattle.network.specs.declared.Record.{Record}
+use Rattle.residuals.specs.Components.{Closes, residualsIn}
+use Rattle.residuals.specs.Ranges.{some-unknowns, lookup, sound-at, closes-at}
+use Rattle.residuals.specs.Weights.{weights-by-rules}
+use Rattle.sheet.specs.Sheet.{wordsOf}
+use Rattle.sheet.specs.Totals.{residuals-within}
+use Rattle.sheet.specs.Lines.{lineOf, recordWordsIn, record-length, recordLinesIn, records-none, records-more, records-room, records-in, Put, put-none, put-more}
 use Rattle.sheet.proofs.sheet.put_records.Statement.{statement}
 use Rattle.sheet.proofs.sheet.put_records.Tie as tie
-use Rattle.sheet.proofs.sheet.put_records.Reads as reads
-use Rattle.sheet.proofs.sheet.put_records.Lts as lts
-use Rattle.network.proofs.record_at.Reads as record-at-reads
-use Rattle.network.proofs.coordinates_of.Reads as coordinates-of-reads
-use Rattle.network.proofs.number_of.Reads as number-of-reads
-use Rattle.network.proofs.numbers_of.Reads as numbers-of-reads
-use Rattle.network.proofs.unknowns_of.Reads as unknowns-of-reads
-use Rattle.residuals.proofs.corrections_of.Reads as corrections-of-reads
-use Rattle.residuals.proofs.residuals_of.Reads as residuals-of-reads
-use Rattle.residuals.proofs.verdicts_of.Reads as verdicts-of-reads
-use Rattle.sheet.proofs.lines.put_record.Reads as put-record-reads
 
 abbrev Inv-loop : tie.InvT-loop
-Inv-loop sheet₀ from places x m n number unknown coordinate correction at₀ p₀ sheet at p = ?
+Inv-loop sheet₀ from places x m n number unknown coordinate correction at₀ p₀ sheet at p =
+    (p ≤ 256) × (length sheet ≡ length sheet₀) × Put sheet₀ from (recordLinesIn coordinate correction number unknown m n (placesIn places) p) sheet at
 
 abbrev μ-loop : tie.MeasureT-loop
-μ-loop sheet₀ from places x m n number unknown coordinate correction at₀ p₀ sheet at p = ?
+μ-loop sheet₀ from places x m n number unknown coordinate correction at₀ p₀ sheet at p = 256 - p
+
+abbrev placesOf : tie.At-loop Inv-loop μ-loop → List Place
+placesOf t = placesIn (t .before .before .before .before .before .before .before .args .places .now)
+
+-- the record that a turn looks at, and its line over the loop's tables
+abbrev now-at : tie.At-loop Inv-loop μ-loop → Record
+now-at t = recordAt (placesOf t) (t .loop .p)
+
+abbrev lineAt : tie.At-loop Inv-loop μ-loop → Record → List ℤ
+lineAt t r = recordWordsIn (t .before .before .before .before .numbers-of .result) (t .before .before .before .unknowns-of .result) (t .before .before .before .before .before .before .before .args .m .now) (t .before .before .before .before .before .number-of .result) (t .loop .p) r (residualsIn (t .before .before .coordinates-of .result) (t .before .corrections-of .result) r)
+
+-- the tables in the loop are those of the stations
+closes : (t : tie.At-loop Inv-loop μ-loop) → t .loop .p < 256 → Closes (t .before .before .coordinates-of .result) (t .before .corrections-of .result) (now-at t)
+closes t h = rw (t .before .before .coordinates-of .ensures, t .before .corrections-of .ensures) (closes-at (t .before .before .before .before .before .before .before .pre .1) (t .loop .p) h)
+
+-- what a turn stores is that line
+line : (c : tie.After-verdicts-of Inv-loop μ-loop)
+    → lineOf (observations (c .before .before .before .before .before .before .record-at .result)) (c .before .before .before .before .before .before .before .before .loop .p) (c .before .before .before .residuals-of .result) (c .verdicts-of .result) ≡ lineAt (c .before .before .before .before .before .before .before .before) (now-at (c .before .before .before .before .before .before .before .before))
+unfolding recordWordsIn
+line c =
+    let v = c .before .before .before .residuals-of in let a = c .before .before .before .before .before .before .record-at in let t = c .before .before .before .before .before .before .before .before in
+    rw (c .verdicts-of .ensures, v .ensures, a .ensures)
 
 number-of-requires : tie.Need-number-of-requires Inv-loop μ-loop
 number-of-requires c κs = search needs
@@ -32,22 +62,43 @@ coordinates-of-requires : tie.Need-coordinates-of-requires Inv-loop μ-loop
 coordinates-of-requires c κs = search needs
 
 corrections-of-requires : tie.Need-corrections-of-requires Inv-loop μ-loop
-corrections-of-requires c κs = search needs
+corrections-of-requires c κs = let s = c .before .before .before .before .before in (some-unknowns (s .pre .1 .moved), s .pre .1 .moved .corrections)
 
 loop-holds : tie.Need-loop-holds Inv-loop μ-loop
-loop-holds c = search needs
+loop-holds c =
+    let s = c .before .before .before .before .before .before in (
+      omega arith,
+      refl,
+      subst (λ (w : List ℤ). Put (s .args .sheet .now) (s .args .from) w (s .args .sheet .now) (s .args .from))
+          (sym (records-none (c .before .coordinates-of .result) (c .corrections-of .result) (c .before .before .before .numbers-of .result) (c .before .before .unknowns-of .result) (s .args .m .now) (c .before .before .before .before .number-of .result) (placesIn (s .args .places .now))))
+          (put-none (s .args .sheet .now) (s .args .from)),
+    )
 
 record-at-requires : tie.Need-record-at-requires Inv-loop μ-loop
-record-at-requires c κs = search needs
+record-at-requires c κs = (c .before .before .before .before .before .before .before .before .pre .0, c .loop-test .taken)
 
 residuals-of-requires : tie.Need-residuals-of-requires Inv-loop μ-loop
-residuals-of-requires c κs = search needs
+residuals-of-requires c κs = let a = c .before .before in let i = a .before in rw (a .record-at .ensures) (closes (i .before) (i .loop-test .taken))
 
 verdicts-of-requires : tie.Need-verdicts-of-requires Inv-loop μ-loop
-verdicts-of-requires c κs = search needs
+verdicts-of-requires c κs =
+    let v = c .before .before in let a = v .before .before .before in let i = a .before in let t = i .before in let s = t .before .before .before .before .before .before .before in
+    let h = i .loop-test .taken in let g = sound-at (s .pre .1) (t .loop .p) h in
+    rw (v .residuals-of .ensures, a .record-at .ensures) (
+      g .from,
+      g .to,
+      weights-by-rules (s .args .net) (now-at t) (s .pre .1 .records (t .loop .p) h),
+      residuals-within (closes t h),
+      rw (t .before .before .before .before .numbers-of .ensures, t .before .before .before .unknowns-of .ensures, t .before .before .before .before .before .number-of .ensures) (lookup (s .pre .1 .moved) (s .args .m .now) (s .pre .2)),
+    )
 
 put-record-requires : tie.Need-put-record-requires Inv-loop μ-loop
-put-record-requires c κs = search needs
+put-record-requires c κs =
+    let a = c .before .before .before .before .before .before .before in let i = a .before in let t = i .before in let s = t .before .before .before .before .before .before .before in let h = i .loop-test .taken in (
+      subst (λ (r : Record). t .loop .at + wordsOf r ≤ length (t .loop .sheet)) (sym (a .record-at .ensures))
+          (records-room (t .before .before .coordinates-of .result) (t .before .corrections-of .result) (t .before .before .before .before .numbers-of .result) (t .before .before .before .unknowns-of .result) (t .before .before .before .before .before .before .before .args .m .now) (t .before .before .before .before .before .number-of .result) (placesOf t) (s .args .from) (t .loop .at) (length (t .loop .sheet)) (t .loop .p) (rw (t .loop .inv .1) (s .pre .3)) (t .loop .inv .2 .next) h),
+      h,
+    )
 
 add-p : tie.Need-add-p Inv-loop μ-loop
 add-p c = search needs
@@ -56,13 +107,26 @@ loop-less : tie.Need-loop-less Inv-loop μ-loop
 loop-less c = search needs
 
 loop-again : tie.Need-loop-again Inv-loop μ-loop
-loop-again c = search needs
+loop-again c =
+    let q = c .before .put-record in let w = c .before .before .before in let a = w .before .before .before .before .before .before in let i = a .before in let t = i .before in let s = t .before .before .before .before .before .before .before in (
+      omega (arith, i .loop-test .taken),
+      q .kept .0 ∙ t .loop .inv .1,
+      subst (λ (l : List ℤ). Put (s .args .sheet .now) (s .args .from) l (q .last .0) (q .result)) (sym (records-more (t .before .before .coordinates-of .result) (t .before .corrections-of .result) (t .before .before .before .before .numbers-of .result) (t .before .before .before .unknowns-of .result) (t .before .before .before .before .before .before .before .args .m .now) (t .before .before .before .before .before .number-of .result) (placesOf t) (t .loop .p)))
+          (put-more (t .loop .inv .2) (lineAt t (now-at t)) (q .last .0) (q .result) (q .ensures .1 ∙ ap (pasted (t .loop .sheet) (t .loop .at)) (line w))
+          (q .ensures .0 ∙ ap (λ (r : Record). t .loop .at + wordsOf r) (a .record-at .ensures) ∙ ap (λ (k : ℕ). t .loop .at + k)
+          (sym (record-length (t .before .before .before .before .numbers-of .result) (t .before .before .before .unknowns-of .result) (t .before .before .before .before .before .before .before .args .m .now) (t .before .before .before .before .before .number-of .result) (t .loop .p) (now-at t) (residualsIn (t .before .before .coordinates-of .result) (t .before .corrections-of .result) (now-at t)))))),
+    )
 
 same-length : tie.Need-same-length Inv-loop μ-loop
 same-length c = search needs
 
 returns : tie.Need-returns Inv-loop μ-loop
-returns c = search needs
+returns c =
+    let t = c .before in let s = t .before .before .before .before .before .before .before in let e : t .loop .p ≡ 256 = omega (arith, c .loop-test .left, t .loop .inv .0) in
+    t .loop .inv .2 .holds
+    ∙ ap (pasted (s .args .sheet .now) (s .args .from))
+    (rw (t .before .before .coordinates-of .ensures, t .before .corrections-of .ensures, t .before .before .before .before .numbers-of .ensures, t .before .before .before .unknowns-of .ensures, t .before .before .before .before .before .number-of .ensures, e)
+    (records-in (s .args .net .stations) (s .args .x .now) (s .args .m .now) (placesOf t) (λ p h. let g = sound-at (s .pre .1) p h in (g .from, g .to))))
 
 pub put-records-spec : {M : Type 1} → statement M
 put-records-spec =

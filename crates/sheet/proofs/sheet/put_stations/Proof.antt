@@ -1,23 +1,44 @@
+-- The loop has stored the lines of the stations passed (`Put`), over the tables of components; at the end they are the sheet's (`stations-in`). Assumes nothing.
 use borrow.Author.Needs.{needs}
+use native.Mathlib.Omega.{arith}
+use Prim.Native.Nat.{ℕ, _+_, _*_, _-_, _≤_, _<_}
+use mathlib.Core.Path.{_≡_, refl, sym, ap, ap₂, _∙_, subst}
+use mathlib.Core.List.{List}
+use lib.ListN.{length}
+use lib.IntN.{ℤ}
+use Rattle.lists.specs.Pasted.{pasted}
+use Rattle.network.specs.RuleLaws.{sound-stations, network-few}
+use Rattle.residuals.specs.Ranges.{some-unknowns, corrections-within, lookup}
+use Rattle.sheet.specs.Lines.{sevenWords, stationWordsIn, station-length, stationLinesIn, stations-none, stations-more, stations-length, stations-in, Put, put-none, put-more}
 use Rattle.sheet.proofs.sheet.put_stations.Statement.{statement}
 use Rattle.sheet.proofs.sheet.put_stations.Tie as tie
-use Rattle.sheet.proofs.sheet.put_stations.Reads as reads
-use Rattle.sheet.proofs.sheet.put_stations.Lts as lts
-use Rattle.network.proofs.coordinates_of.Reads as coordinates-of-reads
-use Rattle.network.proofs.number_of.Reads as number-of-reads
-use Rattle.network.proofs.numbers_of.Reads as numbers-of-reads
-use Rattle.network.proofs.unknowns_of.Reads as unknowns-of-reads
-use Rattle.residuals.proofs.corrections_of.Reads as corrections-of-reads
-use Rattle.residuals.proofs.position_of.Reads as position-of-reads
-use Rattle.residuals.proofs.variances_of.Reads as variances-of-reads
-use Rattle.sheet.proofs.lines.put_line.Reads as put-line-reads
-use Rattle.sheet.proofs.lines.seven_words.Reads as seven-words-reads
 
 abbrev Inv-loop : tie.InvT-loop
-Inv-loop sheet₀ from x m count n number unknown coordinate correction at₀ s₀ sheet at s = ?
+Inv-loop sheet₀ from x m count n number unknown coordinate correction at₀ s₀ sheet at s =
+    (s ≤ count) × (length sheet ≡ length sheet₀) × Put sheet₀ from (stationLinesIn coordinate correction number unknown m n s) sheet at
 
 abbrev μ-loop : tie.MeasureT-loop
-μ-loop sheet₀ from x m count n number unknown coordinate correction at₀ s₀ sheet at s = ?
+μ-loop sheet₀ from x m count n number unknown coordinate correction at₀ s₀ sheet at s = count - s
+
+-- the line of station s, and the first s lines, over the loop's tables
+abbrev lineAt : tie.At-loop Inv-loop μ-loop → ℕ → List ℤ
+lineAt t = stationWordsIn (t .before .before .coordinates-of .result) (t .before .corrections-of .result) (t .before .before .before .before .numbers-of .result) (t .before .before .before .unknowns-of .result) (t .before .before .before .before .before .before .before .args .m .now) (t .before .before .before .before .before .number-of .result)
+
+abbrev linesAt : tie.At-loop Inv-loop μ-loop → ℕ → List ℤ
+linesAt t = stationLinesIn (t .before .before .coordinates-of .result) (t .before .corrections-of .result) (t .before .before .before .before .numbers-of .result) (t .before .before .before .unknowns-of .result) (t .before .before .before .before .before .before .before .args .m .now) (t .before .before .before .before .before .number-of .result)
+
+long : (t : tie.At-loop Inv-loop μ-loop) → length (linesAt t (t .loop .s)) ≡ 7 * t .loop .s
+long t = stations-length (t .before .before .coordinates-of .result) (t .before .corrections-of .result) (t .before .before .before .before .numbers-of .result) (t .before .before .before .unknowns-of .result) (t .before .before .before .before .before .before .before .args .m .now) (t .before .before .before .before .before .number-of .result) (t .loop .s)
+
+line : (c : tie.After-seven-words Inv-loop μ-loop) → c .seven-words .result ≡ lineAt (c .before .before .before .before .before .before .before .before) (c .before .before .before .before .before .before .before .before .loop .s)
+unfolding stationWordsIn
+line c = c .seven-words .ensures ∙ ap₂ (sevenWords (c .before .before .before .before .before .before .before .before .loop .s)) (c .before .before .before .before .position-of .ensures) (c .before .variances-of .ensures)
+
+line-long : (c : tie.After-seven-words Inv-loop μ-loop) → length (c .seven-words .result) ≡ 7
+line-long c = let t = c .before .before .before .before .before .before .before .before in ap length (line c) ∙ station-length (t .before .before .coordinates-of .result) (t .before .corrections-of .result) (t .before .before .before .before .numbers-of .result) (t .before .before .before .unknowns-of .result) (t .before .before .before .before .before .before .before .args .m .now) (t .before .before .before .before .before .number-of .result) (t .loop .s)
+
+few : (c : tie.In-loop Inv-loop μ-loop) → c .before .loop .s < 32
+few c = let s = c .before .before .before .before .before .before .before .before in omega (arith, c .loop-test .taken, network-few (s .args .net) (s .pre .0 .network))
 
 number-of-requires : tie.Need-number-of-requires Inv-loop μ-loop
 number-of-requires c κs = search needs
@@ -32,40 +53,67 @@ coordinates-of-requires : tie.Need-coordinates-of-requires Inv-loop μ-loop
 coordinates-of-requires c κs = search needs
 
 corrections-of-requires : tie.Need-corrections-of-requires Inv-loop μ-loop
-corrections-of-requires c κs = search needs
+corrections-of-requires c κs = let s = c .before .before .before .before .before in (some-unknowns (s .pre .0), s .pre .0 .corrections)
 
 loop-holds : tie.Need-loop-holds Inv-loop μ-loop
-loop-holds c = search needs
+loop-holds c =
+    let s = c .before .before .before .before .before .before in (
+      omega arith,
+      refl,
+      subst (λ (w : List ℤ). Put (s .args .sheet .now) (s .args .from) w (s .args .sheet .now) (s .args .from))
+          (sym (stations-none (c .before .coordinates-of .result) (c .corrections-of .result) (c .before .before .before .numbers-of .result) (c .before .before .unknowns-of .result) (s .args .m .now) (c .before .before .before .before .number-of .result)))
+          (put-none (s .args .sheet .now) (s .args .from)),
+    )
 
 position-of-requires : tie.Need-position-of-requires Inv-loop μ-loop
-position-of-requires c κs = search needs
+position-of-requires c κs =
+    let i = c .before .before in let t = i .before in let s = t .before .before .before .before .before .before .before in (
+      few i,
+      rw (t .before .before .coordinates-of .ensures) (sound-stations (s .args .net) (s .pre .0 .network) .provisional),
+      rw (t .before .corrections-of .ensures) (corrections-within (s .pre .0)),
+    )
 
 variances-of-requires : tie.Need-variances-of-requires Inv-loop μ-loop
-variances-of-requires c κs = search needs
+variances-of-requires c κs =
+    let i = c .before .before .before .before .before in let t = i .before in let s = t .before .before .before .before .before .before .before in
+    (few i, rw (t .before .before .before .before .numbers-of .ensures, t .before .before .before .unknowns-of .ensures, t .before .before .before .before .before .number-of .ensures) (lookup (s .pre .0) (s .args .m .now) (s .pre .1)))
 
 seven-words-requires : tie.Need-seven-words-requires Inv-loop μ-loop
-seven-words-requires c κs = search needs
+seven-words-requires c κs = omega (arith, few (c .before .before .before .before .before .before))
 
 slice-aggregate-put-line : tie.Need-slice-aggregate-put-line Inv-loop μ-loop
 slice-aggregate-put-line c = search needs
 
 put-line-requires : tie.Need-put-line-requires Inv-loop μ-loop
-put-line-requires c κs = search needs
+put-line-requires c κs =
+    let k = c .before .before in let i = k .before .before .before .before .before .before .before in let t = i .before in let s = t .before .before .before .before .before .before .before in
+    omega (arith, line-long k, long t, t .loop .inv .2 .next, t .loop .inv .1, s .pre .2, i .loop-test .taken)
 
 add-s : tie.Need-add-s Inv-loop μ-loop
-add-s c = search needs
+add-s c = omega (arith, few (c .before .before .before .before .before .before .before .before .before .before .before))
 
 loop-less : tie.Need-loop-less Inv-loop μ-loop
 loop-less c = search needs
 
 loop-again : tie.Need-loop-again Inv-loop μ-loop
-loop-again c = search needs
+loop-again c =
+    let q = c .before .put-line in let k = c .before .before .before .before in let i = k .before .before .before .before .before .before .before in let t = i .before in let s = t .before .before .before .before .before .before .before in (
+      omega (arith, i .loop-test .taken),
+      q .kept .0 ∙ t .loop .inv .1,
+      subst (λ (w : List ℤ). Put (s .args .sheet .now) (s .args .from) w (q .last .0) (q .result)) (sym (stations-more (t .before .before .coordinates-of .result) (t .before .corrections-of .result) (t .before .before .before .before .numbers-of .result) (t .before .before .before .unknowns-of .result) (t .before .before .before .before .before .before .before .args .m .now) (t .before .before .before .before .before .number-of .result) (t .loop .s)))
+          (put-more (t .loop .inv .2) (lineAt t (t .loop .s)) (q .last .0) (q .result)
+          (q .ensures .1 ∙ ap (pasted (t .loop .sheet) (t .loop .at)) (line k)) (q .ensures .0 ∙ ap (λ (l : List ℤ). t .loop .at + length l) (line k))),
+    )
 
 same-length : tie.Need-same-length Inv-loop μ-loop
 same-length c = search needs
 
 returns : tie.Need-returns Inv-loop μ-loop
-returns c = search needs
+returns c =
+    let t = c .before in let s = t .before .before .before .before .before .before .before in let e : t .loop .s ≡ s .args .net .count = omega (arith, c .loop-test .left, t .loop .inv .0) in
+    t .loop .inv .2 .holds
+    ∙ ap (pasted (s .args .sheet .now) (s .args .from))
+    (rw (t .before .before .coordinates-of .ensures, t .before .corrections-of .ensures, t .before .before .before .before .numbers-of .ensures, t .before .before .before .unknowns-of .ensures, t .before .before .before .before .before .number-of .ensures, e) (stations-in (s .args .net .stations) (s .args .x .now) (s .args .m .now) (s .args .net .count) (network-few (s .args .net) (s .pre .0 .network))))
 
 pub put-stations-spec : {M : Type 1} → statement M
 put-stations-spec =

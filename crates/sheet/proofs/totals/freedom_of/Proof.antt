@@ -1,3 +1,4 @@
+-- Both numbers are small, so the casts and the difference fit. Assumes nothing.
 use borrow.Author.Needs.{needs}
 use Prim.Native.Nat.{_≤_}
 use mathlib.Core.Path.{_≡_}

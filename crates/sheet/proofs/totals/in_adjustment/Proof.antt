@@ -1,3 +1,4 @@
+-- The tests read the table of unknowns at the U component of each end. Assumes nothing.
 use borrow.Author.Needs.{needs}
 use Prim.Native.Nat.{ℕ, _+_, _*_}
 use mathlib.Core.Path.{ap, ap₂, _∙_}

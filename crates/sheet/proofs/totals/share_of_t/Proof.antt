@@ -1,3 +1,4 @@
+-- Where the record is in the adjustment, the weighted squares of its residuals; else 0. Assumes nothing.
 use borrow.Author.Needs.{needs, sfits-of}
 use mathlib.Core.Path.{sym, ap, _∙_}
 use mathlib.Core.Bool.{Bool, cond}

@@ -1,3 +1,4 @@
+-- Residuals and weights are small, so the products fit; the sum of three is written out. Assumes nothing.
 use borrow.Author.Needs.{needs}
 use native.Mathlib.Nat.{add-zero}
 use Prim.Native.Nat.{_+_, _*_, _≤_}
