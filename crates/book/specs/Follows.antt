@@ -17,7 +17,7 @@ use Rattle.book.specs.declared.Book.{Book}
 use Rattle.book.specs.declared.Call.{Call}
 use Rattle.book.specs.declared.Call.the-variants as call
 use Rattle.book.specs.Calls.{placeOf, callNo, changed, puts}
-use Rattle.book.specs.Ledger.{Edit, Ledger, nothing, standing, rest, entered, accepted, ledgerSays, ledgerNext, ledgerNormals}
+use Rattle.book.specs.Ledger.{StandingEdit, Ledger, nothing, standing, rest, entered, accepted, ledgerSays, ledgerNext, ledgerNormals}
 use Rattle.book.specs.Journal.{journalSize, oneMore, entriesBefore, reversals, latest, popped}
 use Rattle.book.specs.Book.{edited, undone, bookAccepts, bookSays, bookNext, openedBook}
 use Rattle.book.specs.PlaceLaws.{changed-same, changed-other, record-set, is-placesOf}
@@ -28,30 +28,30 @@ use Rattle.book.specs.SoundLaws.{Enters, enters-edit, latest-undoes, sou
 use Rattle.book.specs.Opened.{empty-at, sound-opened}
 
 -- ════ the journal against the standing edits: of each of the latest edits it has the place, and what the place held before
-pub data Remembers : List Reversal → List Edit → Type 0 where
-  none : {l : List Edit} → Remembers [] l
-  more : {h : List Reversal} {l : List Edit} (p : ℕ) (r : Record) → Remembers h l → Remembers (record { place = p; prior = standing l p } ∷ h) (record { place = p; puts = r } ∷ l)
+pub data Remembers : List Reversal → List StandingEdit → Type 0 where
+  none : {l : List StandingEdit} → Remembers [] l
+  more : {h : List Reversal} {l : List StandingEdit} (p : ℕ) (r : Record) → Remembers h l → Remembers (record { place = p; prior = standing l p } ∷ h) (record { place = p; puts = r } ∷ l)
 
-remembers-take : (n : ℕ) {h : List Reversal} {l : List Edit} → Remembers h l → Remembers (take n h) l
+remembers-take : (n : ℕ) {h : List Reversal} {l : List StandingEdit} → Remembers h l → Remembers (take n h) l
 remembers-take zero m = none
 remembers-take (suc n) none = none
 remembers-take (suc n) (more p r m) = more p r (remembers-take n m)
 
-standing-same : (e : Edit) (l : List Edit) (p : ℕ) → p ≡ e .place → standing (e ∷ l) p ≡ e .puts
+standing-same : (e : StandingEdit) (l : List StandingEdit) (p : ℕ) → p ≡ e .place → standing (e ∷ l) p ≡ e .puts
 unfolding standing
 standing-same e l p w = rw (eq-eqb p (e .place) w)
 
-standing-other : (e : Edit) (l : List Edit) (p : ℕ) → (p ≡ e .place → ⊥) → standing (e ∷ l) p ≡ standing l p
+standing-other : (e : StandingEdit) (l : List StandingEdit) (p : ℕ) → (p ≡ e .place → ⊥) → standing (e ∷ l) p ≡ standing l p
 unfolding standing
 standing-other e l p w = rw (ne-eqb p (e .place) w)
 
 -- what taking the last edit off the list does to the records
-record TakenBack (u : Reversal) (h : List Reversal) (l : List Edit) : Type 0 where
+record TakenBack (u : Reversal) (h : List Reversal) (l : List StandingEdit) : Type 0 where
   prior : u .prior ≡ standing (rest l) (u .place)
   others : (p : ℕ) → (p ≡ u .place → ⊥) → standing l p ≡ standing (rest l) p
   remembers : Remembers h (rest l)
 
-taken-back : {u : Reversal} {h : List Reversal} {l : List Edit} → Remembers (u ∷ h) l → TakenBack u h l
+taken-back : {u : Reversal} {h : List Reversal} {l : List StandingEdit} → Remembers (u ∷ h) l → TakenBack u h l
 taken-back (more {h} {l} p r m) = record { prior = refl; others = λ k w. standing-other (record { place = p; puts = r }) l k w; remembers = m }
 
 -- ════ a book follows a ledger

@@ -13,21 +13,21 @@ use Rattle.book.specs.declared.Call.{Call}
 use Rattle.book.specs.declared.Call.the-variants as call
 use Rattle.book.specs.Calls.{historySize, placeOf, placesOf, callNo, puts, unless}
 
--- an edit: a place, counted from 0, and what it puts there: "the record that an add or replacement gives, an empty place for a strike"
-pub record Edit : Type 0 where
+-- a standing edit: a place, counted from 0, and what it puts there: "the record that an add or replacement gives, an empty place for a strike"
+pub record StandingEdit : Type 0 where
   pub place : ℕ
   pub puts : Record
 
 -- "It has a list of standing edits, empty at first, and a count, 0 at first, of those that can still be taken back." The list is kept with its end in front
 pub record Ledger : Type 0 where
-  pub edits : List Edit
+  pub edits : List StandingEdit
   pub count : ℕ
 
 abbrev pub nothing : Ledger
 nothing = record { edits = []; count = 0 }
 
 -- "Its record at a place is what the last standing edit of that place puts there … Where no standing edit names the place, it is empty."
-unfoldable pub standing : List Edit → ℕ → Record
+unfoldable pub standing : List StandingEdit → ℕ → Record
 standing [] p = Empty
 standing (e ∷ l) p = cond (eqb p (e .place)) (e .puts) (standing l p)
 
@@ -39,7 +39,7 @@ ledgerNormals net l = normalsOf (net .stations) (placesOf (standing (l .edits)))
 abbrev pub entered : Ledger → ℕ → Record → Ledger
 entered l p r = record { edits = record { place = p; puts = r } ∷ l .edits; count = min (l .count + 1) historySize }
 
-abbrev pub rest : List Edit → List Edit
+abbrev pub rest : List StandingEdit → List StandingEdit
 rest [] = []
 rest (e ∷ l) = l
 
