@@ -1,5 +1,4 @@
 -- The walk back through the journal looks at no more of a place than whether it is empty. Assumes nothing.
-use Prim.Native.Nat.{ℕ}
 use mathlib.Core.Bool.{Bool, true, false, not, _&&_}
 use mathlib.Core.List.{List, [], _∷_}
 use lib.Dec.{ltb}

@@ -1,5 +1,5 @@
 -- `can_undo`: the walk over which places are empty gives what the walk over the places would (`by-empties`). Assumes nothing.
-use mathlib.Core.Path.{_≡_, ap, _∙_}
+use mathlib.Core.Path.{ap, _∙_}
 use mathlib.Core.Bool.{Bool}
 use mathlib.Core.List.{List}
 use denote.Ref.{now}

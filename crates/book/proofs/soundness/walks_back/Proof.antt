@@ -1,7 +1,6 @@
 -- `walks_back`, the latest reversal first. The loop's invariant: what is left, over the places that are empty by now, can be undone just where all could from the start. Assumes nothing.
 use Prim.Native.Nat.{ℕ, _-_, _<_}
 use mathlib.Core.Path.{_≡_, refl, sym, ap, _∙_}
-use mathlib.Core.Bool.{Bool, false}
 use native.Mathlib.Omega.{arith}
 use borrow.Author.Needs.{needs}
 use borrow.Author.Tests.{not-true, not-false}
