@@ -17,6 +17,9 @@ use Rattle.words.specs.SignedLaws.{eqZ-true, eq-eqZ}
 use Rattle.words.specs.Runs.{wordsAt, putWords}
 use Rattle.words.specs.RunLaws.{length-words, length-run, run-out, run-back, run-kept}
 use Rattle.lists.specs.All.{all-at, all-by}
+use Rattle.network.specs.Stations.{coordinatesFit}
+use Rattle.network.specs.RuleLaws.{network-few, network-coordinates}
+use Rattle.network.specs.declared.Network.{Network}
 use Rattle.book.specs.declared.Book.{Book}
 use Rattle.book.specs.Book.{sound}
 use Rattle.book.specs.Sound.{Sound, Sized, sound-parts, parts-sound}
@@ -52,6 +55,12 @@ module _ (s : List ℕ) where
 
     pub fits-sound : Sound (bookOf s)
     fits-sound = sound-parts (bookOf s) read-sized (parts .2)
+
+    -- of the station list
+    pub fits-network : (net : Network) → net ≡ bookOf s .network → (net .count ≤ 32) × (coordinatesFit (net .stations) ≡ true)
+    fits-network net is =
+        let g = fits-sound .network in
+        subst (λ (x : Network). (x .count ≤ 32) × (coordinatesFit (x .stations) ≡ true)) (sym is) (network-few _ g, network-coordinates _ g)
 
     -- bytes that pass are those that writing gives
     pub fits-words : wordsOf s ≡ bookWords (bookOf s)
