@@ -1,6 +1,5 @@
 -- Laws that the proofs of several functions cite.
 mod Answers
-mod Changed
 mod Lent
 mod Offered
 mod Openings

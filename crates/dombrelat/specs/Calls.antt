@@ -9,10 +9,10 @@ use Rattle.words.specs.Runs.{wordsAt}
 use Rattle.book.specs.declared.Book.{Book}
 use Rattle.book.specs.declared.Edited.{Edited}
 use Rattle.book.specs.declared.Call.{Call}
-use Rattle.book.specs.Calls.{unless}
 use Rattle.book.specs.Book.{opening, outcome}
-use Rattle.layout.specs.Bytes.{bookOf, putBook, bytesFit}
+use Rattle.layout.specs.Bytes.{bookOf, bytesFit}
 use Rattle.layout.specs.Layout.{bookBytes}
+use Rattle.lent_edits.specs.LentEdits.{bytesLeft}
 
 -- the answer of a call, and the lent bytes as it leaves them: those of the book, or of a slice that it reads into
 pub record Returned : Type 0 where
@@ -25,7 +25,7 @@ refused n s = record { answer = pos n; bytes = s }
 
 -- an answer with the book that is left: it is written where the call is not refused
 abbrev pub settled : List ℕ → Edited → Returned
-settled s e = record { answer = pos (e .refusal); bytes = unless (e .refusal) s (putBook s (e .book)) }
+settled s e = record { answer = pos (e .refusal); bytes = bytesLeft s e }
 
 -- a call on the book that the bytes hold; 25 before all others
 unfoldable pub through : List ℕ → (Book → Edited) → Returned

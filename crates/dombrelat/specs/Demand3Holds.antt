@@ -9,7 +9,6 @@ use borrow.Author.Tests.{leb-true}
 use lib.Dec.{leb, eqb}
 use lib.ListN.{length, getD, take}
 use lib.IntN.{ℤ, pos, natAbs}
-use Rattle.integers.specs.Tables.{length-tabulate}
 use Rattle.words.specs.Bools.{true-or-false}
 use Rattle.words.specs.Runs.{wordsAt}
 use Rattle.network.specs.Stations.{networkOf}
@@ -19,21 +18,16 @@ use Rattle.network.specs.declared.Network.{Network}
 use Rattle.book.specs.declared.Book.{Book}
 use Rattle.book.specs.declared.Edited.{Edited}
 use Rattle.book.specs.declared.Call.{Call}
-use Rattle.book.specs.declared.Call.the-variants.{Edit, Undo}
 use Rattle.book.specs.declared.Row.{Row}
 use Rattle.book.specs.declared.Row.the-variants.{Names}
 use Rattle.book.specs.Calls.{unless}
-use Rattle.book.specs.CallLaws.{unless-either}
-use Rattle.book.specs.Book.{openedBook, bookAccepts, bookSays, bookNext, outcome}
-use Rattle.book.specs.Sound.{Sound}
-use Rattle.book.specs.SoundLaws.{sound-next}
-use Rattle.book.specs.Opened.{sound-opened}
+use Rattle.book.specs.Book.{openedBook, bookSays, bookNext, outcome}
 use Rattle.book.specs.Rows.{rowNext, rowSays}
 use Rattle.book.specs.Run.{final, answers, Alike, run-answers, run-final}
 use Rattle.book.specs.Demand3Holds.{demanded}
 use Rattle.layout.specs.Bytes.{bookOf, putBook, bytesFit}
-use Rattle.layout.specs.CodecLaws.{read-stations, fits-room, fits-sound, writes-reads, writes-fit, writes-beyond}
 use Rattle.layout.specs.Layout.{bookBytes}
+use Rattle.lent_edits.specs.LeavesBook.{Holds, next-network, call-leaves, opened-holds}
 use Rattle.dombrelat.specs.Calls.{Returned, refused, settled, through, opens}
 use Rattle.dombrelat.specs.Demand3.{bytesNext, bytesSays, bytesAfter, bytesAnswers, Demand3}
 
@@ -53,16 +47,7 @@ rows-take zero cs = refl
 rows-take (suc k) [] = refl
 rows-take (suc k) (c ∷ cs) = ap (λ (l : List Row). Names c ∷ l) (rows-take k cs)
 
--- ════ an edit keeps the station list
-accepts-network : (b : Book) (c : Call) → bookAccepts b c .network ≡ b .network
-unfolding bookAccepts
-accepts-network b (Edit p c) = refl
-accepts-network b Undo = refl
-
-next-network : (b : Book) (c : Call) → bookNext b c .network ≡ b .network
-next-network b c = unless-either (λ (x : Book). x .network ≡ b .network) (bookSays b c) b (bookAccepts b c) refl (λ e. accepts-network b c)
-
--- ════ bytes hold a book, and are those of s₀ beyond it
+-- ════ a call through the book
 through-fits : (s : List ℕ) (f : Book → Edited) → bytesFit s ≡ true → through s f ≡ settled s (f (bookOf s))
 unfolding through
 through-fits s f e = ap (λ (t : Bool). cond t (settled s (f (bookOf s))) (refused 25 s)) e
@@ -71,40 +56,18 @@ through-unfit : (s : List ℕ) (f : Book → Edited) → bytesFit s ≡ false �
 unfolding through
 through-unfit s f e = ap (λ (t : Bool). cond t (settled s (f (bookOf s))) (refused 25 s)) e
 
+-- ════ bytes hold a book, and are those of s₀ beyond it
 module _ (s₀ : List ℕ) where
-  record Holds (s : List ℕ) (b : Book) : Type 0 where
-    reads : bookOf s ≡ b
-    fits : bytesFit s ≡ true
-    beyond : (j : ℕ) → bookBytes ≤ j → getD s j 0 ≡ getD s₀ j 0
-
-  -- what a call leaves: the bytes and the book as they were, or the next book written
-  leaves : (n : ℕ) (s : List ℕ) (b b′ : Book) → Holds s b → Sound (unless n b b′) → length (unless n b b′ .network .stations) ≡ 32
-      → Holds (unless n s (putBook s (unless n b b′))) (unless n b b′)
-  unfolding unless
-  leaves zero s b b′ h o l =
-      let room = fits-room s (h .fits) in
-      record {
-        reads = writes-reads s b′ o l room;
-        fits = writes-fit s b′ o l room;
-        beyond = λ j q. writes-beyond s b′ o l room j q ∙ h .beyond j q;
-      }
-  leaves (suc n) s b b′ h o l = h
-
-  says-same : (s : List ℕ) (b : Book) (c : Call) → Holds s b → bytesSays s c ≡ pos (bookSays b c)
+  says-same : (s : List ℕ) (b : Book) (c : Call) → Holds s₀ s b → bytesSays s c ≡ pos (bookSays b c)
   says-same s b c h =
       ap (λ (r : Returned). r .answer) (through-fits s (λ x. outcome x c) (h .fits)) ∙ ap (λ (x : Book). pos (bookSays x c)) (h .reads)
 
-  stays : (s : List ℕ) (b : Book) (c : Call) → Holds s b → Holds (bytesNext s c) (bookNext b c)
+  stays : (s : List ℕ) (b : Book) (c : Call) → Holds s₀ s b → Holds s₀ (bytesNext s c) (bookNext b c)
   stays s b c h =
-      let x = bookOf s in
-      let o = fits-sound s (h .fits) in
-      let next : Holds (unless (bookSays x c) s (putBook s (bookNext x c))) (bookNext x c) =
-      leaves (bookSays x c) s x (bookAccepts x c) (record { reads = refl; fits = h .fits; beyond = h .beyond }) (sound-next x o c)
-      (ap (λ (net : Network). length (net .stations)) (next-network x c) ∙ read-stations s) in
-      subst (λ (y : Book). Holds (bytesNext s c) (bookNext y c)) (h .reads)
-      (subst (λ (t : List ℕ). Holds t (bookNext x c)) (sym (ap (λ (r : Returned). r .bytes) (through-fits s (λ y. outcome y c) (h .fits)))) next)
+      subst (λ (y : Book). Holds s₀ (bytesNext s c) (bookNext y c)) (h .reads)
+      (subst (λ (t : List ℕ). Holds s₀ t (bookNext (bookOf s) c)) (sym (ap (λ (r : Returned). r .bytes) (through-fits s (λ y. outcome y c) (h .fits)))) (call-leaves s₀ s (h .fits) (h .beyond) c))
 
-  alike : Alike bytesNext bytesSays bookNext (λ b c. pos (bookSays b c)) Holds
+  alike : Alike bytesNext bytesSays bookNext (λ b c. pos (bookSays b c)) (Holds s₀)
   alike = record { says-same = says-same; stays = stays }
 
 -- ════ an accepted opening
@@ -136,14 +99,9 @@ accepted list s a =
 
 -- ════ the statement
 holds-opened : (list s : List ℕ) → Opened list s → Holds s (opens list s .bytes) (openedBook (networkOf (wordsAt list 0 (length list / 8))))
-unfolding networkOf
 holds-opened list s o =
     let words = wordsAt list 0 (length list / 8) in
-    let b = openedBook (networkOf words) in
-    let sound : Sound b = sound-opened (networkOf words) (opened-fits words (o .accepts)) in
-    let long : length (b .network .stations) ≡ 32 = length-tabulate 32 _ in
-    subst (λ (t : List ℕ). Holds s t b) (sym (o .written))
-    (record { reads = writes-reads s b sound long (o .room); fits = writes-fit s b sound long (o .room); beyond = writes-beyond s b sound long (o .room) })
+    subst (λ (t : List ℕ). Holds s t (openedBook (networkOf words))) (sym (o .written)) (opened-holds s (o .room) words (o .accepts))
 
 module _ (list s : List ℕ) (o : Opened list s) where
   net : Network

@@ -1,5 +1,4 @@
 // The C calls that edit a book. docs/REFUSALS.md has each number in words.
-use super::changes;
 use book::Call;
 use book::Change;
 ghost use mathlib.Core.Path.{_≡_};
@@ -14,7 +13,8 @@ fn edit_bytes(book: &mut [u8], call: Call) -> i64
     if !layout::holds_book(book) {
         return 25;
     }
-    changes::apply(book, call)
+    let n = lent_edits::apply(book, call);
+    n as i64
 }
 
 // Fills an empty place with a baseline.

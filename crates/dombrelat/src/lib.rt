@@ -1,8 +1,7 @@
 // The C calls on lent bytes.
 //
-// `opening` has the call that opens a book, `edits` those that edit one, `changes` what they do to the bytes, `checking` the calls that check, `proposing` the one that proposes,
+// `opening` has the call that opens a book, `edits` those that edit one, `checking` the calls that check, `proposing` the one that proposes,
 // `reading` those that read a book.
-mod changes;
 mod checking;
 mod edits;
 mod opening;

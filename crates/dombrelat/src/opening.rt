@@ -1,30 +1,12 @@
 // The C call that opens a book.
-use book::Book;
-use book::Edited;
 use layout::Layout;
 ghost use mathlib.Core.Path.{_≡_};
 ghost use Prim.Native.Nat.{_≤_, _*_};
 ghost use lib.ListN.{length};
-ghost use lib.IntN.{pos};
 ghost use Rattle.words.specs.Runs.{wordsAt};
-ghost use Rattle.book.specs.Calls.{unless};
 ghost use Rattle.book.specs.Book.{opening};
-ghost use Rattle.layout.specs.Bytes.{putBook};
 ghost use Rattle.layout.specs.Layout.{bookBytes};
-ghost use Rattle.dombrelat.specs.Calls.{opens};
-
-// The answer of an opening, whose book is written unless it is refused.
-fn settle(s: &mut [u8], e: Edited) -> i64
-    requires { ⌜ (bookBytes ≤ length (now s)) × (e .refusal ≤ 9) ⌝ }
-    ensures { λ r. ⌜ (r ≡ pos (e .refusal)) × (now (s .exit) ≡ unless (e .refusal) (now (s .entry)) (putBook (now (s .entry)) (e .book))) ⌝ }
-{
-    let refusal = e.refusal;
-    if refusal == 0 {
-        let book = e.book;
-        layout::write_book(s, book);
-    }
-    refusal as i64
-}
+ghost use Rattle.dombrelat.specs.Calls.{settled, opens};
 
 // 128 words: those of the longest station list.
 fn station_words() -> [i64; 128]
@@ -34,12 +16,13 @@ fn station_words() -> [i64; 128]
 }
 
 // The opening on the words of a list, which are read into w.
-fn open_list(list: &[u8], w: &mut [i64]) -> Edited
-    requires { ⌜ 8 * length (now w) ≤ length (now list) ⌝ }
-    ensures { λ e. ⌜ (e ≡ opening (wordsAt (now (list .entry)) 0 (length (now (w .entry))))) × (e .refusal ≤ 9) ⌝ }
+fn open_list(list: &[u8], w: &mut [i64], book: &mut [u8]) -> i64
+    requires { ⌜ (8 * length (now w) ≤ length (now list)) × (bookBytes ≤ length (now book)) ⌝ }
+    ensures { λ r. ⌜ (r ≡ settled (now (book .entry)) (opening (wordsAt (now (list .entry)) 0 (length (now (w .entry))))) .answer) × (now (book .exit) ≡ settled (now (book .entry)) (opening (wordsAt (now (list .entry)) 0 (length (now (w .entry))))) .bytes) ⌝ }
 {
     words::read_words(list, 0, w);
-    Book::open(w)
+    let n = lent_edits::open(w, book);
+    n as i64
 }
 
 // Opens a book on a station list, 32 bytes a station.
@@ -59,6 +42,5 @@ pub extern "C" fn dombrelat_open(list: &[u8], book: &mut [u8]) -> i64
     }
     let n = list.len() / 8;
     let mut w = station_words();
-    let e = open_list(list, &mut w[0..n]);
-    settle(book, e)
+    open_list(list, &mut w[0..n], book)
 }

@@ -7,8 +7,7 @@ use denote.Ref.{now}
 use mir.Syntax.{w64}
 use mir.Facts.{toZ-ofZ}
 use Rattle.layout.specs.Bytes.{bytesFit}
-use Rattle.layout.specs.CodecLaws.{fits-room}
-use Rattle.dombrelat.proofs.Changed.{network-ready}
+use Rattle.layout.specs.CodecLaws.{fits-room, fits-network}
 use Rattle.dombrelat.proofs.Readings.{both, stations-unfit, stations-fit}
 use borrow.Author.Needs.{needs, sfits-of}
 use Rattle.dombrelat.proofs.reading.dombrelat_stations.Statement.{statement}
@@ -18,7 +17,7 @@ fit : (e : tie.Else1) → bytesFit (now (e .before .before .before .before .args
 fit e = sym (e .before .holds-book .ensures) ∙ not-false _ (e .if1 .left)
 
 few : (a : tie.After-network-in) → a .network-in .result .count ≤ 32
-few a = network-ready _ (fit (a .before)) _ (a .network-in .ensures) .0
+few a = fits-network _ (fit (a .before)) _ (a .network-in .ensures) .0
 
 holds-book-requires : tie.Need-holds-book-requires
 holds-book-requires c κs = search needs

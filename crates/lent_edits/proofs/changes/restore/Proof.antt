@@ -11,10 +11,10 @@ use Rattle.book.specs.SoundLaws.{latest-undoes}
 use Rattle.layout.specs.Bytes.{bookOf}
 use Rattle.layout.specs.CodecLaws.{fits-room, fits-sound}
 use Rattle.layout.specs.Layout.{bookBytes}
-use Rattle.dombrelat.proofs.Changed.{restored}
+use Rattle.lent_edits.proofs.Changed.{restored}
 use borrow.Author.Needs.{needs}
-use Rattle.dombrelat.proofs.changes.restore.Statement.{statement}
-use Rattle.dombrelat.proofs.changes.restore.Tie as tie
+use Rattle.lent_edits.proofs.changes.restore.Statement.{statement}
+use Rattle.lent_edits.proofs.changes.restore.Tie as tie
 
 room : (s : tie.Start) → bookBytes ≤ length (s .args .s .now)
 room s = fits-room (s .args .s .now) (s .pre .0)

@@ -12,11 +12,11 @@ use Rattle.book.specs.Book.{bookSays}
 use Rattle.book.specs.Numbers.{edit-number}
 use Rattle.layout.specs.Layout.{bookBytes}
 use Rattle.layout.specs.Bytes.{bookOf}
-use Rattle.layout.specs.CodecLaws.{fits-room, fits-sound}
-use Rattle.dombrelat.proofs.Changed.{network-ready, settle-ready, edit-changed}
-use borrow.Author.Needs.{needs, sfits-of}
-use Rattle.dombrelat.proofs.changes.change_place.Statement.{statement}
-use Rattle.dombrelat.proofs.changes.change_place.Tie as tie
+use Rattle.layout.specs.CodecLaws.{fits-room, fits-sound, fits-network}
+use Rattle.lent_edits.proofs.Changed.{settle-ready, edit-changed}
+use borrow.Author.Needs.{needs}
+use Rattle.lent_edits.proofs.changes.change_place.Statement.{statement}
+use Rattle.lent_edits.proofs.changes.change_place.Tie as tie
 
 room : (s : tie.Start) → bookBytes ≤ length (s .args .s .now)
 room s = fits-room (s .args .s .now) (s .pre)
@@ -49,7 +49,7 @@ edit-no-requires : tie.Need-edit-no-requires
 edit-no-requires c κs =
     let n = c .before .before .before in
     let s = n .before .before .before in
-    network-ready (s .args .s .now) (s .pre) _ (n .network-in .ensures)
+    fits-network (s .args .s .now) (s .pre) _ (n .network-in .ensures)
 
 puts-of-requires : tie.Need-puts-of-requires
 puts-of-requires c κs = search needs
@@ -68,8 +68,7 @@ returns c =
     let e = c .before .before in
     let a = e .before .before in
     let s = start a in
-    edit-changed (s .args .s .now) (s .pre) (s .args .place) (s .args .change) _ _ _ _ _ (number a) (at-place a) (a .puts-of .ensures)
-    (toZ-ofZ {w = w64} {z = e .settle .result} (sfits-of (e .settle .ok)) ∙ e .settle .ensures .0) (e .settle .ensures .1)
+    edit-changed (s .args .s .now) (bookOf (s .args .s .now)) (s .args .place) (s .args .change) _ _ _ _ (number a) (at-place a) (a .puts-of .ensures) (e .settle .ensures)
 
 pub change-place-spec : {M : Type 1} → statement M
 change-place-spec =

@@ -6,10 +6,10 @@ use Rattle.book.specs.Journal.{journalSize}
 use Rattle.layout.specs.Bytes.{bookOf}
 use Rattle.layout.specs.CodecLaws.{fits-room, fits-sound}
 use Rattle.layout.specs.Layout.{bookBytes}
-use Rattle.dombrelat.proofs.Changed.{entered}
+use Rattle.lent_edits.proofs.Changed.{entered}
 use borrow.Author.Needs.{needs}
-use Rattle.dombrelat.proofs.changes.enter.Statement.{statement}
-use Rattle.dombrelat.proofs.changes.enter.Tie as tie
+use Rattle.lent_edits.proofs.changes.enter.Statement.{statement}
+use Rattle.lent_edits.proofs.changes.enter.Tie as tie
 
 room : (s : tie.Start) → bookBytes ≤ length (s .args .s .now)
 room s = fits-room (s .args .s .now) (s .pre .0)

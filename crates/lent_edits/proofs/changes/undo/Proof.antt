@@ -1,10 +1,11 @@
 -- `undo` takes the latest edit back, or is refused. Assumes nothing.
 use native.Mathlib.Omega.{arith}
+use Rattle.layout.specs.Bytes.{bookOf}
 use Rattle.layout.specs.CodecLaws.{fits-room}
-use Rattle.dombrelat.proofs.Changed.{undo-none, undo-done}
+use Rattle.lent_edits.proofs.Changed.{undo-none, undo-done}
 use borrow.Author.Needs.{needs}
-use Rattle.dombrelat.proofs.changes.undo.Statement.{statement}
-use Rattle.dombrelat.proofs.changes.undo.Tie as tie
+use Rattle.lent_edits.proofs.changes.undo.Statement.{statement}
+use Rattle.lent_edits.proofs.changes.undo.Tie as tie
 
 held-in-requires : tie.Need-held-in-requires
 held-in-requires c κs = fits-room (c .before .before .args .s .now) (c .before .before .pre)
@@ -16,7 +17,7 @@ returns : tie.Need-returns
 returns c =
     let h = c .before in
     let s = h .before .before .before in
-    undo-none (s .args .s .now) (s .pre) _ (h .held-in .ensures) (c .if1 .taken)
+    undo-none (s .args .s .now) (bookOf (s .args .s .now)) _ (h .held-in .ensures) (c .if1 .taken)
 
 restore-requires : tie.Need-restore-requires
 restore-requires c κs =
@@ -32,7 +33,7 @@ returns-2 c =
     let e = r .before .before in
     let h = e .before in
     let s = h .before .before .before in
-    undo-done (s .args .s .now) (s .pre) _ _ (h .held-in .ensures) (e .if1 .left) (r .restore .ensures)
+    undo-done (s .args .s .now) (bookOf (s .args .s .now)) _ _ (h .held-in .ensures) (e .if1 .left) (r .restore .ensures)
 
 pub undo-spec : {M : Type 1} → statement M
 undo-spec =

@@ -3,15 +3,15 @@ use book::Call;
 use book::Change;
 use book::Reversal;
 use network::Record;
+use network::Unit;
 ghost use mathlib.Core.Path.{_≡_};
 ghost use mathlib.Core.Bool.{true};
-ghost use Prim.Native.Nat.{_≤_, _<_};
-ghost use lib.IntN.{pos};
-ghost use Rattle.book.specs.Book.{edited, undone};
+ghost use Prim.Native.Nat.{_<_};
+ghost use Rattle.book.specs.Book.{edited, undone, bookSays, outcome};
 ghost use Rattle.book.specs.Calls.{unless};
 ghost use Rattle.book.specs.SoundLaws.{Enters};
 ghost use Rattle.layout.specs.Bytes.{bookOf, putBook, bytesFit};
-ghost use Rattle.dombrelat.specs.Calls.{edit};
+ghost use Rattle.lent_edits.specs.LentEdits.{bytesLeft, Applies};
 
 // r enters place i, and the edit goes on the journal.
 fn enter(s: &mut [u8], i: usize, r: Record)
@@ -30,28 +30,27 @@ fn enter(s: &mut [u8], i: usize, r: Record)
 }
 
 // The edit, unless it is refused.
-fn settle(s: &mut [u8], n: u64, i: usize, r: Record) -> i64
-    requires { ⌜ (bytesFit (now s) ≡ true) × (n ≤ 9) × (n ≡ 0 → Enters (bookOf (now s)) i r) ⌝ }
-    ensures { λ a. ⌜ (a ≡ pos n) × (now (s .exit) ≡ unless n (now (s .entry)) (putBook (now (s .entry)) (edited (bookOf (now (s .entry))) i r))) ⌝ }
+fn settle(s: &mut [u8], n: u64, i: usize, r: Record)
+    requires { ⌜ (bytesFit (now s) ≡ true) × (n ≡ 0 → Enters (bookOf (now s)) i r) ⌝ }
+    ensures { λ _. ⌜ now (s .exit) ≡ unless n (now (s .entry)) (putBook (now (s .entry)) (edited (bookOf (now (s .entry))) i r)) ⌝ }
 {
     if n == 0 {
         enter(s, i, r);
-        return 0;
     }
-    n as i64
 }
 
 // Changes a place.
-fn change_place(s: &mut [u8], place: i64, change: Change) -> i64
+fn change_place(s: &mut [u8], place: i64, change: Change) -> u64
     requires { ⌜ bytesFit (now s) ≡ true ⌝ }
-    ensures { λ a. ⌜ (a ≡ edit (now (s .entry)) (Call.Edit place change) .answer) × (now (s .exit) ≡ edit (now (s .entry)) (Call.Edit place change) .bytes) ⌝ }
+    ensures { λ n. ⌜ (n ≡ bookSays (bookOf (now (s .entry))) (Call.Edit place change)) × (now (s .exit) ≡ bytesLeft (now (s .entry)) (outcome (bookOf (now (s .entry))) (Call.Edit place change))) ⌝ }
 {
     let net = layout::network_in(s);
-    let i = words::index_in(place, 256);
+    let i = words::index_in(place, Unit::PLACES);
     let held = layout::record_in(s, i);
     let n = book::edit_no(net, place, change, held);
     let r = book::puts_of(change);
-    settle(s, n, i, r)
+    settle(s, n, i, r);
+    n
 }
 
 // The latest edit comes off the journal, and its place holds again what it held before.
@@ -73,9 +72,9 @@ fn restore(s: &mut [u8], held: usize)
 }
 
 // Takes the latest edit back.
-fn undo(s: &mut [u8]) -> i64
+fn undo(s: &mut [u8]) -> u64
     requires { ⌜ bytesFit (now s) ≡ true ⌝ }
-    ensures { λ a. ⌜ (a ≡ edit (now (s .entry)) Call.Undo .answer) × (now (s .exit) ≡ edit (now (s .entry)) Call.Undo .bytes) ⌝ }
+    ensures { λ n. ⌜ (n ≡ bookSays (bookOf (now (s .entry))) Call.Undo) × (now (s .exit) ≡ bytesLeft (now (s .entry)) (outcome (bookOf (now (s .entry))) Call.Undo)) ⌝ }
 {
     let held = layout::held_in(s);
     if held == 0 {
@@ -85,10 +84,10 @@ fn undo(s: &mut [u8]) -> i64
     0
 }
 
-// The call, unless it is refused.
-pub fn apply(s: &mut [u8], call: Call) -> i64
+// The call, unless it is refused. What it leaves holds a book again.
+pub fn apply(s: &mut [u8], call: Call) -> u64
     requires { ⌜ bytesFit (now s) ≡ true ⌝ }
-    ensures { λ a. ⌜ (a ≡ edit (now (s .entry)) call .answer) × (now (s .exit) ≡ edit (now (s .entry)) call .bytes) ⌝ }
+    ensures { λ n. ⌜ Applies (now (s .entry)) call n (now (s .exit)) ⌝ }
 {
     match call {
         Call::Edit(place, change) => change_place(s, place, change),

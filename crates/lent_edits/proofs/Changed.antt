@@ -1,0 +1,78 @@
+-- What an edit or an undo has done to bytes that hold a book, in the words of its contract. Assumes nothing.
+use Prim.Native.Nat.{ℕ, zero, suc, _-_, _≤_}
+use mathlib.Core.Path.{_≡_, refl, sym, ap, _∙_, subst}
+use mathlib.Core.Bool.{true}
+use mathlib.Core.List.{List}
+use lib.ListN.{getD, set}
+use lib.IntN.{ℤ}
+use Rattle.network.specs.Records.{recordAt}
+use Rattle.network.specs.declared.Record.{Record}
+use Rattle.book.specs.declared.Book.{Book}
+use Rattle.book.specs.declared.Reversal.{Reversal}
+use Rattle.book.specs.Journal.{slotBefore, slotAfter, oneMore, free, latest}
+use Rattle.book.specs.declared.Change.{Change}
+use Rattle.book.specs.declared.Call.{Call}
+use Rattle.book.specs.declared.Call.the-variants as call
+use Rattle.book.specs.Calls.{placeOf, puts, undoNo, callNo, unless}
+use Rattle.book.specs.SoundLaws.{Enters, enters-edit}
+use Rattle.book.specs.Book.{withEntry, edited, undone, bookAccepts, bookSays, outcome}
+use Rattle.layout.specs.Bytes.{bookOf, putBook, bytesFit}
+use Rattle.lent_edits.specs.LentEdits.{bytesLeft}
+
+-- ════ the core edit, with the journal that goes with it
+module _ (s : List ℕ) (b : Book) where
+  pub entered : (i next slot held more : ℕ) (r old : Record) → old ≡ recordAt (b .places) i → next ≡ b .journal .next → held ≡ b .journal .held → slot ≡ slotAfter next → more ≡ oneMore held
+      → putBook s (withEntry b i r (record { entries = set (b .journal .entries) next (record { place = i; prior = old }); next = slot; held = more }))
+      ≡ putBook s (edited b i r)
+  entered i next slot held more r old p q e n m =
+      let a : slot ≡ slotAfter (b .journal .next) = n ∙ ap slotAfter q in
+      let h : more ≡ oneMore (b .journal .held) = m ∙ ap oneMore e in
+      λ k. putBook s (withEntry b i r (record { entries = set (b .journal .entries) (q k) (record { place = i; prior = p k }); next = a k; held = h k }))
+
+  pub restored : (next slot held : ℕ) (u : Reversal) → next ≡ b .journal .next → slot ≡ slotBefore next → held ≡ b .journal .held → u ≡ getD (b .journal .entries) slot free
+      → putBook s (withEntry b (u .place) (u .prior) (record { entries = set (b .journal .entries) slot free; next = slot; held = held - 1 })) ≡ putBook s (undone b)
+  restored next slot held u q n e p =
+      let a : slot ≡ slotBefore (b .journal .next) = n ∙ ap slotBefore q in
+      let l : u ≡ latest (b .journal) = p ∙ ap (λ (k : ℕ). getD (b .journal .entries) k free) a in
+      λ k. putBook s (withEntry b (l k .place) (l k .prior) (record { entries = set (b .journal .entries) (a k) free; next = a k; held = e k - 1 }))
+
+-- ════ a call on bytes s that hold the book b
+module _ (s : List ℕ) (b : Book) where
+  -- the book is written where the call is not refused
+  written : (n : ℕ) (x : Book) → unless n s (putBook s x) ≡ unless n s (putBook s (unless n b x))
+  unfolding unless
+  written zero x = refl
+  written (suc n) x = refl
+
+  changed : (c : Call) (n : ℕ) (t : List ℕ) → n ≡ bookSays b c → t ≡ unless n s (putBook s (bookAccepts b c)) → (n ≡ bookSays b c) × (t ≡ bytesLeft s (outcome b c))
+  changed c n t e q = (e, q ∙ ap (λ (k : ℕ). unless k s (putBook s (bookAccepts b c))) e ∙ written (bookSays b c) (bookAccepts b c))
+
+  pub edit-changed : (p : ℤ) (c : Change) (n i : ℕ) (r : Record) (t : List ℕ) → n ≡ bookSays b (call.Edit p c) → i ≡ placeOf p → r ≡ puts c
+      → t ≡ unless n s (putBook s (edited b i r)) → (n ≡ bookSays b (call.Edit p c)) × (t ≡ bytesLeft s (outcome b (call.Edit p c)))
+  unfolding bookAccepts
+  edit-changed p c n i r t e at is h = changed (call.Edit p c) n t e (h ∙ (λ k. unless n s (putBook s (edited b (at k) (is k)))))
+
+  pub undo-none : (held : ℕ) → held ≡ b .journal .held → held ≡ 0 → (8 ≡ bookSays b call.Undo) × (s ≡ bytesLeft s (outcome b call.Undo))
+  unfolding callNo undoNo unless
+  undo-none held e z = changed call.Undo 8 s (ap undoNo (sym z ∙ e)) refl
+
+  pub undo-done : (held : ℕ) (t : List ℕ) → held ≡ b .journal .held → (held ≡ 0 → ⊥) → t ≡ putBook s (undone b) → (0 ≡ bookSays b call.Undo) × (t ≡ bytesLeft s (outcome b call.Undo))
+  unfolding callNo undoNo unless bookAccepts
+  undo-done zero t e z h = absurd (z refl)
+  undo-done (suc held) t e z h = changed call.Undo 0 t (ap undoNo e) h
+
+-- ════ what the code of an edit has at hand: the number, the place's index, and the record
+module _ (s : List ℕ) (fit : bytesFit s ≡ true) where
+  pub settle-ready : (p : ℤ) (c : Change) (n i : ℕ) (r : Record) → n ≡ bookSays (bookOf s) (call.Edit p c) → i ≡ placeOf p → r ≡ puts c
+      → (bytesFit s ≡ true) × (n ≡ 0 → Enters (bookOf s) i r)
+  settle-ready p c n i r e at is = (fit, λ z. enters-edit (bookOf s) p c i r at is (sym e ∙ z))
+
+-- ════ what is written back
+pub edit-done : (s t : List ℕ) (n : ℕ) (b : Book) → n ≡ 0 → t ≡ putBook s b → t ≡ unless n s (putBook s b)
+unfolding unless
+edit-done s t n b e q = rw e q
+
+pub edit-kept : (s : List ℕ) (n : ℕ) (b : Book) → (n ≡ 0 → ⊥) → s ≡ unless n s (putBook s b)
+unfolding unless
+edit-kept s zero b h = absurd (h refl)
+edit-kept s (suc n) b h = refl

@@ -1,0 +1,23 @@
+-- `settle` makes the edit where its number is 0, and else leaves the bytes: the two cases of `unless`. Assumes nothing.
+use Rattle.lent_edits.proofs.Changed.{edit-done, edit-kept}
+use borrow.Author.Needs.{needs}
+use Rattle.lent_edits.proofs.changes.settle.Statement.{statement}
+use Rattle.lent_edits.proofs.changes.settle.Tie as tie
+
+enter-requires : tie.Need-enter-requires
+enter-requires c κs = let s = c .before .before .before in (s .pre .0, s .pre .1 (c .before .if1 .taken))
+
+same-length : tie.Need-same-length
+same-length c = search needs
+
+returns : tie.Need-returns
+returns c =
+    let e = c .before .before in
+    let t = e .before .before in
+    edit-done _ _ (t .before .before .args .n) _ (t .if1 .taken) (e .enter .ensures)
+
+returns-2 : tie.Need-returns-2
+returns-2 c = let s = c .before .before in edit-kept (s .args .s .now) (s .args .n) _ (c .if1 .left)
+
+pub settle-spec : {M : Type 1} → statement M
+settle-spec = tie.close (tie.spec enter-requires same-length returns returns-2)
