@@ -22,7 +22,7 @@ use Rattle.network.specs.declared.Record.{Record}
 use Rattle.sheet.specs.Sheet.{room}
 use Rattle.words.specs.Concat.{concatBelow, concatBelow-front, concatBelow-ext}
 use Rattle.network.specs.RecordWords.{recordWords}
-use Rattle.layout.specs.Layout.{stationsStart, stationPart, bookIn, placesIn}
+use Rattle.layout.specs.Layout.{stationsStart, stationPart}
 use Rattle.layout.specs.BookWords.{length-station, stations-part}
 use Rattle.layout.specs.Bytes.{wordsOf, bookOf, bytesFit}
 use Rattle.layout.specs.CodecLaws.{read-sized, fits-words, fits-sound}
@@ -43,9 +43,9 @@ module _ (s : List ℕ) where
   unfolding sheetBytesCall
   sheet-bytes-unfit e = rw e
 
-  pub sheet-bytes-fit : (net : Network) (places : List Place) (n : ℕ) → bytesFit s ≡ true → net ≡ bookOf s .network → places ≡ placesIn (wordsOf s) → n ≡ room net places
+  pub sheet-bytes-fit : (net : Network) (places : List Place) (n : ℕ) → bytesFit s ≡ true → net ≡ bookOf s .network → places ≡ bookOf s .places → n ≡ room net places
       → numbered (8 * n) ≡ sheetBytesCall s
-  unfolding sheetBytesCall bookIn
+  unfolding sheetBytesCall
   sheet-bytes-fit net places n e p q r = rw e (ap (λ (k : ℕ). numbered (8 * k)) (r ∙ ap₂ room p q))
 
 -- ════ words at the front of a slice

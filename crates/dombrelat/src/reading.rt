@@ -46,7 +46,8 @@ pub extern "C" fn dombrelat_sheet_bytes(book: &[u8]) -> i64
         return 25;
     }
     let net = layout::network_in(book);
-    let places = layout::places_in(book);
+    let b = layout::book_in(book);
+    let places = b.places;
     let n = sheet::room_of(net, places);
     numbered_word(8 * n)
 }

@@ -1,15 +1,15 @@
 use Prim.Native.Nat.{_≤_}
 use native.Mathlib.Omega.{arith}
-use mathlib.Core.Path.{_≡_, sym, _∙_}
+use mathlib.Core.Path.{_≡_, sym, ap, _∙_}
 use mathlib.Core.Bool.{true}
 use borrow.Author.Tests.{not-true, not-false}
 use denote.Ref.{now}
 use mir.Syntax.{w64}
 use mir.Facts.{toZ-ofZ}
+use Rattle.book.specs.declared.Book.{Book}
 use Rattle.layout.specs.Bytes.{bytesFit}
-use Rattle.layout.specs.CodecLaws.{fits-room}
+use Rattle.layout.specs.CodecLaws.{fits-room, fits-network}
 use Rattle.sheet.specs.Totals.{room-small}
-use Rattle.dombrelat.proofs.Changed.{network-ready}
 use Rattle.dombrelat.proofs.Readings.{sheet-bytes-unfit, sheet-bytes-fit}
 use borrow.Author.Needs.{needs, sfits-of}
 use Rattle.dombrelat.proofs.reading.dombrelat_sheet_bytes.Statement.{statement}
@@ -19,10 +19,10 @@ fit : (e : tie.Else1) → bytesFit (now (e .before .before .before .args .book))
 fit e = sym (e .before .holds-book .ensures) ∙ not-false _ (e .if1 .left)
 
 few : (a : tie.After-network-in) → a .network-in .result .count ≤ 32
-few a = network-ready _ (fit (a .before)) _ (a .network-in .ensures) .0
+few a = fits-network _ (fit (a .before)) _ (a .network-in .ensures) .0
 
 words : (a : tie.After-room-of) → a .room-of .result ≤ 2021
-words a = omega (arith, a .room-of .ensures, room-small (a .before .before .network-in .result) (a .before .places-in .result) (few (a .before .before)))
+words a = omega (arith, a .room-of .ensures, room-small (a .before .before .before .network-in .result) (a .before .before .book-in .result .places) (few (a .before .before .before)))
 
 holds-book-requires : tie.Need-holds-book-requires
 holds-book-requires c κs = search needs
@@ -33,11 +33,11 @@ returns c = sheet-bytes-unfit _ (sym (c .before .holds-book .ensures) ∙ not-tr
 network-in-requires : tie.Need-network-in-requires
 network-in-requires c κs = fits-room _ (fit c)
 
-places-in-requires : tie.Need-places-in-requires
-places-in-requires c κs = fits-room _ (fit (c .before))
+book-in-requires : tie.Need-book-in-requires
+book-in-requires c κs = fits-room _ (fit (c .before))
 
 room-of-requires : tie.Need-room-of-requires
-room-of-requires c κs = few (c .before)
+room-of-requires c κs = few (c .before .before)
 
 mul-numbered-word : tie.Need-mul-numbered-word
 mul-numbered-word c = omega (arith, words c)
@@ -49,7 +49,7 @@ returns-2 : tie.Need-returns-2
 returns-2 c =
     let n = c .numbered-word in
     toZ-ofZ {w = w64} {z = n .result} (sfits-of (n .ok)) ∙ n .ensures
-    ∙ sheet-bytes-fit _ _ _ _ (fit (c .before .before .before .before)) (c .before .before .before .network-in .ensures) (c .before .before .places-in .ensures) (c .before .room-of .ensures)
+    ∙ sheet-bytes-fit _ _ _ _ (fit (c .before .before .before .before .before)) (c .before .before .before .before .network-in .ensures) (ap (λ (b : Book). b .places) (c .before .before .before .book-in .ensures)) (c .before .room-of .ensures)
 
 pub dombrelat-sheet-bytes-spec : {M : Type 1} → statement M
 dombrelat-sheet-bytes-spec =
@@ -58,7 +58,7 @@ dombrelat-sheet-bytes-spec =
     holds-book-requires
     returns
     network-in-requires
-    places-in-requires
+    book-in-requires
     room-of-requires
     mul-numbered-word
     numbered-word-requires
