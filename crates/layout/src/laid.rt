@@ -5,7 +5,6 @@ use super::writing::station_part;
 use book::Journal;
 use network::Record;
 use network::Unit;
-use normals::Normals;
 ghost use mathlib.Core.Path.{_≡_};
 ghost use Prim.Native.Nat.{ℕ, _+_, _*_, _≤_, _<_};
 ghost use lib.ListN.{length};
@@ -83,11 +82,11 @@ fn fits(s: &[u8]) -> bool
         return false;
     }
     let network = reading::network_in(s);
-    let places = reading::places_of(s);
+    let places = reading::places_in(s);
     let journal = reading::journal_in(s);
     let matrix = reading::matrix_in(s);
     let right = reading::right_in(s);
-    book::parts_fit(network, places, journal, Normals { matrix, right })
+    book::parts_fit(network, &places, journal, &matrix, &right)
 }
 
 // The bytes hold a book: what 25 tests, of any bytes.

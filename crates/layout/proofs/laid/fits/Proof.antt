@@ -1,4 +1,4 @@
--- `fits` judges bytes: the layout, then the book's rules. Assumes nothing.
+-- `fits` judges bytes: the layout, then the book's rules on the parts that were read, which are those of the book that the bytes hold. Assumes nothing.
 use mathlib.Core.Path.{sym, _∙_}
 use borrow.Author.Tests.{not-true, not-false}
 use Rattle.book.specs.Book.{sound}
@@ -17,8 +17,8 @@ returns c = judged-odd (c .before .before .before .args .s .now) (sym (c .before
 network-in-requires : tie.Need-network-in-requires
 network-in-requires c κs = search needs
 
-places-of-requires : tie.Need-places-of-requires
-places-of-requires c κs = search needs
+places-in-requires : tie.Need-places-in-requires
+places-in-requires c κs = search needs
 
 journal-in-requires : tie.Need-journal-in-requires
 journal-in-requires c κs = search needs
@@ -29,13 +29,22 @@ matrix-in-requires c κs = search needs
 right-in-requires : tie.Need-right-in-requires
 right-in-requires c κs = search needs
 
+slice-aggregate-parts-fit : tie.Need-slice-aggregate-parts-fit
+slice-aggregate-parts-fit c = search needs
+
+slice-aggregate-parts-fit-2 : tie.Need-slice-aggregate-parts-fit-2
+slice-aggregate-parts-fit-2 c = search needs
+
+slice-aggregate-parts-fit-3 : tie.Need-slice-aggregate-parts-fit-3
+slice-aggregate-parts-fit-3 c = search needs
+
 parts-fit-requires : tie.Need-parts-fit-requires
 parts-fit-requires c κs = search needs
 
 returns-2 : tie.Need-returns-2
 unfolding bookIn
 returns-2 c =
-    let r = c .before in
+    let r = c .before .before .before .before in
     let m = r .before in
     let j = m .before in
     let p = j .before in
@@ -47,7 +56,7 @@ returns-2 c =
     ∙ (λ i. sound
     (record {
       network = n .network-in .ensures i;
-      places = p .places-of .ensures i;
+      places = p .places-in .ensures i;
       journal = j .journal-in .ensures i;
       normals = record { matrix = m .matrix-in .ensures i; right = r .right-in .ensures i };
     })))
@@ -59,9 +68,12 @@ fits-spec =
     laid-out-requires
     returns
     network-in-requires
-    places-of-requires
+    places-in-requires
     journal-in-requires
     matrix-in-requires
     right-in-requires
+    slice-aggregate-parts-fit
+    slice-aggregate-parts-fit-2
+    slice-aggregate-parts-fit-3
     parts-fit-requires
     returns-2)
