@@ -9,21 +9,22 @@ use book::Book;
 ghost use mathlib.Core.Path.{_≡_};
 ghost use mathlib.Core.Bool.{true};
 ghost use Rattle.book.specs.Book.{sound};
+ghost use Rattle.layout.specs.Bytes.{bookOf, bytesFit};
 ghost use Rattle.distances.specs.Distances.{agreement, distanceNumber, agreementNumber, distanceUnknown, agreementUnknown};
 
-// Whether the distance agrees with the sheet of the pair x, M, which the check must accept.
-pub fn check_distance(book: Book, x: &[i64], m: &[i64], d: CheckDistance) -> Agreement
-    requires { ⌜ sound book ≡ true ⌝ }
-    ensures { λ r. ⌜ r ≡ agreement book (now (x .entry)) (now (m .entry)) d ⌝ }
+// Whether the distance agrees with the sheet of the pair x, M, which the check must accept, on bytes that hold a book.
+pub fn check_distance_in(s: &[u8], x: &[i64], m: &[i64], d: CheckDistance) -> Agreement
+    requires { ⌜ bytesFit (now s) ≡ true ⌝ }
+    ensures { λ r. ⌜ r ≡ agreement (bookOf (now (s .entry))) (now (x .entry)) (now (m .entry)) d ⌝ }
 {
-    let net = book.network;
+    let net = layout::network_in(s);
     if !network::ends_fit(net.count, d.from, d.to) {
         return Agreement::Refused(DistanceRefusal::Ends);
     }
     if !distance::in_range(d) {
         return Agreement::Refused(DistanceRefusal::Range);
     }
-    let answer = checks::check(book, x, m);
+    let answer = checks::check_in(s, x, m);
     match answer {
         Answer::Accepted => {
             if comparison::agrees(net, x, d) {
@@ -33,6 +34,15 @@ pub fn check_distance(book: Book, x: &[i64], m: &[i64], d: CheckDistance) -> Agr
         }
         Answer::Refused(refusal) => Agreement::Refused(DistanceRefusal::Pair(refusal)),
     }
+}
+
+// The same on a book by value.
+pub fn check_distance(book: Book, x: &[i64], m: &[i64], d: CheckDistance) -> Agreement
+    requires { ⌜ sound book ≡ true ⌝ }
+    ensures { λ r. ⌜ r ≡ agreement book (now (x .entry)) (now (m .entry)) d ⌝ }
+{
+    let s = layout::book_bytes(book);
+    check_distance_in(&s, x, m, d)
 }
 
 // Document 02's number of a refusal.

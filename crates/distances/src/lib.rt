@@ -6,6 +6,7 @@ mod distance;
 
 use acceptance::Refusal;
 pub use answer::check_distance;
+pub use answer::check_distance_in;
 pub use answer::number;
 pub use answer::unknown;
 
