@@ -1,41 +1,38 @@
 // A candidate: corrections and an inverse worked out in f64 from the normal equations, which the check has yet to judge.
 ghost use Prim.Native.Nat.{_≤_};
 ghost use lib.ListN.{length};
+ghost use Rattle.layout.specs.Layout.{bookBytes};
 use super::inverse::invert;
 use super::rounding::load;
 use super::rounding::store;
 use super::rounding::store_rows;
 use super::solution::solve;
+use normals::Normals;
 
-// The corrections to the first n places of x.
-fn corrections(work: &[f64], right: &[i64], n: usize, x: &mut [i64])
-    requires { ⌜ (4608 ≤ length (now work)) × (n ≤ 48) ⌝ }
-    requires { ⌜ (48 ≤ length (now right)) × (48 ≤ length (now x)) ⌝ }
+// The corrections to the first n places of x, from the u of the book that the bytes hold.
+fn corrections(s: &[u8], work: &[f64], n: usize, x: &mut [i64])
+    requires { ⌜ bookBytes ≤ length (now s) ⌝ }
+    requires { ⌜ (4608 ≤ length (now work)) × (n ≤ 48) × (48 ≤ length (now x)) ⌝ }
 {
-    let mut u = [0.0; 48];
-    load(right, &mut u, 0, n);
-    let mut found = [0.0; 48];
+    let right = layout::right_in(s);
+    let mut u = [0.0; Normals::ROW];
+    load(&right, &mut u, 0, n);
+    let mut found = [0.0; Normals::ROW];
     solve(work, &u, &mut found, n);
     store(&found, 0, 1.0, x, 0, n);
 }
 
-// The corrections to the first n places of x and the inverse to the first n·n of m; false where N (rows of 48) is not positive definite in f64.
-pub(crate) fn candidate(
-    matrix: &[i64],
-    right: &[i64],
-    n: usize,
-    x: &mut [i64],
-    m: &mut [i64],
-    work: &mut [f64],
-) -> bool
-    requires { ⌜ (2304 ≤ length (now matrix)) × (48 ≤ length (now right)) ⌝ }
+// The corrections to the first n places of x and the inverse to the first n·n of m; false where the book's N is not positive definite in f64.
+pub(crate) fn candidate(s: &[u8], n: usize, x: &mut [i64], m: &mut [i64], work: &mut [f64]) -> bool
+    requires { ⌜ bookBytes ≤ length (now s) ⌝ }
     requires { ⌜ (48 ≤ length (now x)) × ((2304 ≤ length (now m)) × ((4608 ≤ length (now work)) × (n ≤ 48))) ⌝ }
 {
-    load(matrix, work, 0, 2304);
-    load(matrix, work, 2304, 2304);
+    let matrix = layout::matrix_in(s);
+    load(&matrix, work, 0, Normals::ENTRIES);
+    load(&matrix, work, Normals::ENTRIES, Normals::ENTRIES);
     if invert(work, n) {
         store_rows(work, m, n);
-        corrections(work, right, n, x);
+        corrections(s, work, n, x);
         return true;
     }
     false

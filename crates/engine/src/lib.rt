@@ -9,11 +9,14 @@ mod rounding;
 mod solution;
 
 use book::Book;
+use network::Unit;
+use normals::Normals;
 ghost use mathlib.Core.Path.{_≡_};
 ghost use mathlib.Core.Bool.{true};
 ghost use Prim.Native.Nat.{_*_, _≤_, _<_};
 ghost use lib.ListN.{length};
 ghost use Rattle.book.specs.Book.{sound};
+ghost use Rattle.layout.specs.Bytes.{bookOf, bytesFit};
 ghost use Rattle.checks.specs.Checks.{checked};
 ghost use Rattle.engine.specs.Proposals.{Proposed};
 
@@ -37,33 +40,30 @@ fn square(n: usize) -> usize
 }
 
 // A proposal where the lent lengths fit: a candidate worked out beside x and m, then offered.
-fn work_out(book: Book, n: usize, x: &mut [i64], m: &mut [i64], work: &mut [f64]) -> Proposal
-    requires { ⌜ sound book ≡ true ⌝ }
+fn work_out(s: &[u8], n: usize, x: &mut [i64], m: &mut [i64], work: &mut [f64]) -> Proposal
+    requires { ⌜ bytesFit (now s) ≡ true ⌝ }
     requires { ⌜ (n ≤ 48) × ((length (now x) ≡ n) × ((length (now m) ≤ 2304) × (4608 ≤ length (now work)))) ⌝ }
-    ensures { λ r. ⌜ Proposed r (checked book (now (x .exit)) (now (m .exit)) true) (now (x .entry)) (now (m .entry)) (now (x .exit)) (now (m .exit)) ⌝ }
+    ensures { λ r. ⌜ Proposed r (checked (bookOf (now (s .entry))) (now (x .exit)) (now (m .exit)) true) (now (x .entry)) (now (m .entry)) (now (x .exit)) (now (m .exit)) ⌝ }
 {
-    let normals = book.normals;
-    let matrix = normals.matrix;
-    let right = normals.right;
     let entries = m.len();
-    let mut corrections = [0i64; 48];
-    let mut inverse = [0i64; 2304];
-    if candidate::candidate(&matrix, &right, n, &mut corrections, &mut inverse, work) {
-        return offer::offer(book, &corrections[0..n], &inverse[0..entries], x, m);
+    let mut corrections = [0i64; Normals::ROW];
+    let mut inverse = [0i64; Normals::ENTRIES];
+    if candidate::candidate(s, n, &mut corrections, &mut inverse, work) {
+        return offer::offer(s, &corrections[0..n], &inverse[0..entries], x, m);
     }
     Proposal::Nothing
 }
 
-// A pair that the check accepts on this book, in x and m; or no proposal, and x and m as they came. Lent lengths other than n and n·n give no
+// A pair that the check accepts on the book that the bytes hold, in x and m; or no proposal, and x and m as they came. Lent lengths other than n and n·n give no
 // proposal, and so does a work slice shorter than WORK. What the work slice holds afterwards is free.
-pub fn propose(book: Book, x: &mut [i64], m: &mut [i64], work: &mut [f64]) -> Proposal
-    requires { ⌜ sound book ≡ true ⌝ }
-    ensures { λ r. ⌜ Proposed r (checked book (now (x .exit)) (now (m .exit)) true) (now (x .entry)) (now (m .entry)) (now (x .exit)) (now (m .exit)) ⌝ }
+pub fn propose_in(s: &[u8], x: &mut [i64], m: &mut [i64], work: &mut [f64]) -> Proposal
+    requires { ⌜ bytesFit (now s) ≡ true ⌝ }
+    ensures { λ r. ⌜ Proposed r (checked (bookOf (now (s .entry))) (now (x .exit)) (now (m .exit)) true) (now (x .entry)) (now (m .entry)) (now (x .exit)) (now (m .exit)) ⌝ }
     ensures short { λ r. ⌜ (length (now (work .entry)) < 4608 → r ≡ Proposal.Nothing) ⌝ }
 {
-    let network = book.network;
+    let network = layout::network_in(s);
     let stations = network.stations;
-    let n = network::number_of(stations, 96);
+    let n = network::number_of(stations, Unit::COMPONENTS);
     if x.len() != n {
         return Proposal::Nothing;
     }
@@ -73,5 +73,15 @@ pub fn propose(book: Book, x: &mut [i64], m: &mut [i64], work: &mut [f64]) -> Pr
     if work.len() < WORK {
         return Proposal::Nothing;
     }
-    work_out(book, n, x, m, work)
+    work_out(s, n, x, m, work)
+}
+
+// The same on a book by value.
+pub fn propose(book: Book, x: &mut [i64], m: &mut [i64], work: &mut [f64]) -> Proposal
+    requires { ⌜ sound book ≡ true ⌝ }
+    ensures { λ r. ⌜ Proposed r (checked book (now (x .exit)) (now (m .exit)) true) (now (x .entry)) (now (m .entry)) (now (x .exit)) (now (m .exit)) ⌝ }
+    ensures short { λ r. ⌜ (length (now (work .entry)) < 4608 → r ≡ Proposal.Nothing) ⌝ }
+{
+    let s = layout::book_bytes(book);
+    propose_in(&s, x, m, work)
 }

@@ -1,15 +1,10 @@
-use mathlib.Core.Path.{_≡_}
+-- The lent lengths meet what a candidate asks, and the parts of the corrections and of the inverse that are offered are as long as x and m.
 use native.Mathlib.Omega.{arith}
-use lib.ListN.{length, length-take}
+use lib.ListN.{length-take}
 use borrow.Author.Needs.{needs}
+use Rattle.layout.specs.CodecLaws.{fits-room}
 use Rattle.engine.proofs.work_out.Statement.{statement}
 use Rattle.engine.proofs.work_out.Tie as tie
-
-matrix-length : (c : tie.Start) → length (c .args .book .normals .matrix) ≡ 2304
-matrix-length c = search needs
-
-right-length : (c : tie.Start) → length (c .args .book .normals .right) ≡ 48
-right-length c = search needs
 
 slice-aggregate-candidate : tie.Need-slice-aggregate-candidate
 slice-aggregate-candidate c = search needs
@@ -17,18 +12,11 @@ slice-aggregate-candidate c = search needs
 slice-aggregate-candidate-2 : tie.Need-slice-aggregate-candidate-2
 slice-aggregate-candidate-2 c = search needs
 
-slice-aggregate-candidate-3 : tie.Need-slice-aggregate-candidate-3
-slice-aggregate-candidate-3 c = search needs
-
-slice-aggregate-candidate-4 : tie.Need-slice-aggregate-candidate-4
-slice-aggregate-candidate-4 c = search needs
-
 candidate-requires : tie.Need-candidate-requires
 candidate-requires c κs =
-    let s = c .before .before .before .before .before .before .before .before .before in
-    let p = matrix-length s in
-    let q = right-length s in
-    omega arith
+    let s = c .before .before .before .before .before in
+    let g = s .pre in
+    omega (arith, fits-room _ (g .0))
 
 sub-offer : tie.Need-sub-offer
 sub-offer c = search needs
@@ -50,7 +38,7 @@ part-offer-end-2 c = search needs
 
 offer-requires : tie.Need-offer-requires
 offer-requires c κs =
-    (c .before .before .before .before .before .before .before .before .before .before .before .before .before .before .before .before .before .before .before .before .before .pre .0, (simp length-take (omega arith), simp length-take (omega arith)))
+    (c .before .before .before .before .before .before .before .before .before .before .before .before .before .before .before .before .before .pre .0, (simp length-take (omega arith), simp length-take (omega arith)))
 
 same-length : tie.Need-same-length
 same-length c = search needs
@@ -76,8 +64,6 @@ work-out-spec =
     (tie.spec
     slice-aggregate-candidate
     slice-aggregate-candidate-2
-    slice-aggregate-candidate-3
-    slice-aggregate-candidate-4
     candidate-requires
     sub-offer
     part-offer-start

@@ -1,10 +1,11 @@
+-- A candidate is copied out only where `check_in` accepted it; what is copied is what was checked.
 use mathlib.Core.Path.{sym, _∙_}
 use borrow.Author.Needs.{needs}
 use Rattle.engine.proofs.offer.offer.Statement.{statement}
 use Rattle.engine.proofs.offer.offer.Tie as tie
 
-check-requires : tie.Need-check-requires
-check-requires c κs = search needs
+check-in-requires : tie.Need-check-in-requires
+check-in-requires c κs = search needs
 
 enum-told : tie.Need-enum-told
 enum-told c = search needs
@@ -24,7 +25,7 @@ same-length-2 c = search needs
 returns : tie.Need-returns
 returns c =
     let s = c .before .before .before .before in
-    rw (s .copy .ensures, c .before .copy2 .ensures) (sym (s .before .before .before .before .check .ensures) ∙ s .before .before .enum-told .given .1)
+    rw (s .copy .ensures, c .before .copy2 .ensures) (sym (s .before .before .before .before .check-in .ensures) ∙ s .before .before .enum-told .given .1)
 
 enum-told-2 : tie.Need-enum-told-2
 enum-told-2 c = search needs
@@ -36,7 +37,7 @@ pub offer-spec : {M : Type 1} → statement M
 offer-spec =
     tie.close
     (tie.spec
-    check-requires
+    check-in-requires
     enum-told
     copy-requires
     copy-requires-2
