@@ -12,6 +12,10 @@ pub record Written (before : List ℕ) (at : ℕ) (text : List ℕ) (next : ℕ)
   pub leaves : after ≡ sets before at text
   pub past : next ≡ at + length text
 
+-- a text by another name
+pub written-as : {l : List ℕ} {at : ℕ} {t u : List ℕ} {r : ℕ} {m : List ℕ} → t ≡ u → Written l at t r m → Written l at u r m
+written-as e w = rw e at w
+
 -- ════ writing one text after another is writing both
 sets-append : (l : List ℕ) (at : ℕ) (xs ys : List ℕ) → sets (sets l at xs) (at + length xs) ys ≡ sets l at (xs ++ ys)
 sets-append l at [] ys = rw add-zero
