@@ -28,8 +28,8 @@ fn is_record(r: Record) -> usize
     if network::is_empty(r) { 0 } else { 1 }
 }
 
-// The place, and a residual and a verdict for each component that the record observes.
-fn words_in(r: Record) -> usize
+// The words of a record's line: the place, and a residual and a verdict for each component that the record observes.
+pub fn words_in(r: Record) -> usize
     ensures { λ n. ⌜ n ≡ wordsOf r ⌝ }
 {
     let n = network::observations_of(r);
