@@ -1,22 +1,9 @@
-// Commands: a line of the input to what it asks, and the printed lines. Document 01's "The night print".
-mod messages;
-mod printing;
+// Commands: a line of the input to what it asks. Document 01's "The night print".
 mod reading;
 
 use book::Call;
-pub use messages::write_no_proposal;
-pub use messages::write_refused;
-pub use messages::write_refused_line;
-pub use messages::write_refused_unknown;
-pub use messages::write_unreadable_line;
 use network::Record;
 use network::Station;
-pub use printing::write_baseline;
-pub use printing::write_global;
-pub use printing::write_head;
-pub use printing::write_height;
-pub use printing::write_sheet;
-pub use printing::write_station;
 pub use reading::is_station_line;
 pub use reading::read_command;
 
@@ -37,10 +24,4 @@ pub enum Command {
 enum Entry {
     Of(i64, Record),
     Unreadable,
-}
-
-// How far a sheet is printed: the position after it, and the first word that is not printed.
-struct Printed {
-    next: usize,
-    word: usize,
 }

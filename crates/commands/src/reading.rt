@@ -5,6 +5,7 @@ use book::Call;
 use book::Change;
 use network::Kind;
 use network::Station;
+use network::Unit;
 use text::Count;
 use text::Number;
 ghost use mathlib.Core.Path.{_≡_};
@@ -17,6 +18,9 @@ ghost use Rattle.commands.specs.Commands.{exactly, levelEntry, baselineE
 ghost use Rattle.commands.specs.Commands.{counted, correctionsIn, matrixIn, stationWith, kindOf, stationOf, otherOf, letterIn, isStationLine, Obeys};
 ghost use Rattle.commands.specs.declared.Entry.the-variants as entry;
 ghost use Rattle.commands.specs.declared.Command.the-variants as command;
+
+// Entries of the matrix of a book with 48 unknowns.
+const MATRIX_ENTRIES: usize = Unit::UNKNOWNS * Unit::UNKNOWNS;
 
 // The fields after the letter at `from`: place, from, to, difference, weight.
 fn level_entry(line: &[u8], from: usize) -> Entry
@@ -57,10 +61,10 @@ fn entry_at(line: &[u8], from: usize) -> Entry
     ensures { λ r. ⌜ r ≡ entryOf (letterOf (firstField (drop from (now (line .entry))))) (restFields (drop from (now (line .entry)))) ⌝ }
 {
     let letter = text::letter_at(line, from);
-    if letter == 72 {
+    if letter == b'H' {
         return level_entry(line, from);
     }
-    if letter == 66 {
+    if letter == b'B' {
         return baseline_entry(line, from);
     }
     Entry::Unreadable
@@ -123,7 +127,7 @@ fn corrections_line(line: &[u8], x: &mut [i64]) -> Command
     requires { ⌜ 48 ≤ length (now x) ⌝ }
     ensures { λ r. ⌜ (r ≡ counted command.Corrections (correctionsIn (restFields (now (line .entry))))) × (now (x .exit) ≡ storedIn (now (x .entry)) (correctionsIn (restFields (now (line .entry))))) ⌝ }
 {
-    match text::read_rest(line, 0, 48, x) {
+    match text::read_rest(line, 0, Unit::UNKNOWNS, x) {
         Count::Unreadable => Command::Unreadable,
         Count::Numbers(n) => Command::Corrections(n),
     }
@@ -133,7 +137,7 @@ fn matrix_line(line: &[u8], m: &mut [i64]) -> Command
     requires { ⌜ 2304 ≤ length (now m) ⌝ }
     ensures { λ r. ⌜ (r ≡ counted command.Matrix (matrixIn (restFields (now (line .entry))))) × (now (m .exit) ≡ storedIn (now (m .entry)) (matrixIn (restFields (now (line .entry))))) ⌝ }
 {
-    match text::read_rest(line, 0, 2304, m) {
+    match text::read_rest(line, 0, MATRIX_ENTRIES, m) {
         Count::Unreadable => Command::Unreadable,
         Count::Numbers(n) => Command::Matrix(n),
     }
@@ -166,13 +170,13 @@ fn kind_at(line: &[u8], from: usize) -> Command
     ensures { λ r. ⌜ r ≡ kindOf (letterOf (firstField (drop from (now (line .entry))))) (numbersOf (restFields (drop from (now (line .entry))))) ⌝ }
 {
     let letter = text::letter_at(line, from);
-    if letter == 75 {
+    if letter == b'K' {
         return station_with(line, from, Kind::Known);
     }
-    if letter == 70 {
+    if letter == b'F' {
         return station_with(line, from, Kind::Free);
     }
-    if letter == 86 {
+    if letter == b'V' {
         return station_with(line, from, Kind::Height);
     }
     Command::Unreadable
@@ -220,13 +224,13 @@ fn other_line(line: &[u8], letter: u8) -> Command
     requires { ⌜ letter ≡ letterIn (now line) ⌝ }
     ensures { λ r. ⌜ r ≡ otherOf letter (restFields (now (line .entry))) ⌝ }
 {
-    if letter == 82 {
+    if letter == b'R' {
         return replace_line(line);
     }
-    if letter == 68 {
+    if letter == b'D' {
         return strike_line(line);
     }
-    if letter == 85 {
+    if letter == b'U' {
         return undo_line(line);
     }
     add(entry_at(line, 0))
@@ -248,16 +252,16 @@ pub fn read_command(
         return Command::Unreadable;
     }
     let letter = text::letter_at(line, 0);
-    if letter == 83 {
+    if letter == b'S' {
         if unopened {
             return station_line(line, read);
         }
         return Command::Unreadable;
     }
-    if letter == 88 {
+    if letter == b'X' {
         return corrections_line(line, x);
     }
-    if letter == 77 {
+    if letter == b'M' {
         return matrix_line(line, m);
     }
     other_line(line, letter)

@@ -1,0 +1,4 @@
+pub mod Rooms
+pub mod Messages
+pub mod SheetText
+pub mod SheetTextLaws

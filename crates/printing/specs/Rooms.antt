@@ -1,0 +1,56 @@
+-- The room that a printed line or the whole sheet takes, in bytes: at most so many. A number takes 21 (a sign and 20 digits), without a sign 20. Assumes nothing.
+use Prim.Native.Nat.{ℕ, _+_, _*_}
+
+-- a number with the blank after it
+abbrev pub fieldRoom : ℕ
+fieldRoom = 22
+
+-- `LOOSE`
+abbrev pub verdictRoom : ℕ
+verdictRoom = 5
+
+-- ════ the lines of a sheet, each with its LF
+-- `SHEET ` n ` RECORDS ` n ` UNKNOWNS`
+abbrev pub headRoom : ℕ
+headRoom = 67
+
+-- seven numbers
+abbrev pub stationRoom : ℕ
+stationRoom = 7 * fieldRoom
+
+-- four numbers, three verdicts
+abbrev pub baselineRoom : ℕ
+baselineRoom = 4 * fieldRoom + 3 * (verdictRoom + 1)
+
+-- two numbers, a verdict
+abbrev pub heightRoom : ℕ
+heightRoom = 2 * fieldRoom + verdictRoom + 1
+
+-- `GLOBAL `, two numbers, a verdict
+abbrev pub globalRoom : ℕ
+globalRoom = 7 + 2 * fieldRoom + verdictRoom + 1
+
+-- the longest sheet: 32 stations, 256 baselines
+abbrev pub sheetRoom : ℕ
+sheetRoom = headRoom + 32 * stationRoom + 256 * baselineRoom + globalRoom
+
+-- ════ messages, each with its LF
+-- `LINE ` k ` REFUSED ` no, the longest
+abbrev pub messageRoom : ℕ
+messageRoom = 55
+
+-- `LINE ` k ` UNREADABLE`
+abbrev pub unreadableRoom : ℕ
+unreadableRoom = 37
+
+-- `REFUSED ` no
+abbrev pub refusedRoom : ℕ
+refusedRoom = 29
+
+-- `REFUSED 11 ` unknown
+abbrev pub refusedUnknownRoom : ℕ
+refusedUnknownRoom = 32
+
+-- `NO PROPOSAL`
+abbrev pub noProposalRoom : ℕ
+noProposalRoom = 12
