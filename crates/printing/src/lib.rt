@@ -1,7 +1,9 @@
 // What the program prints: message lines, the sheet, a check, and the engine's proposal. Document 01's "The night print".
+mod checking;
 mod messages;
 mod sheet_text;
 
+pub use checking::write_check;
 pub use messages::write_no_proposal;
 pub use messages::write_refused;
 pub use messages::write_refused_line;

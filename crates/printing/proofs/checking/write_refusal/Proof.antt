@@ -1,10 +1,10 @@
--- `checking::write_refusal` goes by the number. Assumes nothing.
+-- By the number: 11 has its unknown printed too. Assumes nothing.
 use native.Mathlib.Omega.{arith}
 use borrow.Author.Tests.{eq-eqb, ne-eqb}
-use Rattle.reports.specs.Reports.{refusalSays}
+use Rattle.printing.specs.Reports.{refusalSays}
 use borrow.Author.Needs.{needs}
-use Rattle.reports.proofs.checking.write_refusal.Statement.{statement}
-use Rattle.reports.proofs.checking.write_refusal.Tie as tie
+use Rattle.printing.proofs.checking.write_refusal.Statement.{statement}
+use Rattle.printing.proofs.checking.write_refusal.Tie as tie
 
 write-refused-unknown-requires : tie.Need-write-refused-unknown-requires
 write-refused-unknown-requires c κs = search needs

@@ -1,13 +1,10 @@
 -- What a check prints, and what the engine's proposal prints. Assumes nothing.
-use Prim.Native.Nat.{ℕ, zero, suc, _≤_}
+use Prim.Native.Nat.{ℕ, _≤_}
 use mathlib.Core.Path.{_≡_}
 use mathlib.Core.Bool.{true, cond}
-use mathlib.Core.List.{List, [], _∷_, _++_}
+use mathlib.Core.List.{List}
 use lib.Dec.{eqb}
 use lib.IntN.{ℤ}
-use Rattle.network.specs.Records.{observations, isEmpty, recordAt}
-use Rattle.network.specs.declared.Place.{Place}
-use Rattle.network.specs.declared.Record.{Record}
 use Rattle.acceptance.specs.Judge.{refusalNumber, refusalUnknown}
 use Rattle.acceptance.specs.declared.Answer.{Answer}
 use Rattle.acceptance.specs.declared.Answer.the-variants.{Accepted, Refused}
@@ -15,24 +12,13 @@ use Rattle.book.specs.declared.Book.{Book}
 use Rattle.sheet.specs.Sheet.{sheetWords}
 use Rattle.checks.specs.Checks.{checked}
 use Rattle.text.specs.Writing as writing
-use Rattle.commands.specs.Messages.{refused, refusedUnknown, noProposal}
-use Rattle.commands.specs.Sheet.{sheetText}
-
--- ════ the sheet
--- the shapes of the records, by rising place: how many components each observes
-unfoldable pub shapesAt : Record → List ℕ
-shapesAt r = cond (isEmpty r) [] (observations r ∷ [])
-
-unfoldable pub shapesBelow : List Place → ℕ → List ℕ
-shapesBelow places zero = []
-shapesBelow places (suc k) = shapesBelow places k ++ shapesAt (recordAt places k)
-
-abbrev pub shapesOf : List Place → List ℕ
-shapesOf places = shapesBelow places 256
+use Rattle.printing.specs.Rooms.{sheetRoom}
+use Rattle.printing.specs.Messages.{refused, refusedUnknown, noProposal}
+use Rattle.printing.specs.SheetText.{sheetText}
 
 -- the printed sheet of a pair
 abbrev pub sheetOf : Book → List ℤ → List ℤ → List ℕ
-sheetOf b x m = sheetText (sheetWords (b .network) (b .places) x m) (b .network .count) (shapesOf (b .places))
+sheetOf b x m = sheetText (sheetWords (b .network) (b .places) x m) (b .network .count) (b .places)
 
 -- ════ a check: "A refused … check prints `REFUSED no`, for 11 also the unknown, and ends"
 unfoldable pub refusalSays : ℕ → ℕ → List ℕ
@@ -64,4 +50,4 @@ pub record Reported (b : Book) (before : List ℕ) (next : ℕ) (after : List �
   pub offer : Offer
   pub offers : Offers b offer
   pub written : writing.Written before 0 (offerSays b offer) next after
-  pub small : next ≤ 32188
+  pub small : next ≤ sheetRoom
