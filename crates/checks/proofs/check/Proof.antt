@@ -1,25 +1,26 @@
-use borrow.Author.Needs.{needs}
-use mathlib.Core.Path.{sym, _∙_}
+-- The bytes that the book writes hold it, so the answer on them is the answer on the book.
+use mathlib.Core.Path.{ap, _∙_}
 use mathlib.Core.Bool.{true}
-use Rattle.lists.specs.Filling.{length-mapped}
-use Rattle.book.specs.Sound.{Sound, sound-parts}
-use Rattle.checks.specs.CheckLaws.{fit, judge-is, checked-is}
+use borrow.Author.Needs.{needs}
+use Rattle.book.specs.declared.Book.{Book}
+use Rattle.checks.specs.Checks.{checked}
 use Rattle.checks.proofs.check.Statement.{statement}
 use Rattle.checks.proofs.check.Tie as tie
 
-sound-book : (c : tie.Start) → Sound (c .args .book)
-sound-book c = sound-parts (c .args .book) (record { places = search (needs, length-mapped); entries = search (needs, length-mapped); matrix = search needs; right = search needs }) (c .pre)
+book-bytes-requires : tie.Need-book-bytes-requires
+book-bytes-requires c κs = search needs
 
-slice-aggregate-accept : tie.Need-slice-aggregate-accept
-slice-aggregate-accept c = search needs
+slice-aggregate-check-in : tie.Need-slice-aggregate-check-in
+slice-aggregate-check-in c = search needs
 
-accept-requires : tie.Need-accept-requires
-accept-requires c κs = let s = c .before .before .before .before .before .before .before in fit (s .args .book) (sound-book s)
+check-in-requires : tie.Need-check-in-requires
+check-in-requires c κs = c .before .book-bytes .ensures .0
 
 returns : tie.Need-returns
 returns c =
-    let s = c .before .before .before .before .before .before .before .before in
-    c .accept .ensures ∙ judge-is (s .args .book) (sound-book s) (s .args .x .now) (s .args .m .now) true ∙ sym (checked-is (s .args .book) (s .pre) (s .args .x .now) (s .args .m .now) true)
+    let s = c .before .before .before in
+    c .check-in .ensures ∙ ap (λ (b : Book). checked b (s .args .x .now) (s .args .m .now) true) (c .before .before .book-bytes .ensures .1)
 
 pub check-spec : {M : Type 1} → statement M
-check-spec = tie.close (tie.spec slice-aggregate-accept accept-requires returns)
+check-spec =
+    tie.close (tie.spec book-bytes-requires slice-aggregate-check-in check-in-requires returns)
