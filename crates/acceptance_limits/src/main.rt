@@ -72,7 +72,7 @@ fn print_judged(net: Network, places: [Place; Unit::PLACES], x: &[i64], m: &[i64
         io::write_all(1, b": record against the rules\n");
         return;
     }
-    let normals = Normals::of(net, places);
+    let normals = Normals::of(net, &w);
     let matrix = normals.matrix;
     let right = normals.right;
     print_answer(acceptance::accept(net, &w, &matrix, &right, x, m, true));

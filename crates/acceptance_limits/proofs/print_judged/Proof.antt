@@ -49,8 +49,11 @@ write-all-requires-2 c κs = search needs
 returns-2 : tie.Need-returns-2
 returns-2 c = search needs
 
+slice-aggregate-of : tie.Need-slice-aggregate-of
+slice-aggregate-of c = search needs
+
 of-requires : tie.Need-of-requires
-of-requires c κs = rw (c .before .before .before .place-words .ensures) at (sound c)
+of-requires c κs = (search needs, sound (c .before))
 
 slice-aggregate-accept : tie.Need-slice-aggregate-accept
 slice-aggregate-accept c = search needs
@@ -60,9 +63,7 @@ slice-aggregate-accept-2 c = search needs
 
 accept-requires : tie.Need-accept-requires
 accept-requires c κs =
-    let t = c .before .before .before .before .before in
-    let places = t .before .before .before .before .place-words .ensures in
-    (search needs, rw (t .of .ensures, places) (fit-of _ _ (rw places at (sound (t .before)))))
+    let t = c .before .before .before .before .before in (search needs, rw (t .of .ensures) (fit-of _ _ (sound (t .before .before))))
 
 print-answer-requires : tie.Need-print-answer-requires
 print-answer-requires c κs = search needs
@@ -84,6 +85,7 @@ print-judged-spec =
     slice-aggregate-write-all-2
     write-all-requires-2
     returns-2
+    slice-aggregate-of
     of-requires
     slice-aggregate-accept
     slice-aggregate-accept-2
