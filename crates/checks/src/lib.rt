@@ -10,6 +10,7 @@ ghost use lib.ListN.{length};
 ghost use Rattle.network.specs.Places.{placesLength, placesIn};
 ghost use Rattle.book.specs.Book.{sound};
 ghost use Rattle.layout.specs.Bytes.{bookOf, bytesFit};
+ghost use Rattle.sheet.specs.Sheet.{room};
 ghost use Rattle.checks.specs.Checks.{checked, hasRoom, sheetAfter};
 
 // The seven tests on bytes that hold a book, whose stations and places are read already; N and u are read here, so that no more than the tests holds them.
@@ -39,6 +40,16 @@ pub fn check(book: Book, x: &[i64], m: &[i64]) -> Answer
 {
     let s = layout::book_bytes(book);
     check_in(&s, x, m)
+}
+
+// The words that the sheet of the book takes, on bytes that hold it.
+pub fn room_in(s: &[u8]) -> usize
+    requires { ⌜ bytesFit (now s) ≡ true ⌝ }
+    ensures { λ r. ⌜ r ≡ room (bookOf (now (s .entry)) .network) (bookOf (now (s .entry)) .places) ⌝ }
+{
+    let net = layout::network_in(s);
+    let places = layout::places_in(s);
+    sheet::room_of(net, &places)
 }
 
 // Whether a sheet of `long` words has room for `words`.

@@ -1,26 +1,31 @@
--- Lent slices of a size that fits, the words that are read of them, and what is delivered. Assumes nothing.
-use Prim.Native.Nat.{ℕ, _*_, _/_, _%_, _≤_}
-use mathlib.Core.Path.{_≡_, refl, sym, ap, _∙_}
-use mathlib.Core.Bool.{Bool, true, false, cond, _&&_}
-use mathlib.Core.List.{List}
+-- Lent slices of a size that fits, and what is delivered. Assumes nothing.
+use Prim.Native.Nat.{ℕ, _*_, _-_, _/_, _%_, _≤_}
+use mathlib.Core.Path.{_≡_, refl, ap, _∙_}
+use mathlib.Core.Bool.{Bool, true, _&&_}
+use mathlib.Core.List.{List, _++_}
+use native.Mathlib.Nat.{sub-zero}
 use native.Mathlib.Omega.{arith}
 use borrow.Author.Tests.{leb-true}
 use lib.Dec.{leb, eqb}
-use lib.ListN.{length}
+use lib.ListN.{length, take, length-append}
+use lib.Seq.{take-at, length-take-le}
+use lib.IntN.{ℤ}
 use Rattle.words.specs.Bools.{and-left, and-right}
+use Rattle.words.specs.Runs.{wordsAt}
+use Rattle.words.specs.RunLaws.{length-words}
 use Rattle.acceptance.specs.Judge.{numberOf}
 use Rattle.acceptance.specs.JudgeLaws.{refusal-least}
 use Rattle.acceptance.specs.declared.Answer.{Answer}
 use Rattle.acceptance.specs.declared.Answer.the-variants.{Accepted, Refused}
 use Rattle.book.specs.declared.Book.{Book}
 use Rattle.sheet.specs.Sheet.{room}
-use Rattle.lent_checks.specs.LentChecks.{isWhole, onAccepted, sheetFits}
+use Rattle.lent_checks.specs.LentChecks.{isWhole, xBytes, mBytes, sizesFit, onAccepted, sheetFits}
 
 -- ════ lent slices
-pub lengths-fit : (x m : List ℕ) → isWhole x && isWhole m && leb (length x) 384 && leb (length m) 18432 ≡ true → (length x ≤ 384) × (length m ≤ 18432)
+pub lengths-fit : (x m : List ℕ) → sizesFit x m ≡ true → (length x ≤ xBytes) × (length m ≤ mBytes)
 lengths-fit x m e =
-    let three = and-left (isWhole x && isWhole m && leb (length x) 384) (leb (length m) 18432) e in
-    (leb-true _ _ (and-right (isWhole x && isWhole m) (leb (length x) 384) three), leb-true _ _ (and-right (isWhole x && isWhole m && leb (length x) 384) (leb (length m) 18432) e))
+    let three = and-left (isWhole x && isWhole m && leb (length x) xBytes) (leb (length m) mBytes) e in
+    (leb-true _ _ (and-right (isWhole x && isWhole m) (leb (length x) xBytes) three), leb-true _ _ (and-right (isWhole x && isWhole m && leb (length x) xBytes) (leb (length m) mBytes) e))
 
 -- ════ what is delivered: an answer whose number is 0 is acceptance
 module _ (new old : List ℕ) where
@@ -41,13 +46,16 @@ sheet-test b o n t p q = q ∙ ap (λ (k : ℕ). eqb (length o % 8) 0 && leb k (
 pub sheet-long : (o : List ℕ) (n : ℕ) → eqb (length o % 8) 0 && leb n (length o / 8) ≡ true → 8 * n ≤ length o
 sheet-long o n e = let h : n ≤ length o / 8 = leb-true _ _ (and-right (eqb (length o % 8) 0) (leb n (length o / 8)) e) in omega arith
 
--- ════ the words that are read of a lent pair, t telling whether its sizes fit
-module _ (x m : List ℕ) where
-  pub read-few : (t : Bool) → t ≡ (isWhole x && isWhole m && leb (length x) 384 && leb (length m) 18432)
-      → (cond t (length x / 8) 0 ≤ 48) × (cond t (length m / 8) 0 ≤ 2304)
-  read-few true e = let h = lengths-fit x m (sym e) in (omega (arith, h .0), omega (arith, h .1))
-  read-few false e = (let h : 0 ≤ 48 = omega arith in h, let h : 0 ≤ 2304 = omega arith in h)
+-- ════ words read into the front of a longer list w: l is that front afterwards
+pub read-front : (s : List ℕ) (n : ℕ) (w l rest : List ℤ) → n ≤ length w → l ≡ wordsAt s 0 (length (take (n - 0) w)) → take n (l ++ rest) ≡ wordsAt s 0 n
+read-front s n w l rest room e =
+    let long : length (take (n - 0) w) ≡ n = length-take-le (n - 0) w (omega arith) ∙ sub-zero n in
+    let is : l ≡ wordsAt s 0 n = e ∙ ap (wordsAt s 0) long in
+    take-at l rest n (ap length is ∙ length-words s 0 n) ∙ is
 
-pub read-within : (t : Bool) (k : ℕ) → 8 * cond t (k / 8) 0 ≤ k
-read-within true k = let h : 8 * (k / 8) ≤ k = omega arith in h
-read-within false k = let h : 0 ≤ k = omega arith in h
+-- the front of a list, as it was put there
+pub front-kept : (n : ℕ) (l rest : List ℤ) → length l ≡ n → take (n - 0) (l ++ rest) ≡ l
+front-kept n l rest e = ap (λ (k : ℕ). take k (l ++ rest)) (sub-zero n) ∙ take-at l rest n e
+
+pub front-fits : (n : ℕ) (l rest : List ℤ) → length l ≡ n → n ≤ length (l ++ rest)
+front-fits n l rest e = rw length-append (omega arith)

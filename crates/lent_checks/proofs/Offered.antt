@@ -23,7 +23,7 @@ use Rattle.book.specs.Sound.{Sound, parts-sound}
 use Rattle.checks.specs.Checks.{checked}
 use Rattle.checks.specs.CheckLaws.{checked-is, solved, inverse}
 use Rattle.lists.specs.Stored.{fits-by}
-use Rattle.lent_checks.specs.LentChecks.{allWords, isWhole, checkedLent}
+use Rattle.lent_checks.specs.LentChecks.{allWords, isWhole, xBytes, mBytes, checkedLent}
 use Rattle.lent_checks.specs.Offers.{Offers, OffersLent, lentLengths}
 
 -- words that fill a slice of bytes are read back, and are whole
@@ -68,7 +68,7 @@ module _ (k : ℕ) (x m : List ℕ) where
       let wm : length m % 8 ≡ 0 = eqb-true _ _ (and-right (isWhole x) (isWhole m) whole) in
       (omega (arith, length-words x 0 (length x / 8), long .0), omega (arith, length-words m 0 (length m / 8), long .1))
 
-  pub lengths-most : k ≤ 48 → lentLengths k x m ≡ true → (length x ≤ 384) × (length m ≤ 18432)
+  pub lengths-most : k ≤ 48 → lentLengths k x m ≡ true → (length x ≤ xBytes) × (length m ≤ mBytes)
   lengths-most few e =
       let long = lengths-are e in
       let square = mul-le-mul few few in

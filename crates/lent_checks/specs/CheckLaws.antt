@@ -30,7 +30,7 @@ use Rattle.book.specs.Sound.{Sound, parts-sound}
 use Rattle.checks.specs.Checks.{checked, thenNine, hasRoom, onAcceptance, sheetAfter}
 use Rattle.checks.specs.Demand2.{DemandOf}
 use Rattle.checks.specs.Demand2Holds.{demand-2}
-use Rattle.lent_checks.specs.LentChecks.{allWords, isWhole, checkedLent, onAccepted}
+use Rattle.lent_checks.specs.LentChecks.{allWords, isWhole, xBytes, mBytes, sizesFit, answerMost, checkedLent, onAccepted}
 
 -- ════ test 1 fails
 pub test-1 : (b : Book) (x m : List ℤ) (r : Bool) → lengthsFit (n (b .network)) x m r ≡ false → Refused Lengths ≡ checked b x m r
@@ -47,16 +47,16 @@ module _ (b : Book) (x m : List ℕ) (r : Bool) where
       (and-no-right (eqb (length (allWords x)) k && eqb (length (allWords m)) (k * k)) _ (and-no-right (isWhole x && isWhole m) r e))
 
   -- whole words
-  pub lent-fit : isWhole x && isWhole m && leb (length x) 384 && leb (length m) 18432 ≡ true → checked b (allWords x) (allWords m) r ≡ checkedLent b x m r
+  pub lent-fit : sizesFit x m ≡ true → checked b (allWords x) (allWords m) r ≡ checkedLent b x m r
   unfolding checkedLent
   lent-fit e =
-      let whole : isWhole x && isWhole m ≡ true = and-left _ _ (and-left (isWhole x && isWhole m && leb (length x) 384) (leb (length m) 18432) e) in
+      let whole : isWhole x && isWhole m ≡ true = and-left _ _ (and-left (isWhole x && isWhole m && leb (length x) xBytes) (leb (length m) mBytes) e) in
       ap (λ (t : Bool). checked b (allWords x) (allWords m) (t && r)) (sym whole)
 
 module _ (b : Book) (o : Sound b) (x m : List ℕ) (r : Bool) where
   -- slices that pass it hold whole words, and no more than a book can ask for
   passed : lengthsFit (n (b .network)) (allWords x) (allWords m) (isWhole x && isWhole m && r) ≡ true
-      → isWhole x && isWhole m && leb (length x) 384 && leb (length m) 18432 ≡ true
+      → sizesFit x m ≡ true
   unfolding lengthsFit
   passed e =
       let k = n (b .network) in
@@ -66,15 +66,15 @@ module _ (b : Book) (o : Sound b) (x m : List ℕ) (r : Bool) where
       let wx : length x % 8 ≡ 0 = eqb-true _ _ (and-left (isWhole x) (isWhole m) whole) in
       let wm : length m % 8 ≡ 0 = eqb-true _ _ (and-right (isWhole x) (isWhole m) whole) in
       and-both _ _
-      (and-both _ _ whole (le-leb _ _ (let h : length x ≤ 384 = omega (arith, length-words x 0 (length x / 8), long .0) in h)))
-      (le-leb _ _ (let h : length m ≤ 18432 = omega (arith, length-words m 0 (length m / 8), long .1, mul-le-mul few few) in h))
+      (and-both _ _ whole (le-leb _ _ (let h : length x ≤ xBytes = omega (arith, length-words x 0 (length x / 8), long .0) in h)))
+      (le-leb _ _ (let h : length m ≤ mBytes = omega (arith, length-words m 0 (length m / 8), long .1, mul-le-mul few few) in h))
 
-  pub lent-unfit : isWhole x && isWhole m && leb (length x) 384 && leb (length m) 18432 ≡ false → Refused Lengths ≡ checkedLent b x m r
+  pub lent-unfit : sizesFit x m ≡ false → Refused Lengths ≡ checkedLent b x m r
   unfolding checkedLent
   lent-unfit e = test-1 b (allWords x) (allWords m) (isWhole x && isWhole m && r) (⊎-elim (λ t. clash (passed t) e) (λ f. f) (true-or-false _))
 
   -- ════ how large an answer is
-  pub lent-small : numberOf (checkedLent b x m r) + 256 * unknownOf (checkedLent b x m r) < 100000
+  pub lent-small : numberOf (checkedLent b x m r) + 256 * unknownOf (checkedLent b x m r) ≤ answerMost
   unfolding checkedLent
   lent-small =
       let a = checkedLent b x m r in
@@ -83,7 +83,7 @@ module _ (b : Book) (o : Sound b) (x m : List ℕ) (r : Bool) where
       fits : Bool
       fits = isWhole x && isWhole m && r
 
-      go : (a : Answer) → DemandOf b (allWords x) (allWords m) fits a → Dec (numberOf a ≡ 11) → numberOf a + 256 * unknownOf a < 100000
+      go : (a : Answer) → DemandOf b (allWords x) (allWords m) fits a → Dec (numberOf a ≡ 11) → numberOf a + 256 * unknownOf a ≤ answerMost
       go a j (yes e) =
           let f = j .untied e in
           omega (arith, number-small (b .network .stations) (f .station * 3 + f .component), f .numbered, f .inside .0, f .inside .1)

@@ -1,13 +1,10 @@
 -- Laws of the check distance on a lent pair: the words that are read give the answer of the whole slices, and how large the unknown of an answer is. Assumes nothing.
-use Prim.Native.Nat.{ℕ, _*_, _/_, _<_, _≤_}
+use Prim.Native.Nat.{ℕ, _*_, _≤_}
 use mathlib.Core.Path.{_≡_, refl, sym, ap, _∙_}
-use mathlib.Core.Bool.{Bool, true, false, cond, _&&_}
+use mathlib.Core.Bool.{Bool, true, false, cond}
 use mathlib.Core.List.{List, []}
 use native.Mathlib.Omega.{arith}
 use borrow.Author.Tests.{ne-eqb}
-use lib.Dec.{leb}
-use lib.ListN.{length}
-use Rattle.words.specs.Runs.{wordsAt}
 use Rattle.network.specs.Rules.{endsFit}
 use Rattle.network.specs.RuleLaws.{sound-stations}
 use Rattle.network.specs.declared.Network.{Network}
@@ -25,7 +22,7 @@ use Rattle.distances.specs.declared.Agreement.{Agreement}
 use Rattle.distances.specs.declared.Agreement.the-variants.{Refused as refused}
 use Rattle.distances.specs.declared.DistanceRefusal.the-variants.{Ends, Range}
 use Rattle.distances.specs.Distances.{distanceInRange, agreesAt, onPair, unlessRefused, agreement, agreementUnknown}
-use Rattle.lent_checks.specs.LentChecks.{allWords, isWhole, checkedLent}
+use Rattle.lent_checks.specs.LentChecks.{allWords, sizesFit, answerMost, checkedLent}
 use Rattle.lent_checks.specs.LentDistances.{agreementLent}
 use Rattle.lent_checks.specs.CheckLaws.{lent-fit, lent-unfit, lent-small, test-1}
 
@@ -39,7 +36,7 @@ empty-refused b o =
 
 module _ (b : Book) (o : Sound b) (x m : List ℕ) (d : CheckDistance) where
   -- all of them, where the sizes fit
-  read-all : isWhole x && isWhole m && leb (length x) 384 && leb (length m) 18432 ≡ true → agreement b (allWords x) (allWords m) d ≡ agreementLent b x m d
+  pub read-all : sizesFit x m ≡ true → agreement b (allWords x) (allWords m) d ≡ agreementLent b x m d
   unfolding agreement agreementLent
   read-all e = ap (λ (a : Answer). unlessRefused (b .network) d (onPair a (agreesAt (b .network .stations) (allWords x) d))) (lent-fit b x m true e)
 
@@ -48,20 +45,13 @@ module _ (b : Book) (o : Sound b) (x m : List ℕ) (d : CheckDistance) where
   unfolding onPair
   refused-alike t u = refl
 
-  read-none : isWhole x && isWhole m && leb (length x) 384 && leb (length m) 18432 ≡ false → agreement b [] [] d ≡ agreementLent b x m d
+  pub read-none : sizesFit x m ≡ false → agreement b [] [] d ≡ agreementLent b x m d
   unfolding agreement agreementLent
   read-none e =
       let none : checked b [] [] true ≡ Refused Lengths = sym (empty-refused b o) in
       let lent : Refused Lengths ≡ checkedLent b x m true = lent-unfit b o x m true e in
       ap (λ (g : Agreement). unlessRefused (b .network) d g)
       (ap (λ (a : Answer). onPair a (agreesAt (b .network .stations) [] d)) none ∙ refused-alike _ _ ∙ ap (λ (a : Answer). onPair a (agreesAt (b .network .stations) (allWords x) d)) lent)
-
-  -- so many words of each slice as are read, t telling whether the sizes fit
-  pub distance-read : (t : Bool) → t ≡ (isWhole x && isWhole m && leb (length x) 384 && leb (length m) 18432)
-      → agreement b (wordsAt x 0 (cond t (length x / 8) 0)) (wordsAt m 0 (cond t (length m / 8) 0)) d ≡ agreementLent b x m d
-  unfolding wordsAt
-  distance-read true e = read-all (sym e)
-  distance-read false e = read-none (sym e)
 
 -- ════ the unknown of an answer is that of the check's
 pair-unknown : (a : Answer) (t : Bool) → agreementUnknown (onPair a t) ≡ unknownOf a
@@ -70,17 +60,17 @@ pair-unknown Accepted true = refl
 pair-unknown Accepted false = refl
 pair-unknown (Refused r) t = refl
 
-refused-unknown : (net : Network) (d : CheckDistance) (next : Agreement) (k : ℕ) → 256 * agreementUnknown next < k → 0 < k → 256 * agreementUnknown (unlessRefused net d next) < k
+refused-unknown : (net : Network) (d : CheckDistance) (next : Agreement) (k : ℕ) → 256 * agreementUnknown next ≤ k → 256 * agreementUnknown (unlessRefused net d next) ≤ k
 unfolding unlessRefused
-refused-unknown net d next k h l = go (endsFit (net .count) (d .from) (d .to)) (distanceInRange d)
+refused-unknown net d next k h = go (endsFit (net .count) (d .from) (d .to)) (distanceInRange d)
   where
-    go : (s t : Bool) → 256 * agreementUnknown (cond s (cond t next (refused Range)) (refused Ends)) < k
+    go : (s t : Bool) → 256 * agreementUnknown (cond s (cond t next (refused Range)) (refused Ends)) ≤ k
     go true true = h
-    go true false = l
-    go false t = l
+    go true false = omega arith
+    go false t = omega arith
 
-pub distance-small : (b : Book) → Sound b → (x m : List ℕ) (d : CheckDistance) → 256 * agreementUnknown (agreementLent b x m d) < 100000
+pub distance-small : (b : Book) → Sound b → (x m : List ℕ) (d : CheckDistance) → 256 * agreementUnknown (agreementLent b x m d) ≤ answerMost
 unfolding agreementLent
 distance-small b o x m d =
     let a = checkedLent b x m true in
-    refused-unknown (b .network) d _ 100000 (let h = lent-small b o x m true in let e = pair-unknown a (agreesAt (b .network .stations) (allWords x) d) in omega arith) (omega arith)
+    refused-unknown (b .network) d _ answerMost (let h = lent-small b o x m true in let e = pair-unknown a (agreesAt (b .network .stations) (allWords x) d) in omega arith)

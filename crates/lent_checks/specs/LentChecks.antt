@@ -20,6 +20,21 @@ allWords s = wordsAt s 0 (length s / 8)
 abbrev pub isWhole : List ℕ → Bool
 isWhole s = eqb (length s % 8) 0
 
+-- what a book can ask for at most, in bytes: 48 corrections, and a matrix of 48 by 48
+abbrev pub xBytes : ℕ
+xBytes = 384
+
+abbrev pub mBytes : ℕ
+mBytes = 18432
+
+-- whole words, and no more than that
+abbrev pub sizesFit : List ℕ → List ℕ → Bool
+sizesFit x m = isWhole x && isWhole m && leb (length x) xBytes && leb (length m) mBytes
+
+-- the largest answer: a number up to 16, and the number of an unknown, which is at most that of the 96 components
+abbrev pub answerMost : ℕ
+answerMost = 24592
+
 -- "A refusal returns its number, and for 11 also the first unknown without a chain": 11 + 256 · the unknown
 unfoldable pub answerWord : Answer → ℤ
 answerWord a = pos (numberOf a + 256 * unknownOf a)

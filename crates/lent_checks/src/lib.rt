@@ -1,4 +1,4 @@
-// Checks, check distances and proposals for a book, with x, M and the sheet in lent bytes: words of 8 bytes, little-endian. Nothing here knows the layout of a book.
+// Checks, check distances and proposals on bytes that hold a book, with x, M and the sheet in lent bytes: words of 8 bytes, little-endian.
 mod checking;
 mod distance;
 mod proposing;

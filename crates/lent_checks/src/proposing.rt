@@ -1,34 +1,34 @@
 // A proposal for a book, to lent bytes.
 use super::checking;
-use book::Book;
 use engine::Proposal;
+use network::Unit;
 ghost use mathlib.Core.Path.{_≡_};
 ghost use mathlib.Core.Bool.{true};
 ghost use Prim.Native.Nat.{_*_, _≤_};
 ghost use lib.ListN.{length};
-ghost use Rattle.book.specs.Book.{sound};
+ghost use Rattle.layout.specs.Bytes.{bookOf, bytesFit};
 ghost use Rattle.lent_checks.specs.Offers.{Offers, OffersLent, lentLengths};
 
 // What the engine works in.
-fn work_room() -> [f64; 4608]
+fn work_room() -> [f64; engine::WORK]
     ensures { λ r. ⌜ 4608 ≡ length r ⌝ }
 {
-    [0.0; 4608]
+    [0.0; engine::WORK]
 }
 
 // A proposal for x and m of whole words, as many as xs and ms hold.
 fn propose_words(
-    b: Book,
+    book: &[u8],
     x: &mut [u8],
     m: &mut [u8],
     xs: &mut [i64],
     ms: &mut [i64],
     work: &mut [f64],
 ) -> i64
-    requires { ⌜ (sound b ≡ true) × (8 * length (now xs) ≡ length (now x)) × (8 * length (now ms) ≡ length (now m)) ⌝ }
-    ensures { λ r. ⌜ Offers b r (now (x .entry)) (now (m .entry)) (now (x .exit)) (now (m .exit)) ⌝ }
+    requires { ⌜ (bytesFit (now book) ≡ true) × (8 * length (now xs) ≡ length (now x)) × (8 * length (now ms) ≡ length (now m)) ⌝ }
+    ensures { λ r. ⌜ Offers (bookOf (now (book .entry))) r (now (x .entry)) (now (m .entry)) (now (x .exit)) (now (m .exit)) ⌝ }
 {
-    let p = engine::propose(b, xs, ms, work);
+    let p = engine::propose_in(book, xs, ms, work);
     match p {
         Proposal::Made => {
             words::write_words(x, 0, xs);
@@ -49,13 +49,13 @@ fn lengths_fit(n: usize, x: &[u8], m: &[u8]) -> bool
 }
 
 // A proposal, or 10 where the lengths do not fit.
-pub fn propose_lent(b: Book, x: &mut [u8], m: &mut [u8]) -> i64
-    requires { ⌜ sound b ≡ true ⌝ }
-    ensures { λ r. ⌜ OffersLent b r (now (x .entry)) (now (m .entry)) (now (x .exit)) (now (m .exit)) ⌝ }
+pub fn propose_lent(book: &[u8], x: &mut [u8], m: &mut [u8]) -> i64
+    requires { ⌜ bytesFit (now book) ≡ true ⌝ }
+    ensures { λ r. ⌜ OffersLent (bookOf (now (book .entry))) r (now (x .entry)) (now (m .entry)) (now (x .exit)) (now (m .exit)) ⌝ }
 {
-    let net = b.network;
+    let net = layout::network_in(book);
     let stations = net.stations;
-    let n = network::number_of(stations, 96);
+    let n = network::number_of(stations, Unit::COMPONENTS);
     if !lengths_fit(n, x, m) {
         return 10;
     }
@@ -64,5 +64,5 @@ pub fn propose_lent(b: Book, x: &mut [u8], m: &mut [u8]) -> i64
     let mut xs = checking::corrections();
     let mut ms = checking::inverse();
     let mut work = work_room();
-    propose_words(b, x, m, &mut xs[0..i], &mut ms[0..j], &mut work)
+    propose_words(book, x, m, &mut xs[0..i], &mut ms[0..j], &mut work)
 }

@@ -1,113 +1,143 @@
+-- All words of the pair are read, and the words that are delivered are those of the room that the sheet takes. Assumes nothing.
 use Prim.Native.Nat.{ℕ, _-_, _/_, _≤_}
-use mathlib.Core.Path.{_≡_, ap₂, _∙_}
+use mathlib.Core.Path.{_≡_, sym, ap, ap₂, _∙_}
+use mathlib.Core.List.{List}
 use native.Mathlib.Nat.{sub-zero}
+use native.Mathlib.Omega.{arith}
+use borrow.Author.Needs.{needs}
+use borrow.Rule.Slice.PartMut.{postOf}
+use denote.Ref.{now}
 use lib.ListN.{length, take}
 use lib.Seq.{length-take-le}
-use Rattle.words.specs.Runs.{wordsAt, putWords}
-use Rattle.sheet.specs.Sheet.{room}
-use Rattle.checks.specs.Checks.{checked, hasRoom, sheetAfter}
-use Rattle.lent_checks.specs.LentChecks.{allWords, onAccepted}
-use native.Mathlib.Omega.{arith}
-use denote.Ref.{now}
-use Rattle.lists.specs.Filling.{length-mapped}
+use lib.IntN.{ℤ}
+use Rattle.words.specs.Runs.{putWords}
 use Rattle.network.specs.RuleLaws.{network-few}
-use Rattle.book.specs.Sound.{Sound, sound-parts}
+use Rattle.layout.specs.Bytes.{bookOf}
+use Rattle.layout.specs.CodecLaws.{fits-sound}
+use Rattle.sheet.specs.Sheet.{room}
 use Rattle.sheet.specs.Totals.{room-small}
+use Rattle.acceptance.specs.declared.Answer.{Answer}
+use Rattle.checks.specs.Checks.{checked, hasRoom, sheetAfter}
+use Rattle.lent_checks.specs.LentChecks.{xBytes, mBytes, allWords, onAccepted}
 use Rattle.lent_checks.specs.CheckLaws.{sheet-done}
-use Rattle.lent_checks.proofs.Answers.{lengths-fit}
-use borrow.Author.Needs.{needs}
+use Rattle.lent_checks.proofs.Answers.{lengths-fit, front-kept, front-fits}
 use Rattle.lent_checks.proofs.checking.sheet_lent.Statement.{statement}
 use Rattle.lent_checks.proofs.checking.sheet_lent.Tie as tie
 
-sound-book : (s : tie.Start) → Sound (s .args .b)
-sound-book s =
-    sound-parts (s .args .b) (record { places = search (needs, length-mapped); entries = search (needs, length-mapped); matrix = search needs; right = search needs }) (s .pre .0)
+few : (s : tie.Start) → (length (now (s .args .x)) ≤ xBytes) × (length (now (s .args .m)) ≤ mBytes)
+few s = lengths-fit (now (s .args .x)) (now (s .args .m)) (s .pre .3)
 
-corrections-requires : tie.Need-corrections-requires
-corrections-requires c κs = search needs
+words-few : (s : tie.Start) → s .args .n ≤ 2021
+words-few s =
+    let book = now (s .args .book) in
+    let b = bookOf book in
+    omega (arith, s .pre .1, room-small (b .network) (b .places) (network-few (b .network) (fits-sound book (s .pre .0) .network)))
 
-inverse-requires : tie.Need-inverse-requires
-inverse-requires c κs = search needs
+-- the words lent to the check, and those it leaves
+lent-long : (o : tie.After-sheet-room) → length (take (o .before .before .before .before .before .before .before .args .n - 0) (o .sheet-room .result)) ≡ o .before .before .before .before .before .before .before .args .n
+lent-long o =
+    let s = o .before .before .before .before .before .before .before in
+    length-take-le (s .args .n - 0) (o .sheet-room .result) (let h : s .args .n - 0 ≤ length (o .sheet-room .result) = omega (arith, words-few s, o .sheet-room .ensures) in h) ∙ sub-zero (s .args .n)
+
+left-long : (k : tie.After-check-sheet-in) → length (k .check-sheet-in .last .1 .1 .1 .0) ≡ k .before .before .before .before .before .before .before .before .before .before .before .before .before .args .n
+left-long k = k .check-sheet-in .kept .1 .1 .1 .0 ∙ lent-long (k .before .before .before .before .before .before)
+
+corrections-in-requires : tie.Need-corrections-in-requires
+corrections-in-requires c κs = few (c .before .before .before .before) .0
+
+matrix-in-requires : tie.Need-matrix-in-requires
+matrix-in-requires c κs = few (c .before .before .before .before .before) .1
 
 sheet-room-requires : tie.Need-sheet-room-requires
 sheet-room-requires c κs = search needs
 
-sub-sheet-words : tie.Need-sub-sheet-words
-sub-sheet-words c = search needs
+sub-check-sheet-in : tie.Need-sub-check-sheet-in
+sub-check-sheet-in c = search needs
 
-part-xs-start : tie.Need-part-xs-start
-part-xs-start c = search needs
+part-check-sheet-in-start : tie.Need-part-check-sheet-in-start
+part-check-sheet-in-start c = search needs
 
-part-xs-end : tie.Need-part-xs-end
-part-xs-end c = omega (arith, lengths-fit (now (c .before .before .before .before .before .before .args .x)) (now (c .before .before .before .before .before .before .args .m)) (c .before .before .before .before .before .before .pre .3), c .before .before .corrections .ensures)
+part-check-sheet-in-end : tie.Need-part-check-sheet-in-end
+part-check-sheet-in-end c = omega (arith, few (c .before .before .before .before .before .before .before .before))
 
-sub-sheet-words-2 : tie.Need-sub-sheet-words-2
-sub-sheet-words-2 c = search needs
+sub-check-sheet-in-2 : tie.Need-sub-check-sheet-in-2
+sub-check-sheet-in-2 c = search needs
 
-part-ms-start : tie.Need-part-ms-start
-part-ms-start c = search needs
+part-check-sheet-in-start-2 : tie.Need-part-check-sheet-in-start-2
+part-check-sheet-in-start-2 c = search needs
 
-part-ms-end : tie.Need-part-ms-end
-part-ms-end c = omega (arith, lengths-fit (now (c .before .before .before .before .before .before .before .args .x)) (now (c .before .before .before .before .before .before .before .args .m)) (c .before .before .before .before .before .before .before .pre .3), c .before .before .inverse .ensures)
+part-check-sheet-in-end-2 : tie.Need-part-check-sheet-in-end-2
+part-check-sheet-in-end-2 c = omega (arith, few (c .before .before .before .before .before .before .before .before .before .before))
 
-sub-sheet-words-3 : tie.Need-sub-sheet-words-3
-sub-sheet-words-3 c = search needs
+sub-check-sheet-in-3 : tie.Need-sub-check-sheet-in-3
+sub-check-sheet-in-3 c = search needs
 
 part-ws-start : tie.Need-part-ws-start
 part-ws-start c = search needs
 
 part-ws-end : tie.Need-part-ws-end
-part-ws-end c =
-    let s = c .before .before .before .before .before .before .before .before in
-    let b = s .args .b in
-    omega (arith, s .pre .1, room-small (b .network) (b .places) (network-few (b .network) (sound-book s .network)), c .before .before .sheet-room .ensures)
+part-ws-end c = omega (arith, words-few (c .before .before .before .before .before .before .before .before .before .before .before), c .before .before .before .before .sheet-room .ensures)
 
-sheet-words-requires : tie.Need-sheet-words-requires
-sheet-words-requires c κs = search needs
+check-sheet-in-requires : tie.Need-check-sheet-in-requires
+check-sheet-in-requires c κs = search needs
+
+sub-deliver : tie.Need-sub-deliver
+sub-deliver c = search needs
+
+part-deliver-start : tie.Need-part-deliver-start
+part-deliver-start c = search needs
+
+part-deliver-end : tie.Need-part-deliver-end
+part-deliver-end c =
+    let k = c .before .before .before in
+    front-fits _ (k .check-sheet-in .last .1 .1 .1 .0) (postOf 0 (k .before .before .before .before .before .before .before .before .before .before .before .before .before .args .n - 0) (k .before .before .before .before .before .before .sheet-room .result)) (left-long k)
+
+deliver-requires : tie.Need-deliver-requires
+deliver-requires c κs = search needs
 
 same-length : tie.Need-same-length
 same-length c = search needs
 
 returns : tie.Need-returns
 returns c =
-    let s = c .before .before .before .before .before .before .before .before .before .before .before .before .before .before .before .before in
-    let b = s .args .b in
+    let d = c .before .before .deliver in
+    let k = c .before .before .before .before .before .before .before in
+    let o = k .before .before .before .before .before .before in
+    let m′ = o .before in
+    let x′ = m′ .before in
+    let s = o .before .before .before .before .before .before .before in
+    let b = bookOf (now (s .args .book)) in
     let x = now (s .args .x) in
     let m = now (s .args .m) in
     let out = now (s .args .out) in
-    let few = lengths-fit x m (s .pre .3) in
-    let p = c .before .before .before .before .before .before .before .before .before .before .before .before .corrections in
-    let q = c .before .before .before .before .before .before .before .before .before .before .before .inverse in
-    let o = c .before .before .before .before .before .before .before .before .before .before .sheet-room in
-    let small = room-small (b .network) (b .places) (network-few (b .network) (sound-book s .network)) in
-    let roomx : length x / 8 - 0 ≤ length (p .result) = omega (arith, p .ensures) in
-    let roomm : length m / 8 - 0 ≤ length (q .result) = omega (arith, q .ensures) in
-    let roomw : s .args .n - 0 ≤ length (o .result) = omega (arith, s .pre .1, o .ensures) in
-    let lx = length-take-le (length x / 8 - 0) (p .result) roomx ∙ sub-zero (length x / 8) in
-    let lm = length-take-le (length m / 8 - 0) (q .result) roomm ∙ sub-zero (length m / 8) in
-    let w = take (s .args .n - 0) (o .result) in
-    let lw : length w ≡ room (b .network) (b .places) = length-take-le (s .args .n - 0) (o .result) roomw ∙ sub-zero (s .args .n) ∙ s .pre .1 in
-    let e = c .before .before .before .before .before .sheet-words in
-    sheet-done b (allWords x) (allWords m) w lw (e .result) out _
-    (e .ensures .0 ∙ ap₂ (λ (i j : ℕ). checked b (wordsAt x 0 i) (wordsAt m 0 j) (hasRoom b w)) lx lm)
-    (e .ensures .1 ∙ ap₂ (λ (i j : ℕ). onAccepted (e .result) (putWords out 0 (sheetAfter b (wordsAt x 0 i) (wordsAt m 0 j) w)) out) lx lm)
+    let w = take (s .args .n - 0) (o .sheet-room .result) in
+    let xs = ap (λ (n : ℕ). take n (x′ .corrections-in .result)) (sub-zero (length x / 8)) ∙ x′ .corrections-in .ensures in
+    let ms = ap (λ (n : ℕ). take n (m′ .matrix-in .result)) (sub-zero (length m / 8)) ∙ m′ .matrix-in .ensures in
+    let left = front-kept _ _ _ (left-long k) ∙ k .check-sheet-in .ensures .1 ∙ ap₂ (λ (y z : List ℤ). sheetAfter b y z w) xs ms in
+    sheet-done b (allWords x) (allWords m) w (lent-long o ∙ s .pre .1) (d .result) out _
+    (d .ensures .0 ∙ k .check-sheet-in .ensures .0 ∙ ap₂ (λ (y z : List ℤ). checked b y z (hasRoom b w)) xs ms)
+    (d .ensures .1 ∙ ap₂ (λ (a : Answer) (v : List ℤ). onAccepted a (putWords out 0 v) out) (sym (d .ensures .0)) left)
 
 pub sheet-lent-spec : {M : Type 1} → statement M
 sheet-lent-spec =
     tie.close
     (tie.spec
-    corrections-requires
-    inverse-requires
+    corrections-in-requires
+    matrix-in-requires
     sheet-room-requires
-    sub-sheet-words
-    part-xs-start
-    part-xs-end
-    sub-sheet-words-2
-    part-ms-start
-    part-ms-end
-    sub-sheet-words-3
+    sub-check-sheet-in
+    part-check-sheet-in-start
+    part-check-sheet-in-end
+    sub-check-sheet-in-2
+    part-check-sheet-in-start-2
+    part-check-sheet-in-end-2
+    sub-check-sheet-in-3
     part-ws-start
     part-ws-end
-    sheet-words-requires
+    check-sheet-in-requires
+    sub-deliver
+    part-deliver-start
+    part-deliver-end
+    deliver-requires
     same-length
     returns)

@@ -1,5 +1,6 @@
+-- Lengths that fit are those of the book's unknowns, so the room is enough for what the engine makes. Assumes nothing.
 use Prim.Native.Nat.{_-_, _/_, _≤_}
-use mathlib.Core.Path.{_≡_, sym, _∙_}
+use mathlib.Core.Path.{_≡_, sym, ap, _∙_}
 use mathlib.Core.Bool.{true}
 use native.Mathlib.Omega.{arith}
 use borrow.Author.Tests.{not-true, not-false}
@@ -8,29 +9,34 @@ use mir.Syntax.{w64}
 use mir.Facts.{toZ-ofZ}
 use lib.ListN.{length}
 use lib.Seq.{length-take-le}
-use Rattle.lists.specs.Filling.{length-mapped}
 use Rattle.network.specs.RuleLaws.{sound-stations}
-use Rattle.book.specs.Sound.{Sound, sound-parts}
+use Rattle.acceptance.specs.Exactly.{n}
+use Rattle.layout.specs.Bytes.{bookOf}
+use Rattle.layout.specs.CodecLaws.{fits-room, fits-sound}
+use Rattle.lent_checks.specs.LentChecks.{xBytes, mBytes}
 use Rattle.lent_checks.specs.Offers.{lentLengths}
 use Rattle.lent_checks.proofs.Offered.{lengths-are, lengths-most, offers-none, offers-some}
 use borrow.Author.Needs.{needs, sfits-of}
 use Rattle.lent_checks.proofs.proposing.propose_lent.Statement.{statement}
 use Rattle.lent_checks.proofs.proposing.propose_lent.Tie as tie
 
-sound-book : (s : tie.Start) → Sound (s .args .b)
-sound-book s =
-    sound-parts (s .args .b) (record { places = search (needs, length-mapped); entries = search (needs, length-mapped); matrix = search needs; right = search needs }) (s .pre)
+is : (a : tie.After-number-of) → a .number-of .result ≡ n (bookOf (now (a .before .before .before .before .before .before .args .book)) .network)
+is a = a .number-of .ensures ∙ ap n (a .before .before .network-in .ensures)
 
 few : (a : tie.After-number-of) → a .number-of .result ≤ 48
 few a =
-    let s = a .before .before .before .before .before in
-    omega (arith, a .number-of .ensures, sound-stations (s .args .b .network) (sound-book s .network) .few)
+    let s = a .before .before .before .before .before .before in
+    let book = now (s .args .book) in
+    omega (arith, is a, sound-stations (bookOf book .network) (fits-sound book (s .pre) .network) .few)
 
-fit : (e : tie.Else1) → lentLengths (e .before .before .before .before .number-of .result) (now (e .before .before .before .before .before .before .before .before .before .args .x)) (now (e .before .before .before .before .before .before .before .before .before .args .m)) ≡ true
+fit : (e : tie.Else1) → lentLengths (e .before .before .before .before .number-of .result) (now (e .before .before .before .before .before .before .before .before .before .before .args .x)) (now (e .before .before .before .before .before .before .before .before .before .before .args .m)) ≡ true
 fit e = sym (e .before .lengths-fit .ensures) ∙ not-false _ (e .if1 .left)
 
-most : (e : tie.Else1) → (length (now (e .before .before .before .before .before .before .before .before .before .args .x)) ≤ 384) × (length (now (e .before .before .before .before .before .before .before .before .before .args .m)) ≤ 18432)
+most : (e : tie.Else1) → (length (now (e .before .before .before .before .before .before .before .before .before .before .args .x)) ≤ xBytes) × (length (now (e .before .before .before .before .before .before .before .before .before .before .args .m)) ≤ mBytes)
 most e = lengths-most _ _ _ (few (e .before .before .before .before)) (fit e)
+
+network-in-requires : tie.Need-network-in-requires
+network-in-requires c κs = fits-room _ (c .before .before .before .pre)
 
 number-of-requires : tie.Need-number-of-requires
 number-of-requires c κs = search needs
@@ -45,7 +51,7 @@ same-length-2 : tie.Need-same-length-2
 same-length-2 c = search needs
 
 returns : tie.Need-returns
-returns c = offers-none _ _ _ _ (c .before .before .before .before .number-of .ensures) (sym (c .before .lengths-fit .ensures) ∙ not-true _ (c .if1 .taken))
+returns c = offers-none _ _ _ _ (is (c .before .before .before .before)) (sym (c .before .lengths-fit .ensures) ∙ not-true _ (c .if1 .taken))
 
 corrections-requires : tie.Need-corrections-requires
 corrections-requires c κs = search needs
@@ -80,7 +86,7 @@ slice-aggregate-propose-words c = search needs
 propose-words-requires : tie.Need-propose-words-requires
 propose-words-requires c κs =
     let e = c .before .before .before .before .before .before .before .before in
-    let s = e .before .before .before .before .before .before .before .before .before in
+    let s = e .before .before .before .before .before .before .before .before .before .before in
     let x = now (s .args .x) in
     let m = now (s .args .m) in
     let p = c .before .before .before .before .before .before .before .corrections in
@@ -100,12 +106,13 @@ returns-2 : tie.Need-returns-2
 returns-2 c =
     let e = c .before .before .before .before .before .before .before .before .before .before .before .before .before .before .before .before in
     let p = c .before .before .before .before .before .before .before .propose-words in
-    offers-some _ _ _ (e .before .before .before .before .before .before .before .before .before .args .b) (e .before .before .before .before .number-of .ensures) (p .result) _ _ _ (toZ-ofZ {w = w64} {z = p .result} (sfits-of (p .ok))) (fit e) (p .ensures)
+    offers-some _ _ _ (bookOf (now (e .before .before .before .before .before .before .before .before .before .before .args .book))) (is (e .before .before .before .before)) (p .result) _ _ _ (toZ-ofZ {w = w64} {z = p .result} (sfits-of (p .ok))) (fit e) (p .ensures)
 
 pub propose-lent-spec : {M : Type 1} → statement M
 propose-lent-spec =
     tie.close
     (tie.spec
+    network-in-requires
     number-of-requires
     lengths-fit-requires
     same-length
