@@ -6,7 +6,6 @@ use mathlib.Core.List.{List}
 use lib.IntN.{pos}
 use Rattle.words.specs.Runs.{putWords}
 use Rattle.acceptance.specs.declared.Answer.{Answer}
-use Rattle.book.specs.declared.Book.{Book}
 use Rattle.sheet.specs.Sheet.{sheetWords}
 use Rattle.distances.specs.declared.CheckDistance.{CheckDistance}
 use Rattle.distances.specs.declared.Agreement.{Agreement}
@@ -21,10 +20,10 @@ module _ (s x m : List ℕ) where
   unfolding checkCall
   check-unfit e = sym (ap (λ (t : Bool). cond t (answerWord (checkedLent (bookOf s) x m true)) (pos 25)) e)
 
-  pub check-fit : (b : Book) (a : Answer) → bytesFit s ≡ true → b ≡ bookOf s → a ≡ checkedLent b x m true → answerWord a ≡ checkCall s x m
+  pub check-fit : (a : Answer) → bytesFit s ≡ true → a ≡ checkedLent (bookOf s) x m true → answerWord a ≡ checkCall s x m
   unfolding checkCall
-  check-fit b a e p q =
-      ap answerWord (q ∙ ap (λ (y : Book). checkedLent y x m true) p) ∙ sym (ap (λ (t : Bool). cond t (answerWord (checkedLent (bookOf s) x m true)) (pos 25)) e)
+  check-fit a e q =
+      ap answerWord q ∙ sym (ap (λ (t : Bool). cond t (answerWord (checkedLent (bookOf s) x m true)) (pos 25)) e)
 
 -- ════ a check with a sheet
 module _ (s x m o : List ℕ) where
@@ -35,15 +34,13 @@ module _ (s x m o : List ℕ) where
   unfolding sheetCall
   sheet-unfit e = let p = sym (ap tested e) in (ap (λ (j : Judged). j .answer) p, ap (λ (j : Judged). j .sheet) p)
 
-  pub sheet-fit : (b : Book) (a : Answer) (t : List ℕ) → bytesFit s ≡ true → b ≡ bookOf s → a ≡ checkedLent b x m (sheetFits b o)
-      → t ≡ onAccepted a (putWords o 0 (sheetWords (b .network) (b .places) (allWords x) (allWords m))) o → (answerWord a ≡ sheetCall s x m o .answer) × (t ≡ sheetCall s x m o .sheet)
+  pub sheet-fit : (a : Answer) (t : List ℕ) → bytesFit s ≡ true → a ≡ checkedLent (bookOf s) x m (sheetFits (bookOf s) o)
+      → t ≡ onAccepted a (putWords o 0 (sheetWords (bookOf s .network) (bookOf s .places) (allWords x) (allWords m))) o → (answerWord a ≡ sheetCall s x m o .answer) × (t ≡ sheetCall s x m o .sheet)
   unfolding sheetCall
-  sheet-fit b a t e p q r =
-      let f = sym (ap tested e) in
-      let is = q ∙ ap (λ (y : Book). checkedLent y x m (sheetFits y o)) p in (
-        ap answerWord is ∙ ap (λ (j : Judged). j .answer) f,
-        r ∙ ap (λ (y : Book). onAccepted a (putWords o 0 (sheetWords (y .network) (y .places) (allWords x) (allWords m))) o) p
-            ∙ ap (λ (y : Answer). onAccepted y (putWords o 0 (sheetWords (bookOf s .network) (bookOf s .places) (allWords x) (allWords m))) o) is
+  sheet-fit a t e q r =
+      let f = sym (ap tested e) in (
+        ap answerWord q ∙ ap (λ (j : Judged). j .answer) f,
+        r ∙ ap (λ (y : Answer). onAccepted y (putWords o 0 (sheetWords (bookOf s .network) (bookOf s .places) (allWords x) (allWords m))) o) q
             ∙ ap (λ (j : Judged). j .sheet) f,
       )
 
@@ -53,6 +50,6 @@ module _ (s x m : List ℕ) (d : CheckDistance) where
   unfolding distanceCall
   distance-unfit e = rw e
 
-  pub distance-fit : (b : Book) (a : Agreement) → bytesFit s ≡ true → b ≡ bookOf s → a ≡ agreementLent b x m d → agreementWord a ≡ distanceCall s x m d
+  pub distance-fit : (a : Agreement) → bytesFit s ≡ true → a ≡ agreementLent (bookOf s) x m d → agreementWord a ≡ distanceCall s x m d
   unfolding distanceCall
-  distance-fit b a e p q = rw e (ap agreementWord (q ∙ ap (λ (y : Book). agreementLent y x m d) p))
+  distance-fit a e q = rw e (ap agreementWord q)

@@ -5,14 +5,9 @@ use mathlib.Core.Bool.{true}
 use mathlib.Core.List.{List}
 use lib.IntN.{ℤ}
 use Rattle.words.specs.Bools.{clash}
-use Rattle.book.specs.declared.Book.{Book}
 use Rattle.lent_checks.specs.Offers.{OffersLent}
 use Rattle.layout.specs.Bytes.{bookOf, bytesFit}
 use Rattle.dombrelat.specs.Proposal.{Proposes}
 
-pub proposed : (s : List ℕ) (b : Book) (r r′ : ℤ) (x m x′ m′ : List ℕ) → bytesFit s ≡ true → b ≡ bookOf s → r′ ≡ r → OffersLent b r x m x′ m′ → Proposes s r′ x m x′ m′
-proposed s b r r′ x m x′ m′ e p q o =
-    record {
-      unfit = λ f. clash e f;
-      fit = λ f. subst (λ (y : Book). OffersLent y r′ x m x′ m′) p (subst (λ (z : ℤ). OffersLent b z x m x′ m′) (sym q) o);
-    }
+pub proposed : (s : List ℕ) (r r′ : ℤ) (x m x′ m′ : List ℕ) → bytesFit s ≡ true → r′ ≡ r → OffersLent (bookOf s) r x m x′ m′ → Proposes s r′ x m x′ m′
+proposed s r r′ x m x′ m′ e q o = record { unfit = λ f. clash e f; fit = λ f. subst (λ (z : ℤ). OffersLent (bookOf s) z x m x′ m′) (sym q) o }

@@ -17,7 +17,6 @@ use Rattle.network.specs.Records.{recordAt}
 use Rattle.network.specs.Rules.{inList}
 use Rattle.network.specs.RuleLaws.{network-few}
 use Rattle.network.specs.declared.Network.{Network}
-use Rattle.network.specs.declared.Place.{Place}
 use Rattle.network.specs.declared.Record.{Record}
 use Rattle.sheet.specs.Sheet.{room}
 use Rattle.words.specs.Concat.{concatBelow, concatBelow-front, concatBelow-ext}
@@ -43,10 +42,9 @@ module _ (s : List ℕ) where
   unfolding sheetBytesCall
   sheet-bytes-unfit e = rw e
 
-  pub sheet-bytes-fit : (net : Network) (places : List Place) (n : ℕ) → bytesFit s ≡ true → net ≡ bookOf s .network → places ≡ bookOf s .places → n ≡ room net places
-      → numbered (8 * n) ≡ sheetBytesCall s
+  pub sheet-bytes-fit : (n : ℕ) → bytesFit s ≡ true → n ≡ room (bookOf s .network) (bookOf s .places) → numbered (8 * n) ≡ sheetBytesCall s
   unfolding sheetBytesCall
-  sheet-bytes-fit net places n e p q r = rw e (ap (λ (k : ℕ). numbered (8 * k)) (r ∙ ap₂ room p q))
+  sheet-bytes-fit n e r = rw e (ap (λ (k : ℕ). numbered (8 * k)) r)
 
 -- ════ words at the front of a slice
 module _ (number : ℕ) (w : List ℤ) (out : List ℕ) where

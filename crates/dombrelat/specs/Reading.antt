@@ -22,6 +22,10 @@ use Rattle.dombrelat.specs.Calls.{Returned, refused}
 abbrev pub numbered : ℕ → ℤ
 numbered number = pos (256 * number)
 
+-- the largest number that is given: the bytes of the longest sheet, 8 · 2,021
+abbrev pub numberMost : ℕ
+numberMost = 16168
+
 -- the number of unknowns
 unfoldable pub unknownsCall : List ℕ → ℤ
 unknownsCall s = cond (bytesFit s) (numbered (unknownCount (bookOf s .network .stations))) (pos 25)

@@ -11,8 +11,7 @@ pub extern "C" fn dombrelat_check(book: &[u8], x: &[u8], m: &[u8]) -> i64
     if !layout::holds_book(book) {
         return 25;
     }
-    let b = layout::book_in(book);
-    let a = lent_checks::check_lent(b, x, m);
+    let a = lent_checks::check_lent(book, x, m);
     lent_checks::answer_word(a)
 }
 
@@ -25,8 +24,7 @@ pub extern "C" fn dombrelat_check_sheet(book: &[u8], x: &[u8], m: &[u8], out: &m
     if !layout::holds_book(book) {
         return 25;
     }
-    let b = layout::book_in(book);
-    let a = lent_checks::check_sheet_lent(b, x, m, out);
+    let a = lent_checks::check_sheet_lent(book, x, m, out);
     lent_checks::answer_word(a)
 }
 
@@ -48,7 +46,6 @@ pub extern "C" fn dombrelat_check_distance(
     if !layout::holds_book(book) {
         return 25;
     }
-    let b = layout::book_in(book);
     let d = CheckDistance {
         from,
         to,
@@ -57,6 +54,6 @@ pub extern "C" fn dombrelat_check_distance(
         target,
         tolerance,
     };
-    let a = lent_checks::check_distance_lent(b, x, m, d);
+    let a = lent_checks::check_distance_lent(book, x, m, d);
     lent_checks::agreement_word(a)
 }

@@ -9,6 +9,5 @@ pub extern "C" fn dombrelat_propose(book: &[u8], x: &mut [u8], m: &mut [u8]) -> 
     if !layout::holds_book(book) {
         return 25;
     }
-    let b = layout::book_in(book);
-    lent_checks::propose_lent(b, x, m)
+    lent_checks::propose_lent(book, x, m)
 }

@@ -1,11 +1,12 @@
 // The C calls that read a book: its unknowns, the size of its sheet, its station list and its records.
+use network::Unit;
 ghost use mathlib.Core.Path.{_≡_};
 ghost use Prim.Native.Nat.{_≤_};
-ghost use Rattle.dombrelat.specs.Reading.{numbered, gives, unknownsCall, sheetBytesCall, stationsCall, recordCall};
+ghost use Rattle.dombrelat.specs.Reading.{numbered, numberMost, gives, unknownsCall, sheetBytesCall, stationsCall, recordCall};
 
 // The result of a call that gives a number.
 fn numbered_word(number: usize) -> i64
-    requires { ⌜ number ≤ 20000 ⌝ }
+    requires { ⌜ number ≤ numberMost ⌝ }
     ensures { λ r. ⌜ r ≡ numbered number ⌝ }
 {
     (256 * number) as i64
@@ -13,7 +14,7 @@ fn numbered_word(number: usize) -> i64
 
 // The words w at the front of the bytes, where they have room.
 fn give(number: usize, w: &[i64], out: &mut [u8]) -> i64
-    requires { ⌜ number ≤ 20000 ⌝ }
+    requires { ⌜ number ≤ numberMost ⌝ }
     ensures { λ r. ⌜ (r ≡ gives number (now (w .entry)) (now (out .entry)) .answer) × (now (out .exit) ≡ gives number (now (w .entry)) (now (out .entry)) .bytes) ⌝ }
 {
     if out.len() / 8 < w.len() {
@@ -33,7 +34,7 @@ pub extern "C" fn dombrelat_unknowns(book: &[u8]) -> i64
     }
     let net = layout::network_in(book);
     let stations = net.stations;
-    let n = network::number_of(stations, 96);
+    let n = network::number_of(stations, Unit::COMPONENTS);
     numbered_word(n)
 }
 
@@ -45,10 +46,7 @@ pub extern "C" fn dombrelat_sheet_bytes(book: &[u8]) -> i64
     if !layout::holds_book(book) {
         return 25;
     }
-    let net = layout::network_in(book);
-    let b = layout::book_in(book);
-    let places = b.places;
-    let n = sheet::room_of(net, places);
+    let n = checks::room_in(book);
     numbered_word(8 * n)
 }
 
@@ -77,8 +75,8 @@ pub extern "C" fn dombrelat_record(book: &[u8], place: i64, out: &mut [u8]) -> i
     if !layout::holds_book(book) {
         return 25;
     }
-    let i = words::index_in(place, 256);
-    if i >= 256 {
+    let i = words::index_in(place, Unit::PLACES);
+    if i >= Unit::PLACES {
         return 2;
     }
     let r = layout::record_in(book, i);

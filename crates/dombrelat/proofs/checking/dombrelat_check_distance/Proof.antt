@@ -1,3 +1,4 @@
+-- Bytes that hold no book are answered with 25; else the answer is that of the book that they hold, as the call's word. Assumes nothing.
 use mir.Syntax.{w64}
 use mir.Facts.{toZ-ofZ}
 use mathlib.Core.Path.{_≡_, sym, ap, _∙_}
@@ -5,10 +6,8 @@ use mathlib.Core.Bool.{true}
 use borrow.Author.Tests.{not-true, not-false}
 use denote.Ref.{now}
 use Rattle.lists.specs.Stored.{stored}
-use Rattle.book.specs.Book.{sound}
 use Rattle.distances.specs.declared.CheckDistance.{CheckDistance}
 use Rattle.layout.specs.Bytes.{bytesFit}
-use Rattle.layout.specs.CodecLaws.{fits-room, fits-tested}
 use Rattle.dombrelat.specs.CheckCalls.{distanceOf, distanceCall}
 use Rattle.dombrelat.proofs.Answers.{distance-unfit, distance-fit}
 use borrow.Author.Needs.{needs, sfits-of}
@@ -24,11 +23,8 @@ holds-book-requires c κs = search needs
 returns : tie.Need-returns
 returns c = distance-unfit _ _ _ _ (sym (c .before .holds-book .ensures) ∙ not-true _ (c .if1 .taken))
 
-book-in-requires : tie.Need-book-in-requires
-book-in-requires c κs = fits-room _ (fit c)
-
 check-distance-lent-requires : tie.Need-check-distance-lent-requires
-check-distance-lent-requires c κs = ap sound (c .book-in .ensures) ∙ fits-tested _ (fit (c .before))
+check-distance-lent-requires c κs = fit c
 
 agreement-word-requires : tie.Need-agreement-word-requires
 agreement-word-requires c κs = search needs
@@ -42,13 +38,13 @@ distance-is c =
 
 returns-2 : tie.Need-returns-2
 returns-2 c =
-    let s = c .before .before .before .before .before .before .before .before in
+    let s = c .before .before .before .before .before .before .before in
     toZ-ofZ {w = w64} {z = c .agreement-word .result} (sfits-of (c .agreement-word .ok))
     ∙ c .agreement-word .ensures
-    ∙ distance-fit _ _ _ _ _ _ (fit (c .before .before .before)) (c .before .before .book-in .ensures) (c .before .check-distance-lent .ensures .0)
+    ∙ distance-fit _ _ _ _ _ (fit (c .before .before)) (c .before .check-distance-lent .ensures .0)
     ∙ ap (λ (d : CheckDistance). distanceCall (now (s .args .book)) (now (s .args .x)) (now (s .args .m)) d) (distance-is s)
 
 pub dombrelat-check-distance-spec : {M : Type 1} → statement M
 dombrelat-check-distance-spec =
     tie.close
-    (tie.spec holds-book-requires returns book-in-requires check-distance-lent-requires agreement-word-requires returns-2)
+    (tie.spec holds-book-requires returns check-distance-lent-requires agreement-word-requires returns-2)

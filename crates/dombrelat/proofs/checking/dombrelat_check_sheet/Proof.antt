@@ -1,12 +1,11 @@
-use mathlib.Core.Path.{_≡_, sym, ap, _∙_}
+-- Bytes that hold no book are answered with 25; else the answer is that of the book that they hold, as the call's word. Assumes nothing.
+use mathlib.Core.Path.{_≡_, sym, _∙_}
 use mathlib.Core.Bool.{true}
 use denote.Ref.{now}
 use borrow.Author.Tests.{not-true, not-false}
 use mir.Syntax.{w64}
 use mir.Facts.{toZ-ofZ}
-use Rattle.book.specs.Book.{sound}
 use Rattle.layout.specs.Bytes.{bytesFit}
-use Rattle.layout.specs.CodecLaws.{fits-room, fits-tested}
 use Rattle.dombrelat.proofs.Answers.{sheet-unfit, sheet-fit}
 use borrow.Author.Needs.{needs, sfits-of}
 use Rattle.dombrelat.proofs.checking.dombrelat_check_sheet.Statement.{statement}
@@ -21,11 +20,8 @@ holds-book-requires c κs = search needs
 returns : tie.Need-returns
 returns c = sheet-unfit _ _ _ _ (sym (c .before .holds-book .ensures) ∙ not-true _ (c .if1 .taken))
 
-book-in-requires : tie.Need-book-in-requires
-book-in-requires c κs = fits-room _ (fit c)
-
 check-sheet-lent-requires : tie.Need-check-sheet-lent-requires
-check-sheet-lent-requires c κs = ap sound (c .before .book-in .ensures) ∙ fits-tested _ (fit (c .before .before))
+check-sheet-lent-requires c κs = fit (c .before)
 
 answer-word-requires : tie.Need-answer-word-requires
 answer-word-requires c κs = search needs
@@ -36,7 +32,7 @@ same-length c = search needs
 returns-2 : tie.Need-returns-2
 returns-2 c =
     let p = c .before .before .before .check-sheet-lent in
-    let e = sheet-fit _ _ _ _ _ _ _ (fit (c .before .before .before .before .before .before)) (c .before .before .before .before .before .book-in .ensures) (p .ensures .0 .0) (p .ensures .1) in
+    let e = sheet-fit _ _ _ _ _ _ (fit (c .before .before .before .before .before)) (p .ensures .0 .0) (p .ensures .1) in
     (toZ-ofZ {w = w64} {z = c .answer-word .result} (sfits-of (c .answer-word .ok)) ∙ c .answer-word .ensures ∙ e .0, e .1)
 
 pub dombrelat-check-sheet-spec : {M : Type 1} → statement M
@@ -45,7 +41,6 @@ dombrelat-check-sheet-spec =
     (tie.spec
     holds-book-requires
     returns
-    book-in-requires
     check-sheet-lent-requires
     answer-word-requires
     same-length

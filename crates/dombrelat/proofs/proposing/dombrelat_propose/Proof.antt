@@ -1,13 +1,12 @@
-use mathlib.Core.Path.{_≡_, refl, sym, ap, _∙_}
+-- Bytes that hold no book are answered with 25; else the answer is that of the book that they hold, as the call's word. Assumes nothing.
+use mathlib.Core.Path.{_≡_, refl, sym, _∙_}
 use mathlib.Core.Bool.{true}
 use denote.Ref.{now}
 use borrow.Author.Tests.{not-true, not-false}
 use mir.Syntax.{w64}
 use mir.Facts.{toZ-ofZ}
 use Rattle.words.specs.Bools.{clash}
-use Rattle.book.specs.Book.{sound}
 use Rattle.layout.specs.Bytes.{bytesFit}
-use Rattle.layout.specs.CodecLaws.{fits-room, fits-tested}
 use Rattle.dombrelat.proofs.Offered.{proposed}
 use borrow.Author.Needs.{needs, sfits-of}
 use Rattle.dombrelat.proofs.proposing.dombrelat_propose.Statement.{statement}
@@ -22,11 +21,8 @@ holds-book-requires c κs = search needs
 returns : tie.Need-returns
 returns c = record { unfit = λ e. (refl, refl, refl); fit = λ e. clash e (sym (c .before .holds-book .ensures) ∙ not-true _ (c .if1 .taken)) }
 
-book-in-requires : tie.Need-book-in-requires
-book-in-requires c κs = fits-room _ (fit c)
-
 propose-lent-requires : tie.Need-propose-lent-requires
-propose-lent-requires c κs = ap sound (c .before .before .book-in .ensures) ∙ fits-tested _ (fit (c .before .before .before))
+propose-lent-requires c κs = fit (c .before .before)
 
 same-length : tie.Need-same-length
 same-length c = search needs
@@ -37,7 +33,7 @@ same-length-2 c = search needs
 returns-2 : tie.Need-returns-2
 returns-2 c =
     let p = c .before .before .before .before .propose-lent in
-    proposed _ _ (p .result) _ _ _ _ _ (fit (c .before .before .before .before .before .before .before .before)) (c .before .before .before .before .before .before .before .book-in .ensures) (toZ-ofZ {w = w64} {z = p .result} (sfits-of (p .ok))) (p .ensures)
+    proposed _ (p .result) _ _ _ _ _ (fit (c .before .before .before .before .before .before .before)) (toZ-ofZ {w = w64} {z = p .result} (sfits-of (p .ok))) (p .ensures)
 
 pub dombrelat-propose-spec : {M : Type 1} → statement M
 dombrelat-propose-spec =
@@ -45,7 +41,6 @@ dombrelat-propose-spec =
     (tie.spec
     holds-book-requires
     returns
-    book-in-requires
     propose-lent-requires
     same-length
     same-length-2
