@@ -1,20 +1,21 @@
 // The engine: a solution proposed in f64, over a lent work slice, and passed through the check before it is given.
 //
 // `candidate` works a pair out from N and u: the inverse (`inverse`), rounded to whole numbers (`rounding`), and the corrections (`solution`).
-// `offer` has the check judge it, and writes only an accepted pair.
+// `work_out` has the check judge it; only an accepted pair is given.
 mod candidate;
 mod inverse;
-mod offer;
 mod rounding;
 mod solution;
 
+use acceptance::Answer;
 use book::Book;
 use network::Unit;
 use normals::Normals;
 ghost use mathlib.Core.Path.{_≡_};
 ghost use mathlib.Core.Bool.{true};
 ghost use Prim.Native.Nat.{_*_, _≤_, _<_};
-ghost use lib.ListN.{length};
+ghost use lib.ListN.{length, take};
+ghost use Rattle.acceptance.specs.declared.Answer.the-variants.{Accepted};
 ghost use Rattle.book.specs.Book.{sound};
 ghost use Rattle.layout.specs.Bytes.{bookOf, bytesFit};
 ghost use Rattle.checks.specs.Checks.{checked};
@@ -39,19 +40,38 @@ fn square(n: usize) -> usize
     n * n
 }
 
-// A proposal where the lent lengths fit: a candidate worked out beside x and m, then offered.
-fn work_out(s: &[u8], n: usize, x: &mut [i64], m: &mut [i64], work: &mut [f64]) -> Proposal
+// Works a pair out in the lent room, and has the check judge its first n and n·n numbers: true where they are accepted. What the room holds is free but for that.
+pub fn work_out(s: &[u8], n: usize, x: &mut [i64], m: &mut [i64], work: &mut [f64]) -> bool
     requires { ⌜ bytesFit (now s) ≡ true ⌝ }
-    requires { ⌜ (n ≤ 48) × ((length (now x) ≡ n) × ((length (now m) ≤ 2304) × (4608 ≤ length (now work)))) ⌝ }
+    requires { ⌜ (n ≤ 48) × (48 ≤ length (now x)) × (2304 ≤ length (now m)) × (4608 ≤ length (now work)) ⌝ }
+    ensures { λ r. ⌜ (r ≡ true → checked (bookOf (now (s .entry))) (take n (now (x .exit))) (take (n * n) (now (m .exit))) true ≡ Accepted) ⌝ }
+{
+    if !candidate::candidate(s, n, x, m, work) {
+        return false;
+    }
+    let entries = square(n);
+    let answer = checks::check_in(s, &x[0..n], &m[0..entries]);
+    if let Answer::Accepted = answer {
+        return true;
+    }
+    false
+}
+
+// A proposal where the lent lengths fit: a pair worked out beside x and m, and copied to them where it is accepted.
+fn propose_beside(s: &[u8], n: usize, x: &mut [i64], m: &mut [i64], work: &mut [f64]) -> Proposal
+    requires { ⌜ bytesFit (now s) ≡ true ⌝ }
+    requires { ⌜ (n ≤ 48) × (length (now x) ≡ n) × (length (now m) ≡ n * n) × (4608 ≤ length (now work)) ⌝ }
     ensures { λ r. ⌜ Proposed r (checked (bookOf (now (s .entry))) (now (x .exit)) (now (m .exit)) true) (now (x .entry)) (now (m .entry)) (now (x .exit)) (now (m .exit)) ⌝ }
 {
     let entries = m.len();
     let mut corrections = [0i64; Normals::ROW];
     let mut inverse = [0i64; Normals::ENTRIES];
-    if candidate::candidate(s, n, &mut corrections, &mut inverse, work) {
-        return offer::offer(s, &corrections[0..n], &inverse[0..entries], x, m);
+    if !work_out(s, n, &mut corrections, &mut inverse, work) {
+        return Proposal::Nothing;
     }
-    Proposal::Nothing
+    lists::copy(&corrections[0..n], x);
+    lists::copy(&inverse[0..entries], m);
+    Proposal::Made
 }
 
 // A pair that the check accepts on the book that the bytes hold, in x and m; or no proposal, and x and m as they came. Lent lengths other than n and n·n give no
@@ -73,7 +93,7 @@ pub fn propose_in(s: &[u8], x: &mut [i64], m: &mut [i64], work: &mut [f64]) -> P
     if work.len() < WORK {
         return Proposal::Nothing;
     }
-    work_out(s, n, x, m, work)
+    propose_beside(s, n, x, m, work)
 }
 
 // The same on a book by value.

@@ -1,10 +1,9 @@
 // A proposal for a book, to lent bytes.
 use super::checking;
-use engine::Proposal;
 use network::Unit;
 ghost use mathlib.Core.Path.{_≡_};
 ghost use mathlib.Core.Bool.{true};
-ghost use Prim.Native.Nat.{_*_, _≤_};
+ghost use Prim.Native.Nat.{_≤_};
 ghost use lib.ListN.{length};
 ghost use Rattle.layout.specs.Bytes.{bookOf, bytesFit};
 ghost use Rattle.lent_checks.specs.Offers.{Offers, OffersLent, lentLengths};
@@ -16,29 +15,6 @@ fn work_room() -> [f64; engine::WORK]
     [0.0; engine::WORK]
 }
 
-// A proposal for x and m of whole words, as many as xs and ms hold.
-fn propose_words(
-    book: &[u8],
-    x: &mut [u8],
-    m: &mut [u8],
-    xs: &mut [i64],
-    ms: &mut [i64],
-    work: &mut [f64],
-) -> i64
-    requires { ⌜ (bytesFit (now book) ≡ true) × (8 * length (now xs) ≡ length (now x)) × (8 * length (now ms) ≡ length (now m)) ⌝ }
-    ensures { λ r. ⌜ Offers (bookOf (now (book .entry))) r (now (x .entry)) (now (m .entry)) (now (x .exit)) (now (m .exit)) ⌝ }
-{
-    let p = engine::propose_in(book, xs, ms, work);
-    match p {
-        Proposal::Made => {
-            words::write_words(x, 0, xs);
-            words::write_words(m, 0, ms);
-            0
-        }
-        Proposal::Nothing => -1,
-    }
-}
-
 // x and m hold n and n·n whole words.
 fn lengths_fit(n: usize, x: &[u8], m: &[u8]) -> bool
     requires { ⌜ n ≤ 48 ⌝ }
@@ -46,6 +22,24 @@ fn lengths_fit(n: usize, x: &[u8], m: &[u8]) -> bool
 {
     let entries = n * n;
     (x.len() / 8 == n) & (m.len() / 8 == entries) & (x.len() % 8 == 0) & (m.len() % 8 == 0)
+}
+
+// A proposal for a book of n unknowns and lengths that fit it. It is worked out beside the lent bytes, which are written only where it is accepted.
+fn propose_words(book: &[u8], n: usize, x: &mut [u8], m: &mut [u8]) -> i64
+    requires { ⌜ (bytesFit (now book) ≡ true) × (n ≤ 48) × (lentLengths n (now x) (now m) ≡ true) ⌝ }
+    ensures { λ r. ⌜ Offers (bookOf (now (book .entry))) r (now (x .entry)) (now (m .entry)) (now (x .exit)) (now (m .exit)) ⌝ }
+{
+    let i = x.len() / 8;
+    let j = m.len() / 8;
+    let mut xs = checking::corrections();
+    let mut ms = checking::inverse();
+    let mut work = work_room();
+    if !engine::work_out(book, n, &mut xs, &mut ms, &mut work) {
+        return -1;
+    }
+    words::write_words(x, 0, &xs[0..i]);
+    words::write_words(m, 0, &ms[0..j]);
+    0
 }
 
 // A proposal, or 10 where the lengths do not fit.
@@ -59,10 +53,5 @@ pub fn propose_lent(book: &[u8], x: &mut [u8], m: &mut [u8]) -> i64
     if !lengths_fit(n, x, m) {
         return 10;
     }
-    let i = x.len() / 8;
-    let j = m.len() / 8;
-    let mut xs = checking::corrections();
-    let mut ms = checking::inverse();
-    let mut work = work_room();
-    propose_words(book, x, m, &mut xs[0..i], &mut ms[0..j], &mut work)
+    propose_words(book, n, x, m)
 }

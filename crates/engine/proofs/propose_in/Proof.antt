@@ -1,4 +1,4 @@
--- Lengths that do not fit leave x and m as they came; else a book that bytes hold has at most 48 unknowns (`few`), which is what `work_out` asks.
+-- Lengths that do not fit leave x and m as they came; else a book that bytes hold has at most 48 unknowns (`few`), which is what `propose_beside` asks.
 use Prim.Native.Nat.{_≤_}
 use native.Mathlib.Omega.{arith}
 use Rattle.network.specs.RuleLaws.{sound-stations}
@@ -32,8 +32,8 @@ returns-2 c = search needs
 returns-3 : tie.Need-returns-3
 returns-3 c = search needs
 
-work-out-requires : tie.Need-work-out-requires
-work-out-requires c κs =
+propose-beside-requires : tie.Need-propose-beside-requires
+propose-beside-requires c κs =
     let e = c .before .before .before in
     let n = few (e .before .before .before .before) in
     (c .before .before .before .before .before .before .before .before .before .before .before .before .pre, omega arith)
@@ -48,7 +48,7 @@ same-length-3 : tie.Need-same-length-3
 same-length-3 c = search needs
 
 returns-4 : tie.Need-returns-4
-returns-4 c = (c .before .before .before .before .work-out .ensures, λ h. absurd (omega arith))
+returns-4 c = (c .before .before .before .before .propose-beside .ensures, λ h. absurd (omega arith))
 
 pub propose-in-spec : {M : Type 1} → statement M
 propose-in-spec =
@@ -60,7 +60,7 @@ propose-in-spec =
     square-requires
     returns-2
     returns-3
-    work-out-requires
+    propose-beside-requires
     same-length
     same-length-2
     same-length-3

@@ -14,7 +14,6 @@ use Rattle.words.specs.Runs.{putWords}
 use Rattle.network.specs.RuleLaws.{network-few}
 use Rattle.layout.specs.Bytes.{bookOf}
 use Rattle.layout.specs.CodecLaws.{fits-sound}
-use Rattle.sheet.specs.Sheet.{room}
 use Rattle.sheet.specs.Totals.{room-small}
 use Rattle.acceptance.specs.declared.Answer.{Answer}
 use Rattle.checks.specs.Checks.{checked, hasRoom, sheetAfter}
