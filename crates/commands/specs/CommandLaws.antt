@@ -32,7 +32,7 @@ use Rattle.commands.specs.declared.Entry.{Entry}
 use Rattle.commands.specs.declared.Entry.the-variants as entry
 use Rattle.commands.specs.declared.Command.{Command}
 use Rattle.commands.specs.declared.Command.the-variants.{Call, Corrections, Matrix, Unreadable}
-use Rattle.commands.specs.Commands.{exactly, levelEntry, entryOf, added, replaced, replaceOf, undoOf, counted, correctionsIn, matrixIn, stationWith, kindOf, inTurn, stationOf, otherOf, fieldsCommand, letterIn, commandOf, isStationLine, keptCommand, correctionsAfter, matrixAfter, Obeys}
+use Rattle.commands.specs.Commands.{letter-S, letter-X, letter-M, longestLine, exactly, levelEntry, entryOf, added, replaced, replaceOf, undoOf, counted, correctionsIn, matrixIn, stationWith, kindOf, inTurn, stationOf, otherOf, fieldsCommand, letterIn, commandOf, isStationLine, keptCommand, correctionsAfter, matrixAfter, Obeys}
 
 -- all of a list is stored over
 sets-all : (out vs : List ℤ) → length vs ≡ length out → sets out 0 vs ≡ vs
@@ -217,76 +217,76 @@ module _ (read : ℕ) (unopened : Bool) (line : List ℕ) (over : Bool) (x m : L
   obeys-cut o e = record { asks = rw (o, e); corrections = rw o; matrix = rw o }
 
   module _ (o : over ≡ false) (letter : ℕ) (is : letter ≡ letterIn line) where
-    module _ (e : letter ≡ 83) where
+    module _ (e : letter ≡ letter-S) where
       pub obeys-station : unopened ≡ true → r ≡ stationOf read (restFields line) → Obeys read unopened (record { text = line; over = over }) x m r x m
       unfolding keptCommand correctionsAfter matrixAfter fieldsCommand
       obeys-station u q =
           record {
-            asks = rw (o, it-is is 83 e, u) q;
-            corrections = rw (o, it-is-not is 88 (λ w. omega arith));
-            matrix = rw (o, it-is-not is 77 (λ w. omega arith));
+            asks = rw (o, it-is is letter-S e, u) q;
+            corrections = rw (o, it-is-not is letter-X (λ w. omega arith));
+            matrix = rw (o, it-is-not is letter-M (λ w. omega arith));
           }
 
       pub obeys-late : unopened ≡ false → r ≡ Unreadable → Obeys read unopened (record { text = line; over = over }) x m r x m
       unfolding keptCommand correctionsAfter matrixAfter fieldsCommand
       obeys-late u q =
           record {
-            asks = rw (o, it-is is 83 e, u) q;
-            corrections = rw (o, it-is-not is 88 (λ w. omega arith));
-            matrix = rw (o, it-is-not is 77 (λ w. omega arith));
+            asks = rw (o, it-is is letter-S e, u) q;
+            corrections = rw (o, it-is-not is letter-X (λ w. omega arith));
+            matrix = rw (o, it-is-not is letter-M (λ w. omega arith));
           }
 
     pub obeys-corrections :
         (xs : List ℤ) →
-        letter ≡ 88 →
+        letter ≡ letter-X →
         r ≡ counted Corrections (correctionsIn (restFields line)) →
         xs ≡ storedIn x (correctionsIn (restFields line)) →
         Obeys read unopened (record { text = line; over = over }) x m r xs m
     unfolding keptCommand correctionsAfter matrixAfter fieldsCommand
     obeys-corrections xs e q w =
         record {
-          asks = rw (o, it-is-not is 83 (λ w. omega arith), it-is is 88 e) q;
-          corrections = rw (o, it-is is 88 e) w;
-          matrix = rw (o, it-is-not is 77 (λ w. omega arith));
+          asks = rw (o, it-is-not is letter-S (λ w. omega arith), it-is is letter-X e) q;
+          corrections = rw (o, it-is is letter-X e) w;
+          matrix = rw (o, it-is-not is letter-M (λ w. omega arith));
         }
 
     pub obeys-matrix :
         (ms : List ℤ) →
-        letter ≡ 77 →
+        letter ≡ letter-M →
         r ≡ counted Matrix (matrixIn (restFields line)) →
         ms ≡ storedIn m (matrixIn (restFields line)) →
         Obeys read unopened (record { text = line; over = over }) x m r x ms
     unfolding keptCommand correctionsAfter matrixAfter fieldsCommand
     obeys-matrix ms e q w =
         record {
-          asks = rw (o, it-is-not is 83 (λ w. omega arith), it-is-not is 88 (λ w. omega arith), it-is is 77 e) q;
-          corrections = rw (o, it-is-not is 88 (λ w. omega arith));
-          matrix = rw (o, it-is is 77 e) w;
+          asks = rw (o, it-is-not is letter-S (λ w. omega arith), it-is-not is letter-X (λ w. omega arith), it-is is letter-M e) q;
+          corrections = rw (o, it-is-not is letter-X (λ w. omega arith));
+          matrix = rw (o, it-is is letter-M e) w;
         }
 
     pub obeys-other :
-        (letter ≡ 83 → ⊥) →
-        (letter ≡ 88 → ⊥) →
-        (letter ≡ 77 → ⊥) →
+        (letter ≡ letter-S → ⊥) →
+        (letter ≡ letter-X → ⊥) →
+        (letter ≡ letter-M → ⊥) →
         r ≡ otherOf letter (restFields line) →
         Obeys read unopened (record { text = line; over = over }) x m r x m
     unfolding keptCommand correctionsAfter matrixAfter fieldsCommand
     obeys-other s c t q =
         record {
-          asks = rw (o, it-is-not is 83 s, it-is-not is 88 c, it-is-not is 77 t) (q ∙ rw is);
-          corrections = rw (o, it-is-not is 88 c);
-          matrix = rw (o, it-is-not is 77 t);
+          asks = rw (o, it-is-not is letter-S s, it-is-not is letter-X c, it-is-not is letter-M t) (q ∙ rw is);
+          corrections = rw (o, it-is-not is letter-X c);
+          matrix = rw (o, it-is-not is letter-M t);
         }
 
 -- ════ what is kept of a line asks what the line does
-pub kept-command : (read : ℕ) (unopened : Bool) (line : List ℕ) → keptCommand read unopened (kept 50000 line) ≡ commandOf read unopened line
+pub kept-command : (read : ℕ) (unopened : Bool) (line : List ℕ) → keptCommand read unopened (kept longestLine line) ≡ commandOf read unopened line
 unfolding keptCommand commandOf
-kept-command read unopened line = by (decLe (length line) 50000)
+kept-command read unopened line = by (decLe (length line) longestLine)
   where
-    by : Dec (length line ≤ 50000) → keptCommand read unopened (kept 50000 line) ≡ commandOf read unopened line
-    by (yes h) = rw (le-ltb 50000 (length line) h, take-all 50000 line h)
-    by (no h) = rw (lt-ltb 50000 (length line) (omega arith))
+    by : Dec (length line ≤ longestLine) → keptCommand read unopened (kept longestLine line) ≡ commandOf read unopened line
+    by (yes h) = rw (le-ltb longestLine (length line) h, take-all longestLine line h)
+    by (no h) = rw (lt-ltb longestLine (length line) (omega arith))
 
 -- the first field of a line that was cut is still known
-pub kept-station-line : (line : List ℕ) → isStationLine (take 50000 line) ≡ isStationLine line
-kept-station-line line = ap (λ (l : ℕ). eqb l 83) (letter-cut 50000 line (omega arith))
+pub kept-station-line : (line : List ℕ) → isStationLine (take longestLine line) ≡ isStationLine line
+kept-station-line line = ap (λ (l : ℕ). eqb l letter-S) (letter-cut longestLine line (omega arith))

@@ -1,5 +1,4 @@
--- A line to a command, in the words of document 01's "The night print". Letters are bytes: S 83, H 72, B 66, R 82, D 68, U 85, X 88, M 77;
--- K 75, F 70, V 86. Assumes nothing.
+-- A line to a command, in the words of document 01's "The night print". Assumes nothing.
 use mathlib.Core.Path.{_≡_}
 use Prim.Native.Nat.{ℕ, suc}
 use mathlib.Core.Bool.{Bool, cond, false}
@@ -23,6 +22,45 @@ use Rattle.commands.specs.declared.Entry.the-variants as entry
 use Rattle.commands.specs.declared.Command.{Command}
 use Rattle.commands.specs.declared.Command.the-variants.{Station, Call, Corrections, Matrix, Unreadable}
 
+-- ════ the letters of lines and of station kinds, as bytes
+abbrev pub letter-S : ℕ
+letter-S = 83
+
+abbrev pub letter-H : ℕ
+letter-H = 72
+
+abbrev pub letter-B : ℕ
+letter-B = 66
+
+abbrev pub letter-R : ℕ
+letter-R = 82
+
+abbrev pub letter-D : ℕ
+letter-D = 68
+
+abbrev pub letter-U : ℕ
+letter-U = 85
+
+abbrev pub letter-X : ℕ
+letter-X = 88
+
+abbrev pub letter-M : ℕ
+letter-M = 77
+
+abbrev pub letter-K : ℕ
+letter-K = 75
+
+abbrev pub letter-F : ℕ
+letter-F = 70
+
+abbrev pub letter-V : ℕ
+letter-V = 86
+
+-- "over 50,000 bytes makes a line unreadable"
+abbrev pub longestLine : ℕ
+longestLine = 50000
+
+-- ════ numbers
 -- "A wrong number of fields … makes a line unreadable": f of just k numbers, counted from 0; else `other`
 unfoldable pub exactly : {A : Type 0} → ℕ → A → ((ℕ → ℤ) → A) → Numbers → A
 exactly k other f unreadable = other
@@ -40,8 +78,8 @@ baselineEntry v = entry.Of (v 0) (baselineOf (v 1) (v 2) (v 3 ∷ v 4 ∷ v 5 �
 -- the fields after the letter
 unfoldable pub entryOf : ℕ → List (List ℕ) → Entry
 entryOf letter fields =
-    cond (eqb letter 72) (exactly 5 entry.Unreadable levelEntry (numbersOf fields))
-    (cond (eqb letter 66) (exactly 12 entry.Unreadable baselineEntry (numbersOf fields)) entry.Unreadable)
+    cond (eqb letter letter-H) (exactly 5 entry.Unreadable levelEntry (numbersOf fields))
+    (cond (eqb letter letter-B) (exactly 12 entry.Unreadable baselineEntry (numbersOf fields)) entry.Unreadable)
 
 -- "H or B adds"
 unfoldable pub added : Entry → Command
@@ -86,9 +124,9 @@ stationWith k v = Station (record { kind = k; east = v 0; north = v 1; up = v 2 
 -- "of another kind letter is unreadable"
 unfoldable pub kindOf : ℕ → Numbers → Command
 kindOf letter ns =
-    cond (eqb letter 75) (exactly 3 Unreadable (stationWith kind.Known) ns)
-    (cond (eqb letter 70) (exactly 3 Unreadable (stationWith kind.Free) ns)
-    (cond (eqb letter 86) (exactly 3 Unreadable (stationWith kind.Height) ns) Unreadable))
+    cond (eqb letter letter-K) (exactly 3 Unreadable (stationWith kind.Known) ns)
+    (cond (eqb letter letter-F) (exactly 3 Unreadable (stationWith kind.Free) ns)
+    (cond (eqb letter letter-V) (exactly 3 Unreadable (stationWith kind.Height) ns) Unreadable))
 
 -- "not numbered in turn from 1": the number is one more than there were S lines read
 unfoldable pub inTurn : ℕ → Number → Bool
@@ -104,28 +142,28 @@ stationOf read (n ∷ k ∷ fs) = cond (inTurn read (numberOf n)) (kindOf (lette
 -- what the first field's letter asks of the others
 unfoldable pub otherOf : ℕ → List (List ℕ) → Command
 otherOf letter fields =
-    cond (eqb letter 82) (replaceOf fields)
-    (cond (eqb letter 68) (exactly 1 Unreadable strikeOf (numbersOf fields))
-    (cond (eqb letter 85) (undoOf fields) (added (entryOf letter fields))))
+    cond (eqb letter letter-R) (replaceOf fields)
+    (cond (eqb letter letter-D) (exactly 1 Unreadable strikeOf (numbersOf fields))
+    (cond (eqb letter letter-U) (undoOf fields) (added (entryOf letter fields))))
 
 -- "An S line later … is unreadable": `unopened` while the station list may go on
 unfoldable pub fieldsCommand : ℕ → Bool → ℕ → List (List ℕ) → Command
 fieldsCommand read unopened letter fields =
-    cond (eqb letter 83) (cond unopened (stationOf read fields) Unreadable)
-    (cond (eqb letter 88) (counted Corrections (correctionsIn fields))
-    (cond (eqb letter 77) (counted Matrix (matrixIn fields)) (otherOf letter fields)))
+    cond (eqb letter letter-S) (cond unopened (stationOf read fields) Unreadable)
+    (cond (eqb letter letter-X) (counted Corrections (correctionsIn fields))
+    (cond (eqb letter letter-M) (counted Matrix (matrixIn fields)) (otherOf letter fields)))
 
 abbrev pub letterIn : List ℕ → ℕ
 letterIn line = letterOf (firstField line)
 
--- the command of a line, after so many S lines that were read; "over 50,000 bytes makes a line unreadable"
+-- the command of a line, after so many S lines that were read
 unfoldable pub commandOf : ℕ → Bool → List ℕ → Command
 commandOf read unopened line =
-    cond (ltb 50000 (length line)) Unreadable (fieldsCommand read unopened (letterIn line) (restFields line))
+    cond (ltb longestLine (length line)) Unreadable (fieldsCommand read unopened (letterIn line) (restFields line))
 
 -- "S lines come first; the first line whose first field isn't S, or the end, opens"
 abbrev pub isStationLine : List ℕ → Bool
-isStationLine line = eqb (letterIn line) 83
+isStationLine line = eqb (letterIn line) letter-S
 
 -- ════ the same of what is kept of a line, and the numbers that X and M leave
 unfoldable pub keptCommand : ℕ → Bool → Kept → Command
@@ -133,10 +171,10 @@ keptCommand read unopened k = cond (k .over) Unreadable (fieldsCommand read unop
 
 -- "a later one replaces an earlier", from the front; an unreadable line leaves them
 unfoldable pub correctionsAfter : List ℤ → Kept → List ℤ
-correctionsAfter x k = cond (k .over) x (cond (eqb (letterIn (k .text)) 88) (storedIn x (correctionsIn (restFields (k .text)))) x)
+correctionsAfter x k = cond (k .over) x (cond (eqb (letterIn (k .text)) letter-X) (storedIn x (correctionsIn (restFields (k .text)))) x)
 
 unfoldable pub matrixAfter : List ℤ → Kept → List ℤ
-matrixAfter m k = cond (k .over) m (cond (eqb (letterIn (k .text)) 77) (storedIn m (matrixIn (restFields (k .text)))) m)
+matrixAfter m k = cond (k .over) m (cond (eqb (letterIn (k .text)) letter-M) (storedIn m (matrixIn (restFields (k .text)))) m)
 
 -- what a line asked, and what it left of the corrections and the matrix
 pub record Obeys (read : ℕ) (unopened : Bool) (k : Kept) (x m : List ℤ) (r : Command) (xs ms : List ℤ) : Type 0 where

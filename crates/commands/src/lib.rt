@@ -7,6 +7,9 @@ use network::Station;
 pub use reading::is_station_line;
 pub use reading::read_command;
 
+// A line of more bytes is unreadable.
+pub const LONGEST_LINE: usize = 50_000;
+
 // What a line asks.
 pub enum Command {
     // S: the next station of the list

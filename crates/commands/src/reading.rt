@@ -271,5 +271,5 @@ pub fn read_command(
 pub fn is_station_line(line: &[u8]) -> bool
     ensures { λ r. ⌜ r ≡ isStationLine (now (line .entry)) ⌝ }
 {
-    text::letter_at(line, 0) == 83
+    text::letter_at(line, 0) == b'S'
 }

@@ -1,6 +1,6 @@
 -- `commands::reading::entry_at` meets its contract. Assumes nothing.
 use Rattle.commands.specs.CommandLaws.{it-is, it-is-not}
-use Rattle.commands.specs.Commands.{entryOf}
+use Rattle.commands.specs.Commands.{letter-H, letter-B, entryOf}
 use borrow.Author.Needs.{needs}
 use Rattle.commands.proofs.reading.entry_at.Statement.{statement}
 use Rattle.commands.proofs.reading.entry_at.Tie as tie
@@ -13,7 +13,7 @@ level-entry-requires c κs = search needs
 
 returns : tie.Need-returns
 unfolding entryOf
-returns c = let l = c .before .before .letter-at .ensures in rw (it-is l 72 (c .before .if1 .taken)) (c .level-entry .ensures)
+returns c = let l = c .before .before .letter-at .ensures in rw (it-is l letter-H (c .before .if1 .taken)) (c .level-entry .ensures)
 
 baseline-entry-requires : tie.Need-baseline-entry-requires
 baseline-entry-requires c κs = search needs
@@ -23,13 +23,13 @@ unfolding entryOf
 returns-2 c =
     let t = c .before in
     let l = t .before .before .letter-at .ensures in
-    rw (it-is-not l 72 (t .before .if1 .left), it-is l 66 (t .if2 .taken)) (c .baseline-entry .ensures)
+    rw (it-is-not l letter-H (t .before .if1 .left), it-is l letter-B (t .if2 .taken)) (c .baseline-entry .ensures)
 
 returns-3 : tie.Need-returns-3
 unfolding entryOf
 returns-3 c =
     let l = c .before .before .letter-at .ensures in
-    rw (it-is-not l 72 (c .before .if1 .left), it-is-not l 66 (c .if2 .left))
+    rw (it-is-not l letter-H (c .before .if1 .left), it-is-not l letter-B (c .if2 .left))
 
 pub entry-at-spec : {M : Type 1} → statement M
 entry-at-spec =

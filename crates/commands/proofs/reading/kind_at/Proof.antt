@@ -1,6 +1,6 @@
 -- `commands::reading::kind_at` meets its contract. Assumes nothing.
 use Rattle.commands.specs.CommandLaws.{it-is, it-is-not}
-use Rattle.commands.specs.Commands.{kindOf}
+use Rattle.commands.specs.Commands.{letter-K, letter-F, letter-V, kindOf}
 use borrow.Author.Needs.{needs}
 use Rattle.commands.proofs.reading.kind_at.Statement.{statement}
 use Rattle.commands.proofs.reading.kind_at.Tie as tie
@@ -13,7 +13,7 @@ station-with-requires c κs = search needs
 
 returns : tie.Need-returns
 unfolding kindOf
-returns c = let l = c .before .before .letter-at .ensures in rw (it-is l 75 (c .before .if1 .taken)) (c .station-with .ensures)
+returns c = let l = c .before .before .letter-at .ensures in rw (it-is l letter-K (c .before .if1 .taken)) (c .station-with .ensures)
 
 station-with-requires-2 : tie.Need-station-with-requires-2
 station-with-requires-2 c κs = search needs
@@ -23,7 +23,7 @@ unfolding kindOf
 returns-2 c =
     let t = c .before in
     let l = t .before .before .letter-at .ensures in
-    rw (it-is-not l 75 (t .before .if1 .left), it-is l 70 (t .if2 .taken)) (c .station-with2 .ensures)
+    rw (it-is-not l letter-K (t .before .if1 .left), it-is l letter-F (t .if2 .taken)) (c .station-with2 .ensures)
 
 station-with-requires-3 : tie.Need-station-with-requires-3
 station-with-requires-3 c κs = search needs
@@ -34,14 +34,14 @@ returns-3 c =
     let t = c .before in
     let u = t .before in
     let l = u .before .before .letter-at .ensures in
-    rw (it-is-not l 75 (u .before .if1 .left), it-is-not l 70 (u .if2 .left), it-is l 86 (t .if3 .taken)) (c .station-with3 .ensures)
+    rw (it-is-not l letter-K (u .before .if1 .left), it-is-not l letter-F (u .if2 .left), it-is l letter-V (t .if3 .taken)) (c .station-with3 .ensures)
 
 returns-4 : tie.Need-returns-4
 unfolding kindOf
 returns-4 c =
     let u = c .before in
     let l = u .before .before .letter-at .ensures in
-    rw (it-is-not l 75 (u .before .if1 .left), it-is-not l 70 (u .if2 .left), it-is-not l 86 (c .if3 .left))
+    rw (it-is-not l letter-K (u .before .if1 .left), it-is-not l letter-F (u .if2 .left), it-is-not l letter-V (c .if3 .left))
 
 pub kind-at-spec : {M : Type 1} → statement M
 kind-at-spec =

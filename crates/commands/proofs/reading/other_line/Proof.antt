@@ -1,6 +1,6 @@
 -- `commands::reading::other_line` meets its contract. Assumes nothing.
 use Rattle.commands.specs.CommandLaws.{it-is, it-is-not}
-use Rattle.commands.specs.Commands.{otherOf, added, entryOf}
+use Rattle.commands.specs.Commands.{letter-R, letter-D, letter-U, otherOf, added, entryOf}
 use Rattle.text.specs.Fields.{restFields}
 use Prim.Native.Nat.{ℕ}
 use mathlib.Core.Path.{refl, sym, ap, _∙_}
@@ -13,7 +13,7 @@ replace-line-requires c κs = search needs
 
 returns : tie.Need-returns
 unfolding otherOf
-returns c = rw (it-is refl 82 (c .before .if1 .taken)) (c .replace-line .ensures)
+returns c = rw (it-is refl letter-R (c .before .if1 .taken)) (c .replace-line .ensures)
 
 strike-line-requires : tie.Need-strike-line-requires
 strike-line-requires c κs = search needs
@@ -22,7 +22,7 @@ returns-2 : tie.Need-returns-2
 unfolding otherOf
 returns-2 c =
     let t = c .before in
-    rw (it-is-not refl 82 (t .before .if1 .left), it-is refl 68 (t .if2 .taken)) (c .strike-line .ensures)
+    rw (it-is-not refl letter-R (t .before .if1 .left), it-is refl letter-D (t .if2 .taken)) (c .strike-line .ensures)
 
 undo-line-requires : tie.Need-undo-line-requires
 undo-line-requires c κs = search needs
@@ -32,7 +32,7 @@ unfolding otherOf
 returns-3 c =
     let t = c .before in
     let u = t .before in
-    rw (it-is-not refl 82 (u .before .if1 .left), it-is-not refl 68 (u .if2 .left), it-is refl 85 (t .if3 .taken)) (c .undo-line .ensures)
+    rw (it-is-not refl letter-R (u .before .if1 .left), it-is-not refl letter-D (u .if2 .left), it-is refl letter-U (t .if3 .taken)) (c .undo-line .ensures)
 
 entry-at-requires : tie.Need-entry-at-requires
 entry-at-requires c κs = search needs
@@ -47,7 +47,7 @@ returns-4 c =
     let t = e .before in
     let u = t .before in
     let s = u .before .before .before in
-    rw (it-is-not refl 82 (u .before .if1 .left), it-is-not refl 68 (u .if2 .left), it-is-not refl 85 (t .if3 .left))
+    rw (it-is-not refl letter-R (u .before .if1 .left), it-is-not refl letter-D (u .if2 .left), it-is-not refl letter-U (t .if3 .left))
     (c .add .ensures ∙ ap added (e .entry-at .ensures ∙ ap (λ (l : ℕ). entryOf l (restFields (s .args .line .now))) (sym (s .pre))))
 
 pub other-line-spec : {M : Type 1} → statement M
