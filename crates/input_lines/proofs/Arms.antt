@@ -3,7 +3,6 @@ use Prim.Native.Nat.{ℕ}
 use mathlib.Core.Path.{_≡_, refl}
 use mathlib.Core.Bool.{false}
 use mathlib.Core.List.{List, [], _∷_}
-use lib.Dec.{eqb}
 use lib.IntN.{ℤ}
 use denote.Enum.Declared.{tagOf}
 use types.Run.{OneOf, miss}
@@ -11,7 +10,7 @@ use Rattle.book.specs.declared.Book.{Book}
 use Rattle.commands.proofs.Command.{the-type}
 use Rattle.commands.specs.declared.Command.{Command}
 use Rattle.commands.specs.declared.Command.the-variants.{Station, Call, Corrections, Matrix, Unreadable}
-use Rattle.commands.specs.Brings.{brings}
+use Rattle.commands.specs.Brings.{brings, corrections, matrix}
 use Rattle.input_lines.specs.Runs.{wordsAfter, readAfter, unedited, edits, refusedSays, commandSays}
 
 -- no station
@@ -32,7 +31,7 @@ read-other n (Matrix k) h = refl
 read-other n Unreadable h = refl
 
 -- no corrections, no matrix
-pub brings-no-corrections : (c : Command) → OneOf (0 ∷ 1 ∷ 3 ∷ 4 ∷ []) (tagOf the-type c) → eqb (brings c) 1 ≡ false
+pub brings-no-corrections : (c : Command) → OneOf (0 ∷ 1 ∷ 3 ∷ 4 ∷ []) (tagOf the-type c) → brings c corrections ≡ false
 unfolding brings
 brings-no-corrections (Station s) h = refl
 brings-no-corrections (Call c) h = refl
@@ -40,7 +39,7 @@ brings-no-corrections (Corrections n) h = absurd (miss (0 ∷ 1 ∷ 3 ∷ 4 ∷ 
 brings-no-corrections (Matrix n) h = refl
 brings-no-corrections Unreadable h = refl
 
-pub brings-no-matrix : (c : Command) → OneOf (0 ∷ 1 ∷ 2 ∷ 4 ∷ []) (tagOf the-type c) → eqb (brings c) 2 ≡ false
+pub brings-no-matrix : (c : Command) → OneOf (0 ∷ 1 ∷ 2 ∷ 4 ∷ []) (tagOf the-type c) → brings c matrix ≡ false
 unfolding brings
 brings-no-matrix (Station s) h = refl
 brings-no-matrix (Call c) h = refl

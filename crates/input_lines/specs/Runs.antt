@@ -1,5 +1,5 @@
 -- The run of an input, line by line: document 01's "The night print". Assumes nothing.
-use Prim.Native.Nat.{ℕ, suc}
+use Prim.Native.Nat.{ℕ, suc, _+_, _*_}
 use mathlib.Core.Bool.{Bool, true, false, cond}
 use mathlib.Core.List.{List, [], _∷_, _++_}
 use lib.Dec.{eqb, leb}
@@ -15,8 +15,8 @@ use Rattle.text.specs.Lines.{Kept}
 use Rattle.commands.specs.declared.Command.{Command}
 use Rattle.commands.specs.declared.Command.the-variants.{Station, Call, Corrections, Matrix, Unreadable}
 use Rattle.commands.specs.Commands.{correctionsIn, matrixIn, isStationLine, keptCommand}
-use Rattle.commands.specs.Brings.{brings}
-use Rattle.commands.specs.Messages.{refusedLine, unreadableLine, refused}
+use Rattle.commands.specs.Brings.{brings, corrections, matrix}
+use Rattle.printing.specs.Messages.{refusedLine, unreadableLine, refused}
 
 -- ════ the state of a run
 -- "S lines come first"; then a book, unless its opening was refused, which "ends"
@@ -45,9 +45,12 @@ abbrev pub start : Run
 start = record { words = []; read = 0; lines = 0; phase = unopened; corrections = none; matrix = none }
 
 -- ════ stations
--- the words of 33 stations are kept: more than 32 are refused, whatever they are (Cut, opening-cut)
+-- the words of 33 stations are kept, four each: more than 32 stations are refused, whatever they are (Cut, opening-cut)
+abbrev pub listRoom : ℕ
+listRoom = 33 * 4
+
 unfoldable pub noted : List ℤ → station.Station → List ℤ
-noted words s = cond (leb (length words) 128) (words ++ stationWords s) words
+noted words s = cond (leb (length words + 4) listRoom) (words ++ stationWords s) words
 
 -- ════ the opening
 abbrev pub phaseWith : Edited → Phase
@@ -59,11 +62,11 @@ phaseOpened words (opened b) = opened b
 phaseOpened words ended = ended
 
 -- "A refused opening … prints `REFUSED no` … and ends"
-abbrev pub refusalSays : ℕ → List ℕ
-refusalSays number = cond (eqb number 0) [] (refused number)
+abbrev pub openingAnswer : ℕ → List ℕ
+openingAnswer number = cond (eqb number 0) [] (refused number)
 
 unfoldable pub openingSays : List ℤ → Phase → List ℕ
-openingSays words unopened = refusalSays (opening words .refusal)
+openingSays words unopened = openingAnswer (opening words .refusal)
 openingSays words (opened b) = []
 openingSays words ended = []
 
@@ -79,11 +82,11 @@ openRun r =
     }
 
 -- "the first line whose first field isn't S, or the end, opens": the run in which a line is read, and what is printed before it is
-unfoldable pub entered : Run → Kept → Run
-entered r k = cond (isStationLine (k .text)) r (openRun r)
+unfoldable pub beforeLine : Run → List ℕ → Run
+beforeLine r line = cond (isStationLine line) r (openRun r)
 
-unfoldable pub enteringSays : Run → Kept → List ℕ
-enteringSays r k = cond (isStationLine (k .text)) [] (openingSays (r .words) (r .phase))
+unfoldable pub beforeLineSays : Run → List ℕ → List ℕ
+beforeLineSays r line = cond (isStationLine line) [] (openingSays (r .words) (r .phase))
 
 -- ════ what a line asks, and what that leaves
 unfoldable pub isUnopened : Phase → Bool
@@ -130,10 +133,10 @@ givenBy unreadable = none
 givenBy (numbers vs) = given vs
 
 abbrev pub correctionsNext : Given → List (List ℕ) → Command → Given
-correctionsNext g fields c = cond (eqb (brings c) 1) (givenBy (correctionsIn fields)) g
+correctionsNext g fields c = cond (brings c corrections) (givenBy (correctionsIn fields)) g
 
 abbrev pub matrixNext : Given → List (List ℕ) → Command → Given
-matrixNext g fields c = cond (eqb (brings c) 2) (givenBy (matrixIn fields)) g
+matrixNext g fields c = cond (brings c matrix) (givenBy (matrixIn fields)) g
 
 -- ════ what a line prints
 -- "A refused edit prints `LINE k REFUSED no`, k from 1; any other line `LINE k UNREADABLE`"
@@ -167,13 +170,13 @@ obeyed r k c =
     }
 
 unfoldable pub next : Run → Kept → Run
-next r k = obeyed (entered r k) k (asked (entered r k) k)
+next r k = obeyed (beforeLine r (k .text)) k (asked (beforeLine r (k .text)) k)
 
 abbrev pub obeyedSays : Run → Command → List ℕ
 obeyedSays r c = phaseSays (r .phase) (suc (r .lines)) c
 
 unfoldable pub says : Run → Kept → List ℕ
-says r k = enteringSays r k ++ obeyedSays (entered r k) (asked (entered r k) k)
+says r k = beforeLineSays r (k .text) ++ obeyedSays (beforeLine r (k .text)) (asked (beforeLine r (k .text)) k)
 
 -- ════ lines one after the other
 unfoldable pub runAfter : Run → List Kept → Run

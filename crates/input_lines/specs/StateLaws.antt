@@ -10,26 +10,28 @@ use lib.ListN.{length, take, drop, set, length-append}
 use lib.Seq.{sets, sets-eq, take-at, drop-at, length-take-le, drop-drop}
 use lib.IntN.{ℤ}
 use Rattle.words.specs.Bools.{and-left, and-right}
-use Rattle.network.specs.Stations as stations
+use Rattle.network.specs.StationWords.{kindWord, stationWords}
 use Rattle.network.specs.declared.Station as station
 use Rattle.book.specs.declared.Book.{Book}
 use Rattle.book.specs.declared.Edited.{Edited}
 use Rattle.book.specs.Book as book
+use Rattle.layout.specs.Bytes.{bookOf, bytesFit}
+use Rattle.lent_edits.specs.LentEdits.{Opens}
 use Rattle.text.specs.Fields.{Numbers}
 use Rattle.text.specs.Lines.{Kept}
-use Rattle.text.specs.Writing.{Written}
+use Rattle.text.specs.Writing.{Written, written-as, nothing, _then_}
 use Rattle.commands.specs.declared.Command.{Command}
 use Rattle.commands.specs.declared.Command.the-variants.{Station, Call, Corrections, Matrix, Unreadable}
 use Rattle.commands.specs.Commands.{isStationLine, Obeys}
-use Rattle.commands.specs.Brings.{brings, Brought, other, these}
+use Rattle.commands.specs.Brings.{SolutionPart, brings, Brought, other, these}
+use Rattle.printing.specs.Rooms.{messageRoom, refusedRoom, lineRoom}
 use Rattle.input_lines.specs.declared.Phase as code-phase
 use Rattle.input_lines.specs.declared.Phase.the-variants.{Unopened, Opened, Ended}
 use Rattle.input_lines.specs.declared.Given as code-given
 use Rattle.input_lines.specs.declared.State.{State}
-use Rattle.input_lines.specs.declared.Asked.{Asked}
-use Rattle.network.specs.StationWords.{kindWord, stationWords}
-use Rattle.input_lines.specs.Runs.{Phase, opened, ended, Given, given, noted, phaseWith, phaseOpened, refusalSays, openingSays, openRun, entered, enteringSays, isUnopened, asked, readAfter, unedited, edits, phaseAfter, givenBy, commandSays, phaseSays, obeyed, obeyedSays}
-use Rattle.input_lines.specs.States.{phaseOf, givenOf, runOf, unopenedPhase, openedPhase, endedPhase, phaseAt, countOf, Ready, openedWith, Opens, Noted, givenCount, Reads}
+use Rattle.input_lines.specs.declared.LineRead.{LineRead}
+use Rattle.input_lines.specs.Runs.{Phase, opened, ended, Given, given, Run, listRoom, noted, phaseWith, phaseOpened, openingAnswer, openingSays, openRun, beforeLine, beforeLineSays, isUnopened, asked, readAfter, unedited, edits, phaseAfter, givenBy, commandSays, phaseSays, obeyed, next, obeyedSays, says}
+use Rattle.input_lines.specs.States.{phaseOf, givenOf, runOf, unopenedPhase, openedPhase, endedPhase, phaseAt, countOf, Ready, openedWith, EditLeaves, Noted, givenCount, Reads, RunsTo, LineEnters}
 
 -- ════ text written after the front of a buffer
 module _ {l t m : List ℕ} {p q : ℕ} (w : Written l p t q m) (room : q ≤ length l) where
@@ -56,20 +58,20 @@ pub four : (s : station.Station) → length (stationWords s) ≡ 4
 unfolding stationWords
 four s = refl
 
-module _ (list : List ℤ) (words : ℕ) (s : station.Station) (room : 132 ≤ length list) where
-  pub note-room : (after : List ℤ) → words ≤ 128 → after ≡ sets list words (stationWords s) → Noted list words s (words + 4) after
+module _ (list : List ℤ) (words : ℕ) (s : station.Station) (room : listRoom ≤ length list) where
+  pub note-room : (after : List ℤ) → words + 4 ≤ listRoom → after ≡ sets list words (stationWords s) → Noted list words s (words + 4) after
   unfolding noted
   note-room after h e =
       record {
         leaves =
-            rw (e, sets-eq (stationWords s) list words (rw (four s) (omega arith)), length-take-le words list (omega arith), le-leb words 128 h)
+            rw (e, sets-eq (stationWords s) list words (rw (four s) (omega arith)), length-take-le words list (omega arith), le-leb (words + 4) listRoom h)
             (take-at (take words list ++ stationWords s) (drop (words + length (stationWords s)) list) (words + 4) (rw (length-append, length-take-le words list (omega arith), four s)));
         few = omega arith;
       }
 
-  pub note-full : 128 < words → words ≤ 132 → Noted list words s words list
+  pub note-full : listRoom < words + 4 → words ≤ listRoom → Noted list words s words list
   unfolding noted
-  note-full h k = record { leaves = rw (length-take-le words list (omega arith), lt-leb words 128 h); few = k }
+  note-full h k = record { leaves = rw (length-take-le words list (omega arith), lt-leb (words + 4) listRoom h); few = k }
 
 pub put-four : (l : List ℤ) (at : ℕ) (s : station.Station) (k e n u : ℤ) → k ≡ kindWord (s .kind) → e ≡ s .east → n ≡ s .north → u ≡ s .up → set (set (set (set l at k) (at + 1) e) (at + 2) n) (at + 3) u ≡ sets l at (stationWords s)
 unfolding stationWords
@@ -80,22 +82,22 @@ put-four l at s k e n u p q r t =
     rw (a, b, c, p, q, r, t)
 
 -- ════ what a line brought
-module _ {kind most : ℕ} {c : Command} {ns : Numbers} {l after : List ℤ} (b : Brought kind most c ns l after) (room : most ≤ length l) (g : code-given.Given) where
-  pub brought-given : givenOf (givenCount kind g c) after ≡ cond (eqb (brings c) kind) (givenBy ns) (givenOf g l)
+module _ {part : SolutionPart} {most : ℕ} {c : Command} {ns : Numbers} {l after : List ℤ} (b : Brought part most c ns l after) (room : most ≤ length l) (g : code-given.Given) where
+  pub brought-given : givenOf (givenCount part g c) after ≡ cond (brings c part) (givenBy ns) (givenOf g l)
   unfolding givenOf givenBy
   brought-given = by b
     where
-      by : Brought kind most c ns l after → givenOf (givenCount kind g c) after ≡ cond (eqb (brings c) kind) (givenBy ns) (givenOf g l)
+      by : Brought part most c ns l after → givenOf (givenCount part g c) after ≡ cond (brings c part) (givenBy ns) (givenOf g l)
       by (other e q) = rw (e, q)
       by (these vs e n m q h) =
           rw (e, n, m, q)
           (ap given (rw (sets-eq vs l 0 (omega arith)) (take-at vs (drop (0 + length vs) l) (length vs) refl)))
 
-  pub brought-few : countOf g ≤ most → countOf (givenCount kind g c) ≤ most
+  pub brought-few : countOf g ≤ most → countOf (givenCount part g c) ≤ most
   unfolding countOf
   brought-few few = by b
     where
-      by : Brought kind most c ns l after → countOf (givenCount kind g c) ≤ most
+      by : Brought part most c ns l after → countOf (givenCount part g c) ≤ most
       by (other e q) = rw e few
       by (these vs e n m q h) = rw (e, m) h
 
@@ -110,33 +112,27 @@ unopened-is Unopened b = refl
 unopened-is Opened b = refl
 unopened-is Ended b = refl
 
-pub phase-edited : (p : code-phase.Phase) (b : Book) (c : Command) (e : Edited) → e ≡ cond (openedPhase p) (edits b c) (unedited b) → phaseOf p (e .book) ≡ phaseAfter (phaseOf p b) c
+-- what a line asks for in a phase: an edit where there is a book, else nothing
+phase-edited : (p : code-phase.Phase) (b : Book) (c : Command) → phaseOf p (cond (openedPhase p) (edits b c) (unedited b) .book) ≡ phaseAfter (phaseOf p b) c
 unfolding phaseOf openedPhase phaseAfter
-phase-edited Unopened b c e q = refl
-phase-edited Opened b c e q = rw q
-phase-edited Ended b c e q = refl
+phase-edited Unopened b c = refl
+phase-edited Opened b c = refl
+phase-edited Ended b c = refl
 
-pub message-is : (p : code-phase.Phase) (b : Book) (c : Command) (k : ℕ) (e : Edited) → e ≡ cond (openedPhase p) (edits b c) (unedited b) → cond (endedPhase p) [] (commandSays k (e .refusal) c) ≡ phaseSays (phaseOf p b) k c
+message-is : (p : code-phase.Phase) (b : Book) (c : Command) (k : ℕ) → cond (endedPhase p) [] (commandSays k (cond (openedPhase p) (edits b c) (unedited b) .refusal) c) ≡ phaseSays (phaseOf p b) k c
 unfolding phaseOf openedPhase endedPhase phaseSays
-message-is Unopened b c k e q = rw q
-message-is Opened b c k e q = rw q
-message-is Ended b c k e q = refl
+message-is Unopened b c k = refl
+message-is Opened b c k = refl
+message-is Ended b c k = refl
 
 -- ════ the opening
-pub opens-is : (l part : List ℤ) (e : Edited) → part ≡ l → e ≡ book.opening part → (stations.opens part ≡ true → book.sound (e .book) ≡ true) → Opens l e
-opens-is l part e q o f = record { is = rw (← q) o; sound = λ z. f (by (stations.opens part) refl (sym (ap (λ (d : Edited). d .refusal) o) ∙ z)) }
-  where
-    by : (t : Bool) → stations.opens part ≡ t → cond {A = Edited} t (record { refusal = 0; book = book.openedBook (stations.networkOf part) }) (record { refusal = 1; book = book.openedBook (stations.networkOf []) }) .refusal ≡ 0 → stations.opens part ≡ true
-    by true q z = q
-    by false q z = absurd (omega arith)
-
-phase-with : (e : Edited) → phaseOf (phaseAt (e .refusal)) (e .book) ≡ phaseWith e
+phase-with : (n : ℕ) (b : Book) (e : Edited) → n ≡ e .refusal → (n ≡ 0 → b ≡ e .book) → phaseOf (phaseAt n) b ≡ phaseWith e
 unfolding phaseOf
-phase-with e = by (eqb (e .refusal) 0)
+phase-with n b e q r = rw (← q) (by (eqb n 0) refl)
   where
-    by : (t : Bool) → phaseOf (cond t Opened Ended) (e .book) ≡ cond t (opened (e .book)) ended
-    by true = refl
-    by false = refl
+    by : (t : Bool) → eqb n 0 ≡ t → phaseOf (cond t Opened Ended) b ≡ cond t (opened (e .book)) ended
+    by true z = ap opened (r (eqb-true n 0 z))
+    by false z = refl
 
 unopened-only : (p : code-phase.Phase) → unopenedPhase p ≡ true → p ≡ Unopened
 unfolding unopenedPhase
@@ -158,59 +154,75 @@ opened-silent words Ended b e = refl
 
 module _ (s : State) (b : Book) (list x m : List ℤ) where
   -- an unopened state is opened
-  module _ (u : unopenedPhase (s .phase) ≡ true) (e : Edited) (o : Opens (take (s .words) list) e) where
-    pub open-run : runOf (openedWith s (e .refusal)) (e .book) list x m ≡ openRun (runOf s b list x m)
+  module _ (u : unopenedPhase (s .phase) ≡ true) {before after : List ℕ} {n : ℕ} (o : Opens (take (s .words) list) before n after) where
+    pub open-run : runOf (openedWith s n) (bookOf after) list x m ≡ openRun (runOf s b list x m)
     unfolding phaseOf phaseOpened
-    open-run = let p = phase-with e in rw (unopened-only (s .phase) u, p, o .is)
+    open-run = let p = phase-with n (bookOf after) (book.opening (take (s .words) list)) (o .number) (o .reads) in rw (unopened-only (s .phase) u, p)
 
-    pub open-says : refusalSays (e .refusal) ≡ openingSays (take (s .words) list) (phaseOf (s .phase) b)
+    pub open-says : openingAnswer n ≡ openingSays (take (s .words) list) (phaseOf (s .phase) b)
     unfolding phaseOf openingSays
-    open-says = rw (unopened-only (s .phase) u, o .is)
+    open-says = rw (unopened-only (s .phase) u, o .number)
 
-  module _ (k : Kept) where
-    pub enter-open : (e : Edited) → Opens (take (s .words) list) e → (unopenedPhase (s .phase) && not (isStationLine (k .text))) ≡ true → runOf (openedWith s (e .refusal)) (e .book) list x m ≡ entered (runOf s b list x m) k
-    unfolding entered
-    enter-open e o t =
-        let u = and-left (unopenedPhase (s .phase)) _ t in
-        let n = not-true (isStationLine (k .text)) (and-right (unopenedPhase (s .phase)) _ t) in
-        open-run u e o ∙ rw n
+  -- a line is entered in this state
+  module _ (line : List ℕ) where
+    module _ (t : (unopenedPhase (s .phase) && not (isStationLine line)) ≡ true) {before after : List ℕ} {n : ℕ} (o : Opens (take (s .words) list) before n after) where
+      u : unopenedPhase (s .phase) ≡ true
+      u = and-left (unopenedPhase (s .phase)) _ t
 
-    pub enter-says : (e : Edited) → Opens (take (s .words) list) e → (unopenedPhase (s .phase) && not (isStationLine (k .text))) ≡ true → refusalSays (e .refusal) ≡ enteringSays (runOf s b list x m) k
-    unfolding enteringSays
-    enter-says e o t =
-        let u = and-left (unopenedPhase (s .phase)) _ t in
-        let n = not-true (isStationLine (k .text)) (and-right (unopenedPhase (s .phase)) _ t) in
-        open-says u e o ∙ rw n
+      no-station : isStationLine line ≡ false
+      no-station = not-true (isStationLine line) (and-right (unopenedPhase (s .phase)) _ t)
 
-    pub enter-stay : (unopenedPhase (s .phase) && not (isStationLine (k .text))) ≡ false → runOf s b list x m ≡ entered (runOf s b list x m) k
-    unfolding entered
-    enter-stay t = by (isStationLine (k .text)) (unopenedPhase (s .phase)) refl t
-      where
-        by : (i u : Bool) → unopenedPhase (s .phase) ≡ u → (u && not i) ≡ false → runOf s b list x m ≡ cond i (runOf s b list x m) (openRun (runOf s b list x m))
-        by true u e q = refl
-        by false true e q = let z : true ≡ false = q in cc
-        by false false e q = let p = opened-stays (take (s .words) list) (s .phase) b e in rw p
+      enter-open : runOf (openedWith s n) (bookOf after) list x m ≡ beforeLine (runOf s b list x m) line
+      unfolding beforeLine
+      enter-open = open-run u o ∙ rw no-station
 
-    pub enter-silent : (unopenedPhase (s .phase) && not (isStationLine (k .text))) ≡ false → enteringSays (runOf s b list x m) k ≡ []
-    unfolding enteringSays
-    enter-silent t = by (isStationLine (k .text)) (unopenedPhase (s .phase)) refl t
-      where
-        by : (i u : Bool) → unopenedPhase (s .phase) ≡ u → (u && not i) ≡ false → cond i [] (openingSays (take (s .words) list) (phaseOf (s .phase) b)) ≡ []
-        by true u e q = refl
-        by false true e q = let z : true ≡ false = q in cc
-        by false false e q = opened-silent (take (s .words) list) (s .phase) b e
+      enter-says : openingAnswer n ≡ beforeLineSays (runOf s b list x m) line
+      unfolding beforeLineSays
+      enter-says = open-says u o ∙ rw no-station
 
--- ════ a line, once entered: what it asks, leaves and prints
-module _ (s : State) (b : Book) (list x m : List ℤ) (k : Kept) (a : Asked) (list′ x′ m′ : List ℤ) (rd : Reads s k list x m a list′ x′ m′) (e : Edited) (ed : e ≡ cond (openedPhase (s .phase)) (edits b (a .command)) (unedited b)) where
-  asked-is : asked (runOf s b list x m) k ≡ a .command
-  asked-is = rw (unopened-is (s .phase) b) (sym (rd .command))
+    module _ (t : (unopenedPhase (s .phase) && not (isStationLine line)) ≡ false) where
+      enter-stay : runOf s b list x m ≡ beforeLine (runOf s b list x m) line
+      unfolding beforeLine
+      enter-stay = by (isStationLine line) (unopenedPhase (s .phase)) refl t
+        where
+          by : (i u : Bool) → unopenedPhase (s .phase) ≡ u → (u && not i) ≡ false → runOf s b list x m ≡ cond i (runOf s b list x m) (openRun (runOf s b list x m))
+          by true u e q = refl
+          by false true e q = let z : true ≡ false = q in cc
+          by false false e q = let p = opened-stays (take (s .words) list) (s .phase) b e in rw p
 
-  pub obeyed-is : runOf (a .state) (e .book) list′ x′ m′ ≡ obeyed (runOf s b list x m) k (asked (runOf s b list x m) k)
-  obeyed-is =
-      rw (asked-is, rd .words, rd .read, rd .lines, rd .phase, rd .corrections, rd .matrix, phase-edited (s .phase) b (a .command) e ed)
+      enter-silent : [] ≡ beforeLineSays (runOf s b list x m) line
+      unfolding beforeLineSays
+      enter-silent = by (isStationLine line) (unopenedPhase (s .phase)) refl t
+        where
+          by : (i u : Bool) → unopenedPhase (s .phase) ≡ u → (u && not i) ≡ false → [] ≡ cond i [] (openingSays (take (s .words) list) (phaseOf (s .phase) b))
+          by true u e q = refl
+          by false true e q = let z : true ≡ false = q in cc
+          by false false e q = sym (opened-silent (take (s .words) list) (s .phase) b e)
 
-  pub said-is : cond (endedPhase (s .phase)) [] (commandSays (a .state .lines) (e .refusal) (a .command)) ≡ obeyedSays (runOf s b list x m) (asked (runOf s b list x m) k)
-  said-is = rw (asked-is, rd .lines) (message-is (s .phase) b (a .command) (suc (s .lines)) e ed)
+-- ════ what the code keeps up
+pub ready-open :
+    {s : State} {bytes after : List ℕ} {list x m : List ℤ} {n : ℕ} →
+    Ready s bytes list x m →
+    Opens (take (s .words) list) bytes n after →
+    length after ≡ length bytes →
+    Ready (openedWith s n) after list x m
+unfolding openedPhase
+ready-open {n = n} r o l =
+    record {
+      room-book = let h = r .room-book in omega arith;
+      room-list = r .room-list;
+      room-x = r .room-x;
+      room-m = r .room-m;
+      words = r .words;
+      corrections = r .corrections;
+      matrix = r .matrix;
+      read = r .read;
+      fits = λ h. o .fits (by (eqb n 0) refl h);
+    }
+  where
+    by : (t : Bool) → eqb n 0 ≡ t → openedPhase (cond t Opened Ended) ≡ true → n ≡ 0
+    by true q h = eqb-true n 0 q
+    by false q h = let z : false ≡ true = h in cc
 
 read-few : (n : ℕ) (c : Command) → readAfter n c ≤ suc n
 unfolding readAfter
@@ -221,16 +233,18 @@ read-few n (Matrix j) = omega arith
 read-few n Unreadable = omega arith
 
 pub ready-next :
-    {s : State} {b : Book} {list x m : List ℤ} {k : Kept} {a : Asked} {list′ x′ m′ : List ℤ} (c : Book) →
-    Ready s b list x m →
+    {s : State} {bytes after : List ℕ} {list x m : List ℤ} {k : Kept} {a : LineRead} {list′ x′ m′ : List ℤ} →
+    Ready s bytes list x m →
     Reads s k list x m a list′ x′ m′ →
+    length after ≡ length bytes →
     length list′ ≡ length list →
     length x′ ≡ length x →
     length m′ ≡ length m →
-    (openedPhase (s .phase) ≡ true → book.sound c ≡ true) →
-    Ready (a .state) c list′ x′ m′
-ready-next {s} {b} {list} {x} {m} {k} {a} {list′} {x′} {m′} c r d p q t f =
+    (openedPhase (s .phase) ≡ true → bytesFit after ≡ true) →
+    Ready (a .state) after list′ x′ m′
+ready-next {s} {a = a} r d l p q t f =
     record {
+      room-book = let h = r .room-book in omega arith;
       room-list = let h = r .room-list in omega arith;
       room-x = let h = r .room-x in omega arith;
       room-m = let h = r .room-m in omega arith;
@@ -238,30 +252,63 @@ ready-next {s} {b} {list} {x} {m} {k} {a} {list′} {x′} {m′} c r d p q t f 
       corrections = d .few-corrections;
       matrix = d .few-matrix;
       read = let h = r .read in omega (arith, d .read, d .lines, read-few (s .read) (a .command));
-      sound = λ h. f (rw (d .phase) at h);
+      fits = λ h. f (rw (d .phase) at h);
     }
 
-pub ready-open :
-    {s : State} {b : Book} {list x m : List ℤ} (e : Edited) →
-    Ready s b list x m →
-    Opens (take (s .words) list) e →
-    Ready (openedWith s (e .refusal)) (e .book) list x m
-unfolding openedPhase
-ready-open {s} {b} {list} {x} {m} e r o =
-    record {
-      room-list = r .room-list;
-      room-x = r .room-x;
-      room-m = r .room-m;
-      words = r .words;
-      corrections = r .corrections;
-      matrix = r .matrix;
-      read = r .read;
-      sound = λ h. o .sound (zero-phase (e .refusal) h);
-    }
-  where
-    zero-phase : (n : ℕ) → openedPhase (phaseAt n) ≡ true → n ≡ 0
-    zero-phase n h = by (eqb n 0) refl h
-      where
-        by : (t : Bool) → eqb n 0 ≡ t → openedPhase (cond t Opened Ended) ≡ true → n ≡ 0
-        by true q h = eqb-true n 0 q
-        by false q h = let z : false ≡ true = h in cc
+-- ════ a line entered: the book is opened where it has to be
+module _ {s : State} {bytes : List ℕ} {list : List ℤ} {line before : List ℕ} {at : ℕ} where
+  pub enters-open :
+      {n : ℕ} {opened : List ℕ} {next : ℕ} {after : List ℕ} →
+      (unopenedPhase (s .phase) && not (isStationLine line)) ≡ true →
+      Opens (take (s .words) list) bytes n opened →
+      length opened ≡ length bytes →
+      Written before at (openingAnswer n) next after →
+      next ≤ at + refusedRoom →
+      LineEnters s bytes list line before at (openedWith s n) opened next after
+  enters-open t o l w f =
+      record {
+        runs = λ x m. record { run = enter-open s (bookOf bytes) list x m line t o; written = written-as (enter-says s (bookOf bytes) list x m line t o) w; few = f };
+        ready = λ r. ready-open r o l;
+        lines = refl;
+      }
+
+  pub enters-stay : (unopenedPhase (s .phase) && not (isStationLine line)) ≡ false → LineEnters s bytes list line before at s bytes at before
+  enters-stay t =
+      record {
+        runs = λ x m. record { run = enter-stay s (bookOf bytes) list x m line t; written = written-as (enter-silent s (bookOf bytes) list x m line t) (nothing before at); few = omega arith };
+        ready = λ r. r;
+        lines = refl;
+      }
+
+-- ════ a line, once entered: what it asks, leaves and prints
+module _ (s : State) (b : Book) (list x m : List ℤ) (k : Kept) (a : LineRead) (list′ x′ m′ : List ℤ) (rd : Reads s k list x m a list′ x′ m′) (n : ℕ) (after : List ℕ) (ed : EditLeaves (cond (openedPhase (s .phase)) (edits b (a .command)) (unedited b)) n after) where
+  asked-is : asked (runOf s b list x m) k ≡ a .command
+  asked-is = rw (unopened-is (s .phase) b) (sym (rd .command))
+
+  obeyed-is : runOf (a .state) (bookOf after) list′ x′ m′ ≡ obeyed (runOf s b list x m) k (asked (runOf s b list x m) k)
+  obeyed-is =
+      rw (asked-is, rd .words, rd .read, rd .lines, rd .phase, rd .corrections, rd .matrix, ed .reads, phase-edited (s .phase) b (a .command))
+
+  said-is : cond (endedPhase (s .phase)) [] (commandSays (a .state .lines) n (a .command)) ≡ obeyedSays (runOf s b list x m) (asked (runOf s b list x m) k)
+  said-is = rw (asked-is, rd .lines, ed .number) (message-is (s .phase) b (a .command) (suc (s .lines)))
+
+module _ {s : State} {bytes : List ℕ} {list x m : List ℤ} {k : Kept} {before : List ℕ} {at : ℕ} {s₁ : State} {bytes₁ : List ℕ} {p : ℕ} {out : List ℕ} (e : LineEnters s bytes list (k .text) before at s₁ bytes₁ p out) where
+  pub line-obeyed :
+      {a : LineRead} {list′ x′ m′ : List ℤ} {opened ended : Bool} {n : ℕ} {bytes₂ : List ℕ} {q : ℕ} {after : List ℕ} →
+      Reads s₁ k list x m a list′ x′ m′ →
+      opened ≡ openedPhase (s₁ .phase) →
+      EditLeaves (cond opened (edits (bookOf bytes₁) (a .command)) (unedited (bookOf bytes₁))) n bytes₂ →
+      ended ≡ endedPhase (s₁ .phase) →
+      Written out p (cond ended [] (commandSays (a .state .lines) n (a .command))) q after →
+      q ≤ p + messageRoom →
+      RunsTo (next (runOf s (bookOf bytes) list x m) k) (says (runOf s (bookOf bytes) list x m) k) lineRoom before at (runOf (a .state) (bookOf bytes₂) list′ x′ m′) q after
+  unfolding next says
+  line-obeyed {a} {list′} {x′} {m′} {n = n} {bytes₂} rd i d j w few =
+      let r = e .runs x m in
+      let ed = rw i at d in
+      let said = said-is s₁ (bookOf bytes₁) list x m k a list′ x′ m′ rd n bytes₂ ed ∙ ap (λ (q : Run). obeyedSays q (asked q k)) (r .run) in
+      record {
+        run = obeyed-is s₁ (bookOf bytes₁) list x m k a list′ x′ m′ rd n bytes₂ ed ∙ ap (λ (q : Run). obeyed q k (asked q k)) (r .run);
+        written = written-as (ap (λ (t : List ℕ). beforeLineSays (runOf s (bookOf bytes) list x m) (k .text) ++ t) said) (r .written then (rw j at w));
+        few = let h = r .few in omega arith;
+      }

@@ -1,5 +1,5 @@
--- A run as the code holds it: a small state, a book, and lent lists of words, corrections and matrix entries, each from its front. Assumes nothing.
-use Prim.Native.Nat.{ℕ, suc, _≤_}
+-- A run as the code holds it: a small state, bytes that hold a book once there is one, and lent lists of words, corrections and matrix entries, each from its front. Assumes nothing.
+use Prim.Native.Nat.{ℕ, suc, _+_, _≤_}
 use mathlib.Core.Path.{_≡_}
 use mathlib.Core.Bool.{Bool, true, false, cond}
 use mathlib.Core.List.{List}
@@ -8,20 +8,23 @@ use lib.ListN.{length, take}
 use lib.IntN.{ℤ}
 use Rattle.network.specs.declared.Station as station
 use Rattle.book.specs.declared.Book.{Book}
-use Rattle.book.specs.declared.Edited as edited
-use Rattle.book.specs.Book as book
+use Rattle.book.specs.declared.Edited.{Edited}
+use Rattle.layout.specs.Layout.{bookBytes}
+use Rattle.layout.specs.Bytes.{bookOf, bytesFit}
 use Rattle.text.specs.Fields.{restFields}
 use Rattle.text.specs.Lines.{Kept}
+use Rattle.text.specs.Writing as writing
 use Rattle.commands.specs.Commands.{keptCommand}
-use Rattle.commands.specs.Brings.{brings, howMany}
+use Rattle.commands.specs.Brings.{SolutionPart, brings, howMany}
 use Rattle.commands.specs.declared.Command.{Command}
+use Rattle.printing.specs.Rooms.{refusedRoom}
 use Rattle.input_lines.specs.declared.Phase as code-phase
 use Rattle.input_lines.specs.declared.Phase.the-variants.{Unopened, Opened, Ended}
 use Rattle.input_lines.specs.declared.Given as code-given
 use Rattle.input_lines.specs.declared.Given.the-variants.{Nothing, Numbers}
 use Rattle.input_lines.specs.declared.State.{State}
-use Rattle.input_lines.specs.declared.Asked.{Asked}
-use Rattle.input_lines.specs.Runs.{Phase, unopened, opened, ended, Given, none, given, Run, noted, wordsAfter, readAfter, correctionsNext, matrixNext}
+use Rattle.input_lines.specs.declared.LineRead.{LineRead}
+use Rattle.input_lines.specs.Runs.{Phase, unopened, opened, ended, Given, none, given, Run, listRoom, noted, beforeLine, beforeLineSays, wordsAfter, readAfter, correctionsNext, matrixNext}
 
 -- ════ what it stands for
 unfoldable pub phaseOf : code-phase.Phase → Book → Phase
@@ -73,40 +76,42 @@ unfoldable pub isGiven : code-given.Given → Bool
 isGiven Nothing = false
 isGiven (Numbers n) = true
 
-pub record Ready (s : State) (b : Book) (list x m : List ℤ) : Type 0 where
-  pub room-list : 132 ≤ length list
+pub record Ready (s : State) (bytes : List ℕ) (list x m : List ℤ) : Type 0 where
+  pub room-book : bookBytes ≤ length bytes
+  pub room-list : listRoom ≤ length list
   pub room-x : 48 ≤ length x
   pub room-m : 2304 ≤ length m
-  pub words : s .words ≤ 132
+  pub words : s .words ≤ listRoom
   pub corrections : countOf (s .corrections) ≤ 48
   pub matrix : countOf (s .matrix) ≤ 2304
   pub read : s .read ≤ s .lines
-  pub sound : openedPhase (s .phase) ≡ true → book.sound b ≡ true
+  pub fits : openedPhase (s .phase) ≡ true → bytesFit bytes ≡ true
 
 -- ════ the opening
 abbrev pub openedWith : State → ℕ → State
 openedWith s refusal =
     record { lines = s .lines; read = s .read; words = s .words; phase = phaseAt refusal; corrections = s .corrections; matrix = s .matrix }
 
-pub record Opens (words : List ℤ) (e : edited.Edited) : Type 0 where
-  pub is : e ≡ book.opening words
-  pub sound : e .refusal ≡ 0 → book.sound (e .book) ≡ true
+-- ════ an edit that comes out as e, on bytes: its number, and the bytes afterwards, which hold its book. Bytes beyond the book are free: no later call looks there
+pub record EditLeaves (e : Edited) (n : ℕ) (after : List ℕ) : Type 0 where
+  pub number : n ≡ e .refusal
+  pub reads : bookOf after ≡ e .book
 
 -- ════ a line noted: the words at the front of the list, up to r
 pub record Noted (list : List ℤ) (words : ℕ) (s : station.Station) (r : ℕ) (after : List ℤ) : Type 0 where
   pub leaves : take r after ≡ noted (take words list) s
-  pub few : r ≤ 132
+  pub few : r ≤ listRoom
 
 pub record WordsNoted (list : List ℤ) (words : ℕ) (c : Command) (r : ℕ) (after : List ℤ) : Type 0 where
   pub leaves : take r after ≡ wordsAfter (take words list) c
-  pub few : r ≤ 132
+  pub few : r ≤ listRoom
 
--- how many numbers were given last, of the list that a line brings as `kind`
-abbrev pub givenCount : ℕ → code-given.Given → Command → code-given.Given
-givenCount kind g c = cond (eqb (brings c) kind) (Numbers (howMany c)) g
+-- how many numbers of that part were given last
+abbrev pub givenCount : SolutionPart → code-given.Given → Command → code-given.Given
+givenCount part g c = cond (brings c part) (Numbers (howMany c)) g
 
 -- what a line asks, and what it leaves of the state and the lent lists. Beyond what the state counts the lists are free: no later call looks there
-pub record Reads (s : State) (k : Kept) (list x m : List ℤ) (a : Asked) (list′ x′ m′ : List ℤ) : Type 0 where
+pub record Reads (s : State) (k : Kept) (list x m : List ℤ) (a : LineRead) (list′ x′ m′ : List ℤ) : Type 0 where
   pub command : a .command ≡ keptCommand (s .read) (unopenedPhase (s .phase)) k
   pub words : take (a .state .words) list′ ≡ wordsAfter (take (s .words) list) (a .command)
   pub read : a .state .read ≡ readAfter (s .read) (a .command)
@@ -114,6 +119,18 @@ pub record Reads (s : State) (k : Kept) (list x m : List ℤ) (a : Asked) (list�
   pub phase : a .state .phase ≡ s .phase
   pub corrections : givenOf (a .state .corrections) x′ ≡ correctionsNext (givenOf (s .corrections) x) (restFields (k .text)) (a .command)
   pub matrix : givenOf (a .state .matrix) m′ ≡ matrixNext (givenOf (s .matrix) m) (restFields (k .text)) (a .command)
-  pub few-words : a .state .words ≤ 132
+  pub few-words : a .state .words ≤ listRoom
   pub few-corrections : countOf (a .state .corrections) ≤ 48
   pub few-matrix : countOf (a .state .matrix) ≤ 2304
+
+-- ════ the run comes to r′, and `says` is printed from `at` on, in so much room at most
+pub record RunsTo (r′ : Run) (says : List ℕ) (room : ℕ) (before : List ℕ) (at : ℕ) (r : Run) (next : ℕ) (after : List ℕ) : Type 0 where
+  pub run : r ≡ r′
+  pub written : writing.Written before at says next after
+  pub few : next ≤ at + room
+
+-- a line entered, whatever the corrections and the matrix: the book may be opened
+pub record LineEnters (s : State) (bytes : List ℕ) (list : List ℤ) (line : List ℕ) (before : List ℕ) (at : ℕ) (s₁ : State) (bytes₁ : List ℕ) (next : ℕ) (after : List ℕ) : Type 0 where
+  pub runs : (x m : List ℤ) → RunsTo (beforeLine (runOf s (bookOf bytes) list x m) line) (beforeLineSays (runOf s (bookOf bytes) list x m) line) refusedRoom before at (runOf s₁ (bookOf bytes₁) list x m) next after
+  pub ready : {x m : List ℤ} → Ready s bytes list x m → Ready s₁ bytes₁ list x m
+  pub lines : s₁ .lines ≡ s .lines

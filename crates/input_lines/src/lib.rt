@@ -1,19 +1,16 @@
 // The run of an input, line by line: the station list and its opening, what a line asks, the edit that it makes, and its message. Document 01's
 // "The night print".
 mod editing;
+mod obeying;
 mod opening;
 mod reading;
 
 use commands::Command;
-pub use editing::edit_opened;
-pub use editing::write_message;
+pub use obeying::obey;
+pub use opening::LIST_ROOM;
 pub use opening::is_ended;
 pub use opening::is_opened;
 pub use opening::open_list;
-pub use opening::opened;
-pub use opening::opens_at;
-pub use opening::write_opening;
-pub use reading::read_line;
 
 // How far a run is; specs/Runs has what it means.
 pub enum Phase {
@@ -44,7 +41,13 @@ pub struct State {
 }
 
 // What a line asks, and the state with it noted.
-pub struct Asked {
+struct LineRead {
+    state: State,
+    command: Command,
+}
+
+// How far a run is in a chunk: its state, and how many bytes of the lent ones are printed.
+pub struct Reached {
     pub state: State,
-    pub command: Command,
+    pub printed: usize,
 }

@@ -1,21 +1,24 @@
 // The station list, and the book that it opens.
 use super::Phase;
 use super::State;
-use book::Book;
-use book::Edited;
 use network::Station;
+use network::Unit;
 ghost use mathlib.Core.Path.{_≡_};
 ghost use mathlib.Core.Bool.{true, not, _&&_};
 ghost use Prim.Native.Nat.{_+_, _≤_};
 ghost use lib.ListN.{length, take};
 ghost use lib.Seq.{sets};
-ghost use Rattle.network.specs.Stations.{opens};
-ghost use Rattle.book.specs.Book.{opening, sound};
+ghost use Rattle.layout.specs.Layout.{bookBytes};
+ghost use Rattle.lent_edits.specs.LentEdits.{Opens};
+ghost use Rattle.printing.specs.Rooms.{refusedRoom};
 ghost use Rattle.text.specs.Writing.{Written};
 ghost use Rattle.commands.specs.Commands.{isStationLine};
 ghost use Rattle.network.specs.StationWords.{stationWords};
-ghost use Rattle.input_lines.specs.Runs.{noted, refusalSays};
-ghost use Rattle.input_lines.specs.States.{unopenedPhase, openedPhase, endedPhase, phaseAt, openedWith, Noted, Opens};
+ghost use Rattle.input_lines.specs.Runs.{listRoom, openingAnswer};
+ghost use Rattle.input_lines.specs.States.{unopenedPhase, openedPhase, endedPhase, phaseAt, openedWith, Noted};
+
+// Room for the words of 33 stations: more than 32 are refused, whatever they are.
+pub const LIST_ROOM: usize = (Unit::STATIONS + 1) * 4;
 
 // The four words of a station, stored at index at.
 fn put_station(list: &mut [i64], at: usize, s: Station)
@@ -34,10 +37,10 @@ fn put_station(list: &mut [i64], at: usize, s: Station)
 
 // The words of a station after those at the front of the list, where there is room; how many there are then.
 pub(crate) fn note_station(list: &mut [i64], words: usize, s: Station) -> usize
-    requires { ⌜ (132 ≤ length (now list)) × (words ≤ 132) ⌝ }
+    requires { ⌜ (listRoom ≤ length (now list)) × (words ≤ listRoom) ⌝ }
     ensures { λ r. ⌜ Noted (now (list .entry)) words s r (now (list .exit)) ⌝ }
 {
-    if words <= 128 {
+    if words + 4 <= LIST_ROOM {
         put_station(list, words, s);
         return words + 4;
     }
@@ -78,7 +81,7 @@ pub fn is_ended(state: State) -> bool
 }
 
 // The state after an opening that was answered so.
-pub fn opened(state: State, refusal: u64) -> State
+pub(crate) fn opened(state: State, refusal: u64) -> State
     ensures { λ r. ⌜ r ≡ openedWith state refusal ⌝ }
 {
     let corrections = state.corrections;
@@ -104,28 +107,28 @@ fn phase_at(refusal: u64) -> Phase
 }
 
 // Whether a line opens the book: the first whose first field is not S.
-pub fn opens_at(state: State, line: &[u8]) -> bool
+pub(crate) fn opens_at(state: State, line: &[u8]) -> bool
     ensures { λ r. ⌜ r ≡ (unopenedPhase (state .phase) && not (isStationLine (now (line .entry)))) ⌝ }
 {
     is_unopened(state) & !commands::is_station_line(line)
 }
 
-// The book of the stations at the front of the list.
-pub fn open_list(list: &[i64], words: usize) -> Edited
-    requires { ⌜ words ≤ length (now list) ⌝ }
-    ensures { λ e. ⌜ Opens (take words (now (list .entry))) e ⌝ }
+// Opens a book on the stations at the front of the list, and writes it unless it is refused.
+pub fn open_list(list: &[i64], words: usize, book: &mut [u8]) -> u64
+    requires { ⌜ (words ≤ length (now list)) × (bookBytes ≤ length (now book)) ⌝ }
+    ensures { λ n. ⌜ Opens (take words (now (list .entry))) (now (book .entry)) n (now (book .exit)) ⌝ }
 {
-    Book::open(&list[0..words])
+    lent_edits::open(&list[0..words], book)
 }
 
 // What an opening prints.
-pub fn write_opening(out: &mut [u8], at: usize, refusal: u64) -> usize
-    requires { ⌜ at + 29 ≤ length (now out) ⌝ }
-    ensures { λ r. ⌜ Written (now (out .entry)) at (refusalSays refusal) r (now (out .exit)) ⌝ }
-    ensures { λ r. ⌜ r ≤ at + 29 ⌝ }
+pub(crate) fn write_opening(out: &mut [u8], at: usize, refusal: u64) -> usize
+    requires { ⌜ at + refusedRoom ≤ length (now out) ⌝ }
+    ensures { λ r. ⌜ Written (now (out .entry)) at (openingAnswer refusal) r (now (out .exit)) ⌝ }
+    ensures { λ r. ⌜ r ≤ at + refusedRoom ⌝ }
 {
     if refusal == 0 {
         return at;
     }
-    commands::write_refused(out, at, refusal)
+    printing::write_refused(out, at, refusal)
 }

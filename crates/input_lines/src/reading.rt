@@ -1,18 +1,19 @@
 // A line read: what it asks, and the state with its station, corrections or matrix noted.
-use super::Asked;
 use super::Given;
+use super::LineRead;
 use super::State;
 use super::opening;
 use commands::Command;
 ghost use mathlib.Core.Path.{_≡_};
 ghost use Prim.Native.Nat.{_+_, _≤_, _<_};
 ghost use lib.ListN.{length};
-ghost use Rattle.input_lines.specs.Runs.{readAfter};
+ghost use Rattle.commands.specs.Brings.{corrections, matrix};
+ghost use Rattle.input_lines.specs.Runs.{listRoom, readAfter};
 ghost use Rattle.input_lines.specs.States.{countOf, givenCount, WordsNoted, Reads};
 
 // The station of an S line, after those in the list.
 fn note_words(list: &mut [i64], words: usize, command: Command) -> usize
-    requires { ⌜ (132 ≤ length (now list)) × (words ≤ 132) ⌝ }
+    requires { ⌜ (listRoom ≤ length (now list)) × (words ≤ listRoom) ⌝ }
     ensures { λ r. ⌜ WordsNoted (now (list .entry)) words command r (now (list .exit)) ⌝ }
 {
     match command {
@@ -32,7 +33,7 @@ fn read_after(read: u64, command: Command) -> u64
 }
 
 fn corrections_after(given: Given, command: Command) -> Given
-    ensures { λ r. ⌜ r ≡ givenCount 1 given command ⌝ }
+    ensures { λ r. ⌜ r ≡ givenCount corrections given command ⌝ }
 {
     match command {
         Command::Corrections(n) => Given::Numbers(n),
@@ -41,7 +42,7 @@ fn corrections_after(given: Given, command: Command) -> Given
 }
 
 fn matrix_after(given: Given, command: Command) -> Given
-    ensures { λ r. ⌜ r ≡ givenCount 2 given command ⌝ }
+    ensures { λ r. ⌜ r ≡ givenCount matrix given command ⌝ }
 {
     match command {
         Command::Matrix(n) => Given::Numbers(n),
@@ -50,16 +51,16 @@ fn matrix_after(given: Given, command: Command) -> Given
 }
 
 // What a line asks in this state, and what it leaves of the state and the lent lists.
-pub fn read_line(
+pub(crate) fn read_line(
     state: State,
     line: &[u8],
     over: bool,
     list: &mut [i64],
     x: &mut [i64],
     m: &mut [i64],
-) -> Asked
-    requires { ⌜ (132 ≤ length (now list)) × (48 ≤ length (now x)) × (2304 ≤ length (now m)) ⌝ }
-    requires { ⌜ (state .words ≤ 132) × (countOf (state .corrections) ≤ 48) × (countOf (state .matrix) ≤ 2304) ⌝ }
+) -> LineRead
+    requires { ⌜ (listRoom ≤ length (now list)) × (48 ≤ length (now x)) × (2304 ≤ length (now m)) ⌝ }
+    requires { ⌜ (state .words ≤ listRoom) × (countOf (state .corrections) ≤ 48) × (countOf (state .matrix) ≤ 2304) ⌝ }
     requires { ⌜ (state .read ≤ state .lines) × (state .lines < 18446744073709551615) ⌝ }
     ensures { λ a. ⌜ Reads state (record { text = now (line .entry); over = over }) (now (list .entry)) (now (x .entry)) (now (m .entry)) a (now (list .exit)) (now (x .exit)) (now (m .exit)) ⌝ }
 {
@@ -72,7 +73,7 @@ pub fn read_line(
     let matrix = matrix_after(before, command);
     let phase = state.phase;
     let lines = state.lines + 1;
-    Asked {
+    LineRead {
         state: State {
             lines,
             read,

@@ -36,9 +36,9 @@ pub data Offer : Type 0 where
   none : Offer
   pair : List ℤ → List ℤ → Offer
 
-pub data Offers (b : Book) : Offer → Type 0 where
-  no-pair : Offers b none
-  accepted : {x m : List ℤ} → checked b x m true ≡ Accepted → Offers b (pair x m)
+pub data ValidOffer (b : Book) : Offer → Type 0 where
+  no-pair : ValidOffer b none
+  accepted : {x m : List ℤ} → checked b x m true ≡ Accepted → ValidOffer b (pair x m)
 
 -- "Without a readable X or M line the engine proposes; with no proposal, `NO PROPOSAL`"
 unfoldable pub offerSays : Book → Offer → List ℕ
@@ -48,6 +48,6 @@ offerSays b (pair x m) = sheetOf b x m
 -- the engine's offer is named, and printed at the front of `before`, which leaves `after`
 pub record Reported (b : Book) (before : List ℕ) (next : ℕ) (after : List ℕ) : Type 0 where
   pub offer : Offer
-  pub offers : Offers b offer
+  pub offers : ValidOffer b offer
   pub written : writing.Written before 0 (offerSays b offer) next after
   pub small : next ≤ sheetRoom

@@ -54,3 +54,7 @@ refusedUnknownRoom = 32
 -- `NO PROPOSAL`
 abbrev pub noProposalRoom : ℕ
 noProposalRoom = 12
+
+-- ════ what a line of the input prints at most: a refused opening's message, and its own
+abbrev pub lineRoom : ℕ
+lineRoom = refusedRoom + messageRoom

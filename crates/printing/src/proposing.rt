@@ -32,7 +32,13 @@ fn no_matrix() -> [i64; Normals::ENTRIES]
 }
 
 // The proposal for x and m, printed.
-fn report_proposal(out: &mut [u8], s: &[u8], x: &mut [i64], m: &mut [i64], work: &mut [f64]) -> usize
+fn report_proposal(
+    out: &mut [u8],
+    s: &[u8],
+    x: &mut [i64],
+    m: &mut [i64],
+    work: &mut [f64],
+) -> usize
     requires { ⌜ (bytesFit (now s) ≡ true) × (sheetRoom ≤ length (now out)) ⌝ }
     ensures { λ r. ⌜ Reported (bookOf (now (s .entry))) (now (out .entry)) r (now (out .exit)) ⌝ }
 {

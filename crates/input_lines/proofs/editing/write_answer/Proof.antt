@@ -1,7 +1,7 @@
 -- `editing::write_answer` meets its contract. Assumes nothing.
 use borrow.Author.Needs.{needs}
 use native.Mathlib.Omega.{arith}
-use Rattle.commands.specs.SheetLaws.{written-as}
+use Rattle.text.specs.Writing.{written-as}
 use Rattle.input_lines.specs.Runs.{commandSays}
 use Rattle.input_lines.proofs.Arms.{says-other}
 use Rattle.input_lines.proofs.editing.write_answer.Statement.{statement}

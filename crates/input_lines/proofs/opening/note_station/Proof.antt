@@ -1,15 +1,19 @@
--- `opening::note_station` meets its contract. Assumes nothing.
+-- By whether the list has room for four words more: they are stored after the others (`note-room`), or nothing is (`note-full`). Assumes nothing.
 use borrow.Author.Needs.{needs}
+use native.Mathlib.Omega.{arith}
 use denote.Ref.{now}
 use Rattle.input_lines.specs.StateLaws.{note-room, note-full}
 use Rattle.input_lines.proofs.opening.note_station.Statement.{statement}
 use Rattle.input_lines.proofs.opening.note_station.Tie as tie
 
+add-if1 : tie.Need-add-if1
+add-if1 c = search needs
+
 put-station-requires : tie.Need-put-station-requires
-put-station-requires c κs = search needs
+put-station-requires c κs = omega arith
 
 add-result : tie.Need-add-result
-add-result c = search needs
+add-result c = omega arith
 
 same-length : tie.Need-same-length
 same-length c = search needs
@@ -24,6 +28,7 @@ pub note-station-spec : {M : Type 1} → statement M
 note-station-spec =
     tie.close
     (tie.spec
+    add-if1
     put-station-requires
     add-result
     same-length
