@@ -8,21 +8,22 @@ use borrow.Author.Tests.{eq-eqb, ne-eqb}
 use lib.ListN.{take}
 use lib.IntN.{ℤ}
 use Rattle.book.specs.declared.Book.{Book}
-use Rattle.book.specs.declared.Edited.{Edited}
 use Rattle.book.specs.Book as book
-use Rattle.text.specs.Writing.{Written, nothing}
-use Rattle.commands.specs.Messages.{refused}
-use Rattle.commands.specs.SheetLaws.{written-as}
-use Rattle.reports.specs.Reports.{checkSays, Offer, offerSays, no-pair}
-use Rattle.reports.specs.Reports as reports
+use Rattle.layout.specs.Bytes.{bookOf}
+use Rattle.lent_edits.specs.LentEdits.{Opens}
+use Rattle.text.specs.Writing.{Written, written-as, nothing}
+use Rattle.printing.specs.Rooms.{sheetRoom}
+use Rattle.printing.specs.Messages.{refused}
+use Rattle.printing.specs.Reports.{checkSays, Offer, offerSays, no-pair}
+use Rattle.printing.specs.Reports as reports
 use Rattle.input_lines.specs.declared.Phase as code-phase
 use Rattle.input_lines.specs.declared.Phase.the-variants.{Unopened, Opened, Ended}
 use Rattle.input_lines.specs.declared.Given as code-given
 use Rattle.input_lines.specs.declared.Given.the-variants as code
 use Rattle.input_lines.specs.declared.State.{State}
 use Rattle.input_lines.specs.Runs.{Phase, opened, ended, phaseWith, phaseOpened, openingSays}
-use Rattle.input_lines.specs.States.{phaseOf, givenOf, isGiven, countOf, runOf, openedPhase, endedPhase, Opens}
-use Rattle.adjustment.specs.Ends.{bookEnds, phaseEnds, endSays, BookEnds, Ends}
+use Rattle.input_lines.specs.States.{phaseOf, givenOf, isGiven, countOf, runOf, openedPhase, endedPhase}
+use Rattle.adjustment.specs.Ends.{bookEnds, phaseEnds, endSays, BookEnds, RunEnds}
 
 -- ════ a book
 module _ (b : Book) (x m : List ℤ) where
@@ -64,7 +65,7 @@ same-book b c e = cc
 
 -- ════ the end
 module _ (s : State) (b : Book) (list x m : List ℤ) (out : List ℕ) where
-  pub end-ended : s .phase ≡ Ended → Ends (runOf s b list x m) out 0 out
+  pub end-ended : s .phase ≡ Ended → RunEnds (runOf s b list x m) out 0 out
   unfolding endSays openingSays phaseEnds phaseOf phaseOpened
   end-ended e =
       rw e
@@ -75,7 +76,7 @@ module _ (s : State) (b : Book) (list x m : List ℤ) (out : List ℕ) where
         small = omega arith;
       })
 
-  pub end-opened : {n : ℕ} {after : List ℕ} → s .phase ≡ Opened → BookEnds (givenOf (s .corrections) x) (givenOf (s .matrix) m) b out n after → Ends (runOf s b list x m) out n after
+  pub end-opened : {n : ℕ} {after : List ℕ} → s .phase ≡ Opened → BookEnds (givenOf (s .corrections) x) (givenOf (s .matrix) m) b out n after → RunEnds (runOf s b list x m) out n after
   unfolding endSays openingSays phaseEnds phaseOf phaseOpened
   end-opened e h =
       rw e
@@ -86,31 +87,31 @@ module _ (s : State) (b : Book) (list x m : List ℤ) (out : List ℕ) where
         small = h .small;
       })
 
-  module _ (e : Edited) (u : s .phase ≡ Unopened) (o : Opens (take (s .words) list) e) where
-    refused-phase : (e .refusal ≡ 0 → ⊥) → phaseWith (book.opening (take (s .words) list)) ≡ ended
-    refused-phase q = rw (← o .is, ne-eqb (e .refusal) 0 q)
+  module _ (u : s .phase ≡ Unopened) {before bytes : List ℕ} {number : ℕ} (o : Opens (take (s .words) list) before number bytes) where
+    refused-phase : (number ≡ 0 → ⊥) → phaseWith (book.opening (take (s .words) list)) ≡ ended
+    refused-phase q = rw (← o .number, ne-eqb number 0 q)
 
-    fresh-phase : e .refusal ≡ 0 → phaseWith (book.opening (take (s .words) list)) ≡ opened (e .book)
-    fresh-phase q = rw (← o .is, eq-eqb (e .refusal) 0 q)
+    fresh-phase : number ≡ 0 → phaseWith (book.opening (take (s .words) list)) ≡ opened (bookOf bytes)
+    fresh-phase q = rw (← o .number, eq-eqb number 0 q, o .reads q)
 
-    pub end-refused : {n : ℕ} {after : List ℕ} → (e .refusal ≡ 0 → ⊥) → Written out 0 (refused (e .refusal)) n after → n ≤ 32188 → Ends (runOf s b list x m) out n after
+    pub end-refused : {n : ℕ} {after : List ℕ} → (number ≡ 0 → ⊥) → Written out 0 (refused number) n after → n ≤ sheetRoom → RunEnds (runOf s b list x m) out n after
     unfolding endSays openingSays phaseEnds phaseOf phaseOpened
     end-refused q w k =
         rw u
         (record {
           offer = reports.none;
           offers = λ c r. no-pair;
-          written = rw (refused-phase q, ← o .is, ne-eqb (e .refusal) 0 q) (written-as (sym (append-nil (refused (e .refusal)))) w);
+          written = rw (refused-phase q, ← o .number, ne-eqb number 0 q) (written-as (sym (append-nil (refused number))) w);
           small = k;
         })
 
-    pub end-fresh : {n : ℕ} {after : List ℕ} → e .refusal ≡ 0 → BookEnds (givenOf (s .corrections) x) (givenOf (s .matrix) m) (e .book) out n after → Ends (runOf s b list x m) out n after
+    pub end-fresh : {n : ℕ} {after : List ℕ} → number ≡ 0 → BookEnds (givenOf (s .corrections) x) (givenOf (s .matrix) m) (bookOf bytes) out n after → RunEnds (runOf s b list x m) out n after
     unfolding endSays openingSays phaseEnds phaseOf phaseOpened
     end-fresh q h =
         rw u
         (record {
           offer = h .offer;
-          offers = λ c r. rw (same-book (e .book) c (sym (fresh-phase q) ∙ r)) at (h .offers);
-          written = rw (fresh-phase q, ← o .is, eq-eqb (e .refusal) 0 q) (h .written);
+          offers = λ c r. rw (same-book (bookOf bytes) c (sym (fresh-phase q) ∙ r)) at (h .offers);
+          written = rw (fresh-phase q, ← o .number, eq-eqb number 0 q) (h .written);
           small = h .small;
         })

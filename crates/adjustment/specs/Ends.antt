@@ -4,7 +4,8 @@ use mathlib.Core.Path.{_≡_}
 use mathlib.Core.List.{List, [], _++_}
 use Rattle.book.specs.declared.Book.{Book}
 use Rattle.text.specs.Writing as writing
-use Rattle.reports.specs.Reports.{checkSays, Offer, Offers, offerSays}
+use Rattle.printing.specs.Rooms.{sheetRoom}
+use Rattle.printing.specs.Reports.{checkSays, Offer, ValidOffer, offerSays}
 use Rattle.input_lines.specs.Runs.{Phase, unopened, opened, ended, Given, none, given, Run, openingSays, openRun}
 
 -- ════ the end
@@ -26,18 +27,18 @@ endSays r offer = openingSays (r .words) (r .phase) ++ phaseEnds (r .corrections
 
 -- the engine's offer is named: a pair that the check accepts on the run's book, or none
 abbrev pub OffersAt : Run → Offer → Type 0
-OffersAt r offer = (b : Book) → openRun r .phase ≡ opened b → Offers b offer
+OffersAt r offer = (b : Book) → openRun r .phase ≡ opened b → ValidOffer b offer
 
 -- what the end prints of a book
 pub record BookEnds (x m : Given) (b : Book) (before : List ℕ) (next : ℕ) (after : List ℕ) : Type 0 where
   pub offer : Offer
-  pub offers : Offers b offer
+  pub offers : ValidOffer b offer
   pub written : writing.Written before 0 (bookEnds x m b offer) next after
-  pub small : next ≤ 32188
+  pub small : next ≤ sheetRoom
 
 -- what the end prints stands at the front of `before`, which leaves `after`
-pub record Ends (r : Run) (before : List ℕ) (next : ℕ) (after : List ℕ) : Type 0 where
+pub record RunEnds (r : Run) (before : List ℕ) (next : ℕ) (after : List ℕ) : Type 0 where
   pub offer : Offer
   pub offers : OffersAt r offer
   pub written : writing.Written before 0 (endSays r offer) next after
-  pub small : next ≤ 32188
+  pub small : next ≤ sheetRoom

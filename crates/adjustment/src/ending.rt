@@ -1,14 +1,14 @@
 // The end of the input: the check of what X and M gave, or of what the engine proposes.
-use book::Book;
 use input_lines::Given;
 use input_lines::State;
 ghost use mathlib.Core.Path.{_≡_};
 ghost use mathlib.Core.Bool.{true};
 ghost use Prim.Native.Nat.{_≤_};
 ghost use lib.ListN.{length};
-ghost use Rattle.book.specs.Book.{sound};
+ghost use Rattle.layout.specs.Bytes.{bookOf, bytesFit};
+ghost use Rattle.printing.specs.Rooms.{sheetRoom};
 ghost use Rattle.input_lines.specs.States.{countOf, givenOf, isGiven, runOf, Ready};
-ghost use Rattle.adjustment.specs.Ends.{BookEnds, Ends};
+ghost use Rattle.adjustment.specs.Ends.{BookEnds, RunEnds};
 
 fn count(given: Given) -> usize
     ensures { λ r. ⌜ r ≡ countOf given ⌝ }
@@ -31,27 +31,34 @@ fn is_given(given: Given) -> bool
 // What the end prints of a book.
 fn conclude(
     out: &mut [u8],
-    book: Book,
+    book: &[u8],
     corrections: Given,
     matrix: Given,
     x: &[i64],
     m: &[i64],
 ) -> usize
-    requires { ⌜ (sound book ≡ true) × (countOf corrections ≤ length (now x)) × (countOf matrix ≤ length (now m)) × (32188 ≤ length (now out)) ⌝ }
-    ensures { λ r. ⌜ BookEnds (givenOf corrections (now (x .entry))) (givenOf matrix (now (m .entry))) book (now (out .entry)) r (now (out .exit)) ⌝ }
+    requires { ⌜ (bytesFit (now book) ≡ true) × (countOf corrections ≤ length (now x)) × (countOf matrix ≤ length (now m)) × (sheetRoom ≤ length (now out)) ⌝ }
+    ensures { λ r. ⌜ BookEnds (givenOf corrections (now (x .entry))) (givenOf matrix (now (m .entry))) (bookOf (now (book .entry))) (now (out .entry)) r (now (out .exit)) ⌝ }
 {
     if is_given(corrections) | is_given(matrix) {
         let n = count(corrections);
         let entries = count(matrix);
-        return reports::write_check(out, book, &x[0..n], &m[0..entries]);
+        return printing::write_check(out, book, &x[0..n], &m[0..entries]);
     }
-    reports::write_proposal(out, book)
+    printing::write_proposal(out, book)
 }
 
 // What the end of the input prints, at the front of out. It opens an unopened book.
-pub fn finish(state: State, book: Book, list: &[i64], x: &[i64], m: &[i64], out: &mut [u8]) -> usize
-    requires { ⌜ Ready state book (now list) (now x) (now m) × (32188 ≤ length (now out)) ⌝ }
-    ensures { λ r. ⌜ Ends (runOf state book (now (list .entry)) (now (x .entry)) (now (m .entry))) (now (out .entry)) r (now (out .exit)) ⌝ }
+pub fn finish(
+    state: State,
+    book: &mut [u8],
+    list: &[i64],
+    x: &[i64],
+    m: &[i64],
+    out: &mut [u8],
+) -> usize
+    requires { ⌜ Ready state (now book) (now list) (now x) (now m) × (sheetRoom ≤ length (now out)) ⌝ }
+    ensures { λ r. ⌜ RunEnds (runOf state (bookOf (now (book .entry))) (now (list .entry)) (now (x .entry)) (now (m .entry))) (now (out .entry)) r (now (out .exit)) ⌝ }
 {
     let corrections = state.corrections;
     let matrix = state.matrix;
@@ -61,11 +68,9 @@ pub fn finish(state: State, book: Book, list: &[i64], x: &[i64], m: &[i64], out:
     if input_lines::is_opened(state) {
         return conclude(out, book, corrections, matrix, x, m);
     }
-    let e = input_lines::open_list(list, state.words);
-    let refusal = e.refusal;
+    let refusal = input_lines::open_list(list, state.words, book);
     if refusal != 0 {
-        return commands::write_refused(out, 0, refusal);
+        return printing::write_refused(out, 0, refusal);
     }
-    let fresh = e.book;
-    conclude(out, fresh, corrections, matrix, x, m)
+    conclude(out, book, corrections, matrix, x, m)
 }

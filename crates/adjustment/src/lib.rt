@@ -2,17 +2,15 @@
 mod chunks;
 mod ending;
 
-use book::Book;
 pub use chunks::begin;
 pub use chunks::take_chunk;
 pub use ending::finish;
 use input_lines::State;
 
-// A run between two chunks of its input: its state and book, how many bytes are held of the line that goes on and whether it had more, and how
-// many bytes were printed.
+// A run between two chunks of its input: its state, how many bytes are held of the line that goes on and whether it had more, and how many bytes
+// were printed.
 pub struct Taken {
     pub state: State,
-    pub book: Book,
     pub len: usize,
     pub over: bool,
     pub printed: usize,

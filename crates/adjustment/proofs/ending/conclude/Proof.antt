@@ -1,13 +1,13 @@
--- `ending::conclude` meets its contract. Assumes nothing.
+-- Where X or M was given, the check of what they gave (`ends-check`); else the engine's proposal (`ends-offer`). Assumes nothing.
 use borrow.Author.Needs.{needs}
 use Prim.Native.Nat.{ℕ}
-use mathlib.Core.Path.{_≡_, ap₂, _∙_}
-use mathlib.Core.Bool.{true, false, _||_}
+use mathlib.Core.Path.{_≡_, sym, ap₂, _∙_}
+use mathlib.Core.Bool.{Bool, true, false, _||_}
 use native.Mathlib.Nat.{sub-zero}
 use lib.ListN.{take}
-use denote.Ref.{now}
-use Rattle.commands.specs.SheetLaws.{written-as}
-use Rattle.reports.specs.Reports.{checkSays, none, no-pair}
+use Rattle.layout.specs.Bytes.{bookOf}
+use Rattle.text.specs.Writing.{written-as}
+use Rattle.printing.specs.Reports.{checkSays, none, no-pair}
 use Rattle.input_lines.specs.States.{isGiven}
 use Rattle.adjustment.specs.EndLaws.{ends-check, ends-offer}
 use Rattle.adjustment.proofs.ending.conclude.Statement.{statement}
@@ -49,15 +49,22 @@ write-check-requires c κs = search needs
 same-length : tie.Need-same-length
 same-length c = search needs
 
+-- X or M was given: as the code asks, and as the specification does
+asked-is : (g : tie.After-is-given2) (t : Bool) → (g .before .is-given .result || g .is-given2 .result) ≡ t → let a = g .before .before .before .before .args in (isGiven (a .corrections) || isGiven (a .matrix)) ≡ t
+asked-is g t e = sym (ap₂ _||_ (g .before .is-given .ensures) (g .is-given2 .ensures)) ∙ e
+
 returns : tie.Need-returns
 returns c =
-    let s = c .before .before .before .before .before .before .before .before .before .before .before .before in
-    let b = s .args .book in
-    let x = now (s .args .x) in
-    let m = now (s .args .m) in
-    let t : (isGiven (s .args .corrections) || isGiven (s .args .matrix)) ≡ true = rw (← c .before .before .before .before .before .before .before .before .before .before .is-given .ensures, ← c .before .before .before .before .before .before .before .before .before .is-given2 .ensures) (c .before .before .before .before .before .before .before .before .if1 .taken) in
-    let e = ap₂ (λ (i j : ℕ). checkSays b (take i x) (take j m)) (sub-zero (c .before .before .before .before .before .before .before .count .result) ∙ c .before .before .before .before .before .before .before .count .ensures) (sub-zero (c .before .before .before .before .before .before .count2 .result) ∙ c .before .before .before .before .before .before .count2 .ensures) ∙ ends-check b x m (s .args .corrections) (s .args .matrix) t in
-    record { offer = none; offers = no-pair; written = written-as e (c .before .before .write-check .ensures .0); small = c .before .before .write-check .ensures .1 }
+    let w = c .before .before in
+    let k = w .before .before .before .before in
+    let n = k .before in
+    let t = n .before in
+    let a = t .before .before .before .before .before .args in
+    let b = bookOf (a .book .now) in
+    let x = a .x .now in
+    let m = a .m .now in
+    let e = ap₂ (λ (i j : ℕ). checkSays b (take i x) (take j m)) (sub-zero (n .count .result) ∙ n .count .ensures) (sub-zero (k .count2 .result) ∙ k .count2 .ensures) ∙ ends-check b x m (a .corrections) (a .matrix) (asked-is (t .before) true (t .if1 .taken)) in
+    record { offer = none; offers = no-pair; written = written-as e (w .write-check .ensures .0); small = w .write-check .ensures .1 }
 
 write-proposal-requires : tie.Need-write-proposal-requires
 write-proposal-requires c κs = search needs
@@ -67,13 +74,14 @@ same-length-2 c = search needs
 
 returns-2 : tie.Need-returns-2
 returns-2 c =
-    let s = c .before .before .before .before .before .before .before .before in
-    let q = c .before .before .write-proposal .ensures in
-    let t : (isGiven (s .args .corrections) || isGiven (s .args .matrix)) ≡ false = rw (← c .before .before .before .before .before .before .is-given .ensures, ← c .before .before .before .before .before .is-given2 .ensures) (c .before .before .before .before .if1 .left) in
+    let w = c .before .before in
+    let t = w .before .before in
+    let a = t .before .before .before .before .before .args in
+    let q = w .write-proposal .ensures in
     record {
       offer = q .offer;
       offers = q .offers;
-      written = written-as (ends-offer (s .args .book) (now (s .args .x)) (now (s .args .m)) (s .args .corrections) (s .args .matrix) (q .offer) t) (q .written);
+      written = written-as (ends-offer (bookOf (a .book .now)) (a .x .now) (a .m .now) (a .corrections) (a .matrix) (q .offer) (asked-is (t .before) false (t .if1 .left))) (q .written);
       small = q .small;
     }
 
