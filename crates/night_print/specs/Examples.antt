@@ -7,8 +7,8 @@ use Rattle.text.specs.Numbers.{decimalIn}
 use Rattle.text.specs.Before.{before}
 use Rattle.text.specs.Fields.{letterOf}
 use Rattle.text.specs.Lines.{linesAfter}
-use Rattle.commands.specs.Messages.{refused}
-use Rattle.reports.specs.Reports.{none}
+use Rattle.printing.specs.Messages.{refused}
+use Rattle.printing.specs.Reports.{none}
 use Rattle.network.specs.StationWords.{flat}
 use Rattle.input_lines.specs.Runs.{phaseOpened, openingSays, phaseAfter, phaseSays}
 use Rattle.adjustment.specs.Ends.{phaseEnds}

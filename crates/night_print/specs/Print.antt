@@ -19,7 +19,7 @@ use Rattle.text.specs.Lines.{linesOf}
 use Rattle.commands.specs.Commands.{commandOf, isStationLine}
 use Rattle.commands.specs.declared.Command.{Command}
 use Rattle.commands.specs.declared.Command.the-variants.{Station, Call, Corrections, Matrix, Unreadable}
-use Rattle.reports.specs.Reports.{Offer, Offers}
+use Rattle.printing.specs.Reports.{Offer, ValidOffer}
 use Rattle.input_lines.specs.Runs.{Phase, unopened, opened, Given, none, phaseOpened, openingSays, isUnopened, phaseAfter, phaseSays, correctionsNext, matrixNext}
 use Rattle.adjustment.specs.Ends.{phaseEnds}
 
@@ -108,5 +108,5 @@ printed text offer = linesSay atStart (linesOf text) ++ endPrints (afterLines te
 -- ════ "It prints exactly": the bytes are those of the text, with an offer that is named: "a pair the check accepts, or no proposal"
 pub record Prints (text bytes : List ℕ) : Type 0 where
   pub offer : Offer
-  pub offers : (b : Book) → opensRun (afterLines text) .phase ≡ opened b → Offers b offer
+  pub offers : (b : Book) → opensRun (afterLines text) .phase ≡ opened b → ValidOffer b offer
   pub are : bytes ≡ printed text offer

@@ -68,9 +68,9 @@ not-unread e = differ (cc)
 not-finished : {A : Type 0} → Finished ≡ Reading → A
 not-finished e = differ (cc)
 
-module _ {t t₁ : Taken} {came : List ℕ} {printed : ℕ} {list x m : List ℤ} {out : List ℕ} where
-  pub continues-unread : printed ≤ length out → Continues t came Unread t₁ printed list x m out
+module _ {t t₁ : Taken} {came : List ℕ} {printed : ℕ} {bytes : List ℕ} {list x m : List ℤ} {out : List ℕ} where
+  pub continues-unread : printed ≤ length out → Continues t came Unread t₁ printed bytes list x m out
   continues-unread h = record { ready = λ e. not-unread e; short = λ e. not-unread e; lines = λ e. not-unread e; within = h }
 
-  pub continues-finished : printed ≤ length out → Continues t came Finished t₁ printed list x m out
+  pub continues-finished : printed ≤ length out → Continues t came Finished t₁ printed bytes list x m out
   continues-finished h = record { ready = λ e. not-finished e; short = λ e. not-finished e; lines = λ e. not-finished e; within = h }

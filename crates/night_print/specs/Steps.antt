@@ -6,6 +6,7 @@ use mathlib.Core.List.{List, []}
 use lib.ListN.{length}
 use lib.IntN.{ℤ}
 use Rattle.text.specs.Lines.{Kept}
+use Rattle.commands.specs.Commands.{longestLine}
 use Rattle.input_lines.specs.Runs.{Phase, unopened, opened, ended, Run}
 use Rattle.input_lines.specs.States.{Ready}
 use Rattle.adjustment.specs.declared.Taken.{Taken}
@@ -31,8 +32,8 @@ pub record Steps (r : Run) (k : Kept) (failed : Bool) (came before : List ℕ) (
   pub takes : failed ≡ false → (came ≡ [] → ⊥) → (p ≡ cond (isEnded (r₁ .phase)) Refused Reading) × Takes r k came before r₁ k₁ n after
 
 -- what the next step asks, where there is one
-pub record Continues (t : Taken) (came : List ℕ) (p : Progress) (t₁ : Taken) (printed : ℕ) (list x m : List ℤ) (out : List ℕ) : Type 0 where
-  pub ready : p ≡ Reading → Ready (t₁ .state) (t₁ .book) list x m
-  pub short : p ≡ Reading → t₁ .len ≤ 50000
+pub record Continues (t : Taken) (came : List ℕ) (p : Progress) (t₁ : Taken) (printed : ℕ) (bytes : List ℕ) (list x m : List ℤ) (out : List ℕ) : Type 0 where
+  pub ready : p ≡ Reading → Ready (t₁ .state) bytes list x m
+  pub short : p ≡ Reading → t₁ .len ≤ longestLine
   pub lines : p ≡ Reading → t₁ .state .lines ≤ t .state .lines + length came
   pub within : printed ≤ length out

@@ -10,11 +10,13 @@ use lib.Dec.{leb}
 use lib.ListN.{length, take, drop, length-drop, length-append, drop-of-length-le}
 use lib.Seq.{take-all, take-append-add, drop-append-add, drop-drop, length-take-le}
 use Rattle.text.specs.Lines.{Kept, blank, came, concat, isLine, lastKept}
+use Rattle.commands.specs.Commands.{longestLine}
+use Rattle.printing.specs.Rooms.{lineRoom}
 use Rattle.input_lines.specs.Runs.{Run, start, runAfter, saysAll}
 use Rattle.input_lines.specs.StateLaws.{written-front, written-beyond, drop-further}
 use Rattle.adjustment.specs.Chunks.{Takes}
-use Rattle.adjustment.specs.Ends.{Ends}
-use Rattle.night_print.specs.Closing.{Concludes}
+use Rattle.adjustment.specs.Ends.{RunEnds}
+use Rattle.night_print.specs.Closing.{endRoom, Concludes}
 use Rattle.night_print.specs.Print.{Prints}
 use Rattle.night_print.specs.Texts.{PrintsAll}
 use Rattle.night_print.specs.Whole.{no-more, then-a-chunk, whole-text}
@@ -53,12 +55,12 @@ module _ (p : ℕ) (buffer : List ℕ) (h : p ≤ length buffer) where
       drop-back part n ∙ d ∙ ap (drop n) lent-is ∙ drop-drop n p buffer ∙ drop-further buffer before p (p + n) (omega arith) e
 
 -- ════ room for a text's print, tested without a product
-pub room-test : (text out : ℕ) → 32272 ≤ out → leb text ((out - 32272) / 84) ≡ leb (84 * text + 32272) out
-room-test text out h = by (decLe text ((out - 32272) / 84))
+pub room-test : (text out : ℕ) → endRoom ≤ out → leb text ((out - endRoom) / lineRoom) ≡ leb (lineRoom * text + endRoom) out
+room-test text out h = by (decLe text ((out - endRoom) / lineRoom))
   where
-    by : Dec (text ≤ (out - 32272) / 84) → leb text ((out - 32272) / 84) ≡ leb (84 * text + 32272) out
-    by (yes g) = le-leb text ((out - 32272) / 84) g ∙ sym (le-leb (84 * text + 32272) out (omega arith))
-    by (no g) = lt-leb text ((out - 32272) / 84) (omega arith) ∙ sym (lt-leb (84 * text + 32272) out (omega arith))
+    by : Dec (text ≤ (out - endRoom) / lineRoom) → leb text ((out - endRoom) / lineRoom) ≡ leb (lineRoom * text + endRoom) out
+    by (yes g) = le-leb text ((out - endRoom) / lineRoom) g ∙ sym (le-leb (lineRoom * text + endRoom) out (omega arith))
+    by (no g) = lt-leb text ((out - endRoom) / lineRoom) (omega arith) ∙ sym (lt-leb (lineRoom * text + endRoom) out (omega arith))
 
 -- ════ the end, without a last line that is held, and with one
 last-none : (k : Kept) → isLine k ≡ false → lastKept k ≡ []
@@ -67,7 +69,7 @@ last-none k e = rw e
 last-line : (k : Kept) → isLine k ≡ true → lastKept k ≡ k ∷ []
 last-line k e = rw e
 
-pub closes-none : {r : Run} {k : Kept} {before : List ℕ} {n : ℕ} {after : List ℕ} → isLine k ≡ false → 32272 ≤ length before → Ends r before n after → Concludes r k before n after
+pub closes-none : {r : Run} {k : Kept} {before : List ℕ} {n : ℕ} {after : List ℕ} → isLine k ≡ false → endRoom ≤ length before → RunEnds r before n after → Concludes r k before n after
 unfolding runAfter saysAll
 closes-none {r} {k} {before} {n} {after} e room h =
     let z = last-none k e in
@@ -83,18 +85,18 @@ closes-none {r} {k} {before} {n} {after} e room h =
     }
 
 -- the LF (10) that the last line lacks ends it
-lf-ends : (k : Kept) → came 50000 k (10 ∷ []) ≡ record { ended = k ∷ []; going = blank }
+lf-ends : (k : Kept) → came longestLine k (10 ∷ []) ≡ record { ended = k ∷ []; going = blank }
 unfolding came
 lf-ends k = refl
 
 module _ {r r₁ : Run} {k k₁ : Kept} {before mid part : List ℕ} {p n : ℕ} where
   pub closes-line :
       isLine k ≡ true →
-      32272 ≤ length before →
+      endRoom ≤ length before →
       length mid ≡ length before →
-      p ≤ 84 →
+      p ≤ lineRoom →
       Takes r k (10 ∷ []) before r₁ k₁ p mid →
-      Ends r₁ (lentFrom p mid) n part →
+      RunEnds r₁ (lentFrom p mid) n part →
       Concludes r k before (p + n) (backFrom p mid part)
   closes-line e room same few t h =
       let z = last-line k e in
@@ -116,10 +118,10 @@ module _ {r r₁ : Run} {k k₁ : Kept} {before mid part : List ℕ} {p n : ℕ}
   -- ════ a whole text as one chunk, and its end
   pub prints-all :
       {text : List ℕ} →
-      84 * length text + 32272 ≤ length before →
+      lineRoom * length text + endRoom ≤ length before →
       length mid ≡ length before →
       length part ≡ length (lentFrom p mid) →
-      p ≤ 84 * length text →
+      p ≤ lineRoom * length text →
       r ≡ start →
       k ≡ blank →
       Takes r k text before r₁ k₁ p mid →

@@ -7,6 +7,8 @@ use lib.Dec.{leb}
 use lib.ListN.{length, take, drop}
 use Rattle.night_print.specs.declared.Printing.{Printing}
 use Rattle.night_print.specs.declared.Printing.the-variants.{Bytes, NoRoom}
+use Rattle.printing.specs.Rooms.{lineRoom}
+use Rattle.night_print.specs.Closing.{endRoom}
 use Rattle.night_print.specs.Print.{Prints}
 
 -- the text's print stands at the front of `before`, which leaves `after`; bytes beyond stay
@@ -15,9 +17,9 @@ pub record PrintsAll (text before : List ℕ) (n : ℕ) (after : List ℕ) : Typ
   pub beyond : drop n after ≡ drop n before
   pub within : n ≤ length after
 
--- room for whatever a text prints: 84 bytes for each of its own (two messages: a refused opening's and the line's), and the last line and the end
+-- room for whatever a text prints: what a line may print for each of its bytes, and the last line and the end
 abbrev pub printRoom : List ℕ → List ℕ → Bool
-printRoom text out = leb (84 * length text + 32272) (length out)
+printRoom text out = leb (lineRoom * length text + endRoom) (length out)
 
 -- how many bytes it has, or that there is too little room, and then nothing is written
 unfoldable pub Printed : List ℕ → List ℕ → Printing → List ℕ → Type 0

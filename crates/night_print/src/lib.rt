@@ -4,7 +4,9 @@ mod rooms;
 mod stepping;
 
 use adjustment::Taken;
+pub use closing::END_ROOM;
 pub use closing::print_text;
+pub use rooms::book_room;
 pub use rooms::corrections_room;
 pub use rooms::line_room;
 pub use rooms::list_room;

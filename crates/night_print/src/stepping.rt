@@ -7,9 +7,13 @@ ghost use Prim.Native.Nat.{_+_, _*_, _≤_, _<_};
 ghost use mathlib.Core.Path.{_≡_};
 ghost use mathlib.Core.Bool.{cond};
 ghost use lib.ListN.{length};
+ghost use Rattle.layout.specs.Bytes.{bookOf};
 ghost use Rattle.text.specs.Lines.{holds};
+ghost use Rattle.commands.specs.Commands.{longestLine};
+ghost use Rattle.printing.specs.Rooms.{lineRoom};
 ghost use Rattle.input_lines.specs.States.{runOf, Ready};
 ghost use Rattle.night_print.specs.declared.Progress.the-variants.{Reading, Refused};
+ghost use Rattle.night_print.specs.Closing.{endRoom};
 ghost use Rattle.night_print.specs.Steps.{Steps, Continues};
 
 // A refused opening ends a run.
@@ -29,15 +33,16 @@ pub fn step(
     failed: bool,
     came: &[u8],
     line: &mut [u8],
+    book: &mut [u8],
     list: &mut [i64],
     x: &mut [i64],
     m: &mut [i64],
     out: &mut [u8],
 ) -> Stepped
-    requires { ⌜ Ready (taken .state) (taken .book) (now list) (now x) (now m) ⌝ }
-    requires { ⌜ (length (now line) ≡ 50000) × (taken .len ≤ 50000) × (taken .state .lines + length (now came) + 1 < 18446744073709551616) × (84 * length (now came) ≤ length (now out)) × (32272 ≤ length (now out)) ⌝ }
-    ensures { λ s. ⌜ Steps (runOf (taken .state) (taken .book) (now (list .entry)) (now (x .entry)) (now (m .entry))) (holds (now (line .entry)) (taken .len) (taken .over)) failed (now (came .entry)) (now (out .entry)) (s .progress) (runOf (s .taken .state) (s .taken .book) (now (list .exit)) (now (x .exit)) (now (m .exit))) (holds (now (line .exit)) (s .taken .len) (s .taken .over)) (s .printed) (now (out .exit)) ⌝ }
-    ensures { λ s. ⌜ Continues taken (now (came .entry)) (s .progress) (s .taken) (s .printed) (now (list .exit)) (now (x .exit)) (now (m .exit)) (now (out .exit)) ⌝ }
+    requires { ⌜ Ready (taken .state) (now book) (now list) (now x) (now m) ⌝ }
+    requires { ⌜ (length (now line) ≡ longestLine) × (taken .len ≤ longestLine) × (taken .state .lines + length (now came) + 1 < 18446744073709551616) × (lineRoom * length (now came) ≤ length (now out)) × (endRoom ≤ length (now out)) ⌝ }
+    ensures { λ s. ⌜ Steps (runOf (taken .state) (bookOf (now (book .entry))) (now (list .entry)) (now (x .entry)) (now (m .entry))) (holds (now (line .entry)) (taken .len) (taken .over)) failed (now (came .entry)) (now (out .entry)) (s .progress) (runOf (s .taken .state) (bookOf (now (book .exit))) (now (list .exit)) (now (x .exit)) (now (m .exit))) (holds (now (line .exit)) (s .taken .len) (s .taken .over)) (s .printed) (now (out .exit)) ⌝ }
+    ensures { λ s. ⌜ Continues taken (now (came .entry)) (s .progress) (s .taken) (s .printed) (now (book .exit)) (now (list .exit)) (now (x .exit)) (now (m .exit)) (now (out .exit)) ⌝ }
 {
     if failed {
         let progress = Progress::Unread;
@@ -48,7 +53,7 @@ pub fn step(
         };
     }
     if came.len() == 0 {
-        let printed = closing::close(taken, line, list, x, m, out);
+        let printed = closing::close(taken, line, book, list, x, m, out);
         let progress = Progress::Finished;
         return Stepped {
             taken,
@@ -56,7 +61,7 @@ pub fn step(
             progress,
         };
     }
-    let next = adjustment::take_chunk(taken, line, list, x, m, came, out);
+    let next = adjustment::take_chunk(taken, line, book, list, x, m, came, out);
     let printed = next.printed;
     let progress = progress_of(input_lines::is_ended(next.state));
     Stepped {

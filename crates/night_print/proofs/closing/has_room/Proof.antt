@@ -1,4 +1,6 @@
--- `closing::has_room` meets its contract. Assumes nothing.
+-- Less room than the end takes is too little; else the test without a product says the same (`room-test`). Assumes nothing.
+use Rattle.printing.specs.Rooms.{lineRoom}
+use Rattle.night_print.specs.Closing.{endRoom}
 use Rattle.night_print.specs.TailLaws.{room-test}
 use borrow.Author.Tests.{lt-leb}
 use Prim.Native.Nat.{_+_, _*_}
@@ -8,7 +10,7 @@ use Rattle.night_print.proofs.closing.has_room.Statement.{statement}
 use Rattle.night_print.proofs.closing.has_room.Tie as tie
 
 returns : tie.Need-returns
-returns c = sym (lt-leb (84 * c .before .args .text + 32272) (c .before .args .out) (omega arith))
+returns c = sym (lt-leb (lineRoom * c .before .args .text + endRoom) (c .before .args .out) (omega arith))
 
 returns-2 : tie.Need-returns-2
 returns-2 c = room-test (c .before .args .text) (c .before .args .out) (omega arith)

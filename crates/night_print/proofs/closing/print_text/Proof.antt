@@ -1,11 +1,15 @@
--- `closing::print_text` meets its contract. Assumes nothing.
-use native.Mathlib.Omega.{arith}
-use Rattle.night_print.specs.Texts.{Printed}
+-- Too little room writes nothing; else the rooms made here are as long as `print_all` asks. Assumes nothing.
+use borrow.Author.Needs.{needs}
 use borrow.Author.Tests.{not-true, not-false, leb-true}
 use mathlib.Core.Path.{refl, sym, _∙_}
-use borrow.Author.Needs.{needs}
+use native.Mathlib.Omega.{arith}
+use Rattle.night_print.specs.Texts.{Printed}
 use Rattle.night_print.proofs.closing.print_text.Statement.{statement}
 use Rattle.night_print.proofs.closing.print_text.Tie as tie
+
+-- the test, from where the rooms are lent
+abbrev test-of : tie.After-print-all-arg → tie.Else1
+test-of c = c .before .before .before .before .before .before .before .before .before .before .before
 
 has-room-requires : tie.Need-has-room-requires
 has-room-requires c κs = search needs
@@ -16,6 +20,9 @@ returns c = (sym (c .before .has-room .ensures) ∙ not-true _ (c .if1 .taken), 
 
 line-room-requires : tie.Need-line-room-requires
 line-room-requires c κs = search needs
+
+book-room-requires : tie.Need-book-room-requires
+book-room-requires c κs = search needs
 
 list-room-requires : tie.Need-list-room-requires
 list-room-requires c κs = search needs
@@ -38,21 +45,31 @@ slice-aggregate-print-all-3 c = search needs
 slice-aggregate-print-all-4 : tie.Need-slice-aggregate-print-all-4
 slice-aggregate-print-all-4 c = search needs
 
+slice-aggregate-print-all-5 : tie.Need-slice-aggregate-print-all-5
+slice-aggregate-print-all-5 c = search needs
+
 print-all-requires : tie.Need-print-all-requires
-print-all-requires c κs = (
-  sym (c .before .before .before .before .before .before .before .before .line-room .ensures),
-  omega (arith, c .before .before .before .before .before .before .before .list-room .ensures),
-  omega (arith, c .before .before .before .before .before .before .corrections-room .ensures),
-  omega (arith, c .before .before .before .before .before .matrix-room .ensures),
-  leb-true _ _ (sym (c .before .before .before .before .before .before .before .before .before .before .has-room .ensures) ∙ not-false _ (c .before .before .before .before .before .before .before .before .before .if1 .left)),
-)
+print-all-requires c κs =
+    let m = c .before .before .before .before .before .before in
+    let b = m .before .before .before in
+    let e = test-of c in (
+      sym (b .before .line-room .ensures),
+      omega (arith, b .book-room .ensures),
+      omega (arith, m .before .before .list-room .ensures),
+      omega (arith, m .before .corrections-room .ensures),
+      omega (arith, m .matrix-room .ensures),
+      leb-true _ _ (sym (e .before .has-room .ensures) ∙ not-false _ (e .if1 .left)),
+    )
 
 same-length : tie.Need-same-length
 same-length c = search needs
 
 returns-2 : tie.Need-returns-2
 unfolding Printed
-returns-2 c = (sym (c .before .before .before .before .before .before .before .before .before .before .before .before .before .before .before .before .before .has-room .ensures) ∙ not-false _ (c .before .before .before .before .before .before .before .before .before .before .before .before .before .before .before .before .if1 .left), c .before .before .before .before .before .before .print-all .ensures)
+returns-2 c =
+    let p = c .before .before .before .before .before .before .before in
+    let e = test-of (p .before) in
+    (sym (e .before .has-room .ensures) ∙ not-false _ (e .if1 .left), p .print-all .ensures)
 
 pub print-text-spec : {M : Type 1} → statement M
 print-text-spec =
@@ -61,6 +78,7 @@ print-text-spec =
     has-room-requires
     returns
     line-room-requires
+    book-room-requires
     list-room-requires
     corrections-room-requires
     matrix-room-requires
@@ -68,6 +86,7 @@ print-text-spec =
     slice-aggregate-print-all-2
     slice-aggregate-print-all-3
     slice-aggregate-print-all-4
+    slice-aggregate-print-all-5
     print-all-requires
     same-length
     returns-2)
