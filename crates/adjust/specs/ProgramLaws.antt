@@ -15,7 +15,7 @@ use Rattle.adjustment.specs.Chunks.{Takes}
 use Rattle.night_print.specs.Closing.{Concludes}
 use Rattle.night_print.specs.Steps.{isEnded, Steps}
 use Rattle.night_print.specs.StepLaws.{differ}
-use Rattle.night_print.specs.Whole.{Chunks, no-more, chunks-more, whole-text, stopped-text}
+use Rattle.night_print.specs.Whole.{ChunksTaken, no-more, chunks-more, whole-text, stopped-text}
 use Rattle.adjust.specs.declared.Finish.the-variants.{Printed, Refused, Unread, Unwritten}
 use Rattle.adjust.specs.Program.{readGave, ProgramEnds, printed, refused, unread, unwritten}
 
@@ -23,7 +23,7 @@ use Rattle.adjust.specs.Program.{readGave, ProgramEnds, printed, refused
 pub record Led (r : Run) (k : Kept) : Type 0 where
   pub chunks : List (List ℕ)
   pub bytes : List ℕ
-  pub led : Chunks start blank chunks bytes r k
+  pub led : ChunksTaken start blank chunks bytes r k
   pub going : isEnded (r .phase) ≡ false
 
 pub led-start : {r : Run} {k : Kept} → r ≡ start → k ≡ blank → Led r k

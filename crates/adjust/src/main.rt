@@ -6,12 +6,21 @@ use night_print::Stepped;
 ghost use mathlib.Core.Path.{_≡_};
 ghost use Prim.Native.Nat.{_+_, _≤_, _<_};
 ghost use lib.ListN.{length};
+ghost use Rattle.layout.specs.Bytes.{bookOf};
+ghost use Rattle.layout.specs.Layout.{bookBytes};
 ghost use Rattle.text.specs.Lines.{holds};
+ghost use Rattle.commands.specs.Commands.{longestLine};
+ghost use Rattle.input_lines.specs.Runs.{listRoom};
 ghost use Rattle.input_lines.specs.States.{runOf, Ready};
 ghost use Rattle.night_print.specs.Steps.{Steps, Continues};
-ghost use Rattle.adjust.specs.Program.{readFailed, readGave, ProgramEnds};
+ghost use Rattle.adjust.specs.Program.{chunkRoom, outRoom, readFailed, readGave, ProgramEnds};
 
-// 2^54 − 1: after so many reads of at most 768 bytes a line's number still fits 64 bits.
+// The most bytes that a read gives, and room for what their lines print, or for the end.
+const CHUNK_ROOM: usize = 768;
+
+const OUT_ROOM: usize = printing::LINE_ROOM * CHUNK_ROOM;
+
+// 2^54 − 1: after so many reads a line's number still fits 64 bits.
 const MOST_READS: usize = 18014398509481983;
 
 // How the program ends: all is printed, the input having ended or the opening having been refused; the input could not be read to its end; the output is closed.
@@ -27,41 +36,43 @@ fn turn(
     taken: Taken,
     answer: &mut isize,
     line: &mut [u8],
+    book: &mut [u8],
     list: &mut [i64],
     x: &mut [i64],
     m: &mut [i64],
     chunk: &mut [u8],
     out: &mut [u8],
 ) -> Stepped
-    requires { ⌜ Ready (taken .state) (taken .book) (now list) (now x) (now m) ⌝ }
-    requires { ⌜ (length (now line) ≡ 50000) × (taken .len ≤ 50000) × (taken .state .lines + 769 < 18446744073709551616) × (length (now chunk) ≡ 768) × (64512 ≤ length (now out)) ⌝ }
-    ensures { λ s. ⌜ Steps (runOf (taken .state) (taken .book) (now (list .entry)) (now (x .entry)) (now (m .entry))) (holds (now (line .entry)) (taken .len) (taken .over)) (readFailed (now (answer .exit))) (readGave (now (answer .exit)) (now (chunk .exit))) (now (out .entry)) (s .progress) (runOf (s .taken .state) (s .taken .book) (now (list .exit)) (now (x .exit)) (now (m .exit))) (holds (now (line .exit)) (s .taken .len) (s .taken .over)) (s .printed) (now (out .exit)) ⌝ }
-    ensures { λ s. ⌜ Continues taken (readGave (now (answer .exit)) (now (chunk .exit))) (s .progress) (s .taken) (s .printed) (now (list .exit)) (now (x .exit)) (now (m .exit)) (now (out .exit)) ⌝ }
+    requires { ⌜ Ready (taken .state) (now book) (now list) (now x) (now m) ⌝ }
+    requires { ⌜ (length (now line) ≡ longestLine) × (taken .len ≤ longestLine) × (taken .state .lines + chunkRoom + 1 < 18446744073709551616) × (length (now chunk) ≡ chunkRoom) × (outRoom ≤ length (now out)) ⌝ }
+    ensures { λ s. ⌜ Steps (runOf (taken .state) (bookOf (now (book .entry))) (now (list .entry)) (now (x .entry)) (now (m .entry))) (holds (now (line .entry)) (taken .len) (taken .over)) (readFailed (now (answer .exit))) (readGave (now (answer .exit)) (now (chunk .exit))) (now (out .entry)) (s .progress) (runOf (s .taken .state) (bookOf (now (book .exit))) (now (list .exit)) (now (x .exit)) (now (m .exit))) (holds (now (line .exit)) (s .taken .len) (s .taken .over)) (s .printed) (now (out .exit)) ⌝ }
+    ensures { λ s. ⌜ Continues taken (readGave (now (answer .exit)) (now (chunk .exit))) (s .progress) (s .taken) (s .printed) (now (book .exit)) (now (list .exit)) (now (x .exit)) (now (m .exit)) (now (out .exit)) ⌝ }
 {
     let got = libc::read(0, chunk);
     *answer = got;
     let n = io::count(got, chunk);
     let failed = got < 0;
-    night_print::step(taken, failed, &chunk[..n], line, list, x, m, out)
+    night_print::step(taken, failed, &chunk[..n], line, book, list, x, m, out)
 }
 
 // Takes chunk after chunk, and writes what each prints before the next is read. An input of more reads than lines can be numbered counts as one that could not be read to its end.
 fn run(
     line: &mut [u8],
+    book: &mut [u8],
     list: &mut [i64],
     x: &mut [i64],
     m: &mut [i64],
     chunk: &mut [u8],
     out: &mut [u8],
 ) -> Finish
-    requires { ⌜ (length (now line) ≡ 50000) × (132 ≤ length (now list)) × (48 ≤ length (now x)) × (2304 ≤ length (now m)) × (length (now chunk) ≡ 768) × (64512 ≤ length (now out)) ⌝ }
+    requires { ⌜ (length (now line) ≡ longestLine) × (bookBytes ≤ length (now book)) × (listRoom ≤ length (now list)) × (48 ≤ length (now x)) × (2304 ≤ length (now m)) × (length (now chunk) ≡ chunkRoom) × (outRoom ≤ length (now out)) ⌝ }
     ensures { λ f. ⌜ ProgramEnds f (now (chunk .exit)) (now (out .exit)) ⌝ }
 {
     let mut taken = adjustment::begin();
     let mut answer: isize = 0;
     let mut reads: usize = 0;
     while reads < MOST_READS {
-        let s = turn(taken, &mut answer, line, list, x, m, chunk, out);
+        let s = turn(taken, &mut answer, line, book, list, x, m, chunk, out);
         let printed = s.printed;
         let progress = s.progress;
         if !io::write_all(1, &out[0..printed]) {
@@ -80,17 +91,16 @@ fn run(
     Finish::Unread
 }
 
-// The messages of a chunk, at most 84 bytes for each of its own, or a sheet.
-fn out_room() -> [u8; 64512]
-    ensures { λ r. ⌜ 64512 ≡ length r ⌝ }
+fn out_room() -> [u8; OUT_ROOM]
+    ensures { λ r. ⌜ outRoom ≡ length r ⌝ }
 {
-    [0; 64512]
+    [0; OUT_ROOM]
 }
 
-fn chunk_room() -> [u8; 768]
-    ensures { λ r. ⌜ 768 ≡ length r ⌝ }
+fn chunk_room() -> [u8; CHUNK_ROOM]
+    ensures { λ r. ⌜ chunkRoom ≡ length r ⌝ }
 {
-    [0; 768]
+    [0; CHUNK_ROOM]
 }
 
 // A failed read is told on standard error, so that what was printed is not taken for all.
@@ -110,11 +120,20 @@ fn tell(finish: Finish) {
 
 fn main() {
     let mut line = night_print::line_room();
+    let mut book = night_print::book_room();
     let mut list = night_print::list_room();
     let mut x = night_print::corrections_room();
     let mut m = night_print::matrix_room();
     let mut chunk = chunk_room();
     let mut out = out_room();
-    let finish = run(&mut line, &mut list, &mut x, &mut m, &mut chunk, &mut out);
+    let finish = run(
+        &mut line,
+        &mut book,
+        &mut list,
+        &mut x,
+        &mut m,
+        &mut chunk,
+        &mut out,
+    );
     tell(finish);
 }
