@@ -28,7 +28,8 @@ use Rattle.book.specs.declared.Call.{Call}
 use Rattle.book.specs.declared.Call.the-variants.{Edit}
 use Rattle.book.specs.Run.{final, answers}
 use Rattle.book.specs.Rows.{rowNext, rowSays}
-use Rattle.sheet.specs.Sheet.{sheetWords, room}
+use Rattle.integers.specs.Sums.{sumN}
+use Rattle.sheet.specs.Sheet.{wordsOf, sheetWords, room}
 use Rattle.sheet.specs.SheetLaws.{sheet-length}
 use Rattle.checks.specs.Checks.{checked, hasRoom, onAcceptance, sheetAfter}
 use Rattle.cases.specs.Table.{stationList, level, table}
@@ -41,9 +42,9 @@ use Rattle.text.specs.Fields.{fieldsOf, restFields, letterOf, numbersOf, atMost
 use Rattle.text.specs.Lines.{linesOf, linesAfter}
 use Rattle.commands.specs.Commands.{exactly, entryOf, added, counted, kindOf, inTurn, stationOf, otherOf, fieldsCommand, commandOf}
 use Rattle.commands.specs.Brings.{brings}
-use Rattle.commands.specs.Sheet.{spaced, highVerdict, verdict, headLine, stationLine, baselineLine, heightLine, globalLine, stationLines, recordLine, recordWords, recordStart, recordLines, globalStart, sheetText}
-use Rattle.reports.specs.Reports.{Offer, shapesAt, shapesBelow, shapesOf, answerSays, checkSays}
-use Rattle.reports.specs.ReportLaws.{shapes-room}
+use Rattle.printing.specs.SheetText.{spaced, highVerdict, verdict, headLine, stationLine, baselineLine, heightLine, globalLine, stationLines, lineFor, recordStart, recordLines, sheetText}
+use Rattle.printing.specs.SheetTextLaws.{global-room}
+use Rattle.printing.specs.Reports.{Offer, answerSays, checkSays}
 use Rattle.input_lines.specs.Runs.{unopened, opened, Given, none, given, phaseOpened, openingSays, isUnopened, edits, phaseAfter, givenBy, commandSays, phaseSays}
 use Rattle.adjustment.specs.Ends.{bookEnds, phaseEnds}
 use Rattle.night_print.specs.Print.{WholeRun, atStart, lineEnters, entrySays, stationsAfter, lineNext, lineSays, linesNext, linesSay, endPrints, printed}
@@ -151,17 +152,17 @@ call2 = Edit (pos 2) (Add (level 1100))
 module _ (b : Book) where
   -- the first H line opens
   module _ (o : phaseOpened (flat stations) unopened ≡ opened b) (s : openingSays (flat stations) unopened ≡ []) where
-    entered : lineEnters stationsRead HEIGHT-1 ≡ lineEnters (withBook b 2 none none) HEIGHT-1
+    line-opens : lineEnters stationsRead HEIGHT-1 ≡ lineEnters (withBook b 2 none none) HEIGHT-1
     unfolding lineEnters phaseOpened HEIGHT-1 letterOf before
-    entered = rw o
+    line-opens = rw o
 
     opened-next : linesNext stationsRead editLines ≡ linesNext (withBook b 2 none none) editLines
     unfolding editLines linesNext lineNext
-    opened-next = rw entered
+    opened-next = rw line-opens
 
     opened-says : linesSay stationsRead editLines ≡ linesSay (withBook b 2 none none) editLines
     unfolding editLines linesSay lineSays lineNext entrySays openingSays HEIGHT-1 letterOf before
-    opened-says = rw (s, entered)
+    opened-says = rw (s, line-opens)
 
   edits-next : linesNext (withBook b 2 none none) editLines ≡ withBook (bookNext (bookNext b call1) call2) 6 (given (xOf first)) (given (mOf first))
   unfolding editLines HEIGHT-1 HEIGHT-2 CORRECTIONS MATRIX linesNext lineNext lineEnters stationsAfter phaseOpened phaseAfter edits isUnopened brings givenBy counted atMost commandOf fieldsCommand otherOf added entryOf exactly letterOf restFields fieldsOf before numbersOf fieldNumber signedOf isDecimal allDigits valueAfter
@@ -211,10 +212,6 @@ two-stations : bookOf first .network .count ≡ 2
 unfolding networkOf stationList
 two-stations = ap (λ (n : Network). n .count) (brief-follows (networkOf stationList) (opened-fits stationList (holds .opened)) (rowsOf first) .network)
 
-two-heights : shapesOf (bookOf first .places) ≡ 1 ∷ 1 ∷ []
-unfolding filled shapesBelow shapesAt isEmpty observations
-two-heights = ap shapesOf (holds .records)
-
 -- ════ the check: what is proved of it
 -- only an acceptance has number 0
 accepted-0 : (a : Answer) → numberOf a ≡ 0 → a ≡ Accepted
@@ -222,8 +219,8 @@ accepted-0 Accepted e = refl
 accepted-0 (Refused refusal) e = absurd (omega (arith, refusal-least refusal))
 
 room-is : room (bookOf first .network) (bookOf first .places) ≡ length (first .sheet)
-unfolding globalStart recordStart recordWords
-room-is = sym (shapes-room (bookOf first .network) (bookOf first .places)) ∙ rw (two-stations, two-heights)
+unfolding recordStart sumN wordsOf isEmpty observations filled
+room-is = sym (global-room (bookOf first .network) (bookOf first .places)) ∙ rw (two-stations, holds .records)
 
 -- the words of a sheet are those that it leaves at the front of lent ones
 module _ (b : Book) (x m lent sheet : List ℤ) where
@@ -244,15 +241,15 @@ words-are =
     room-is
     (holds .written lent (lit≤ tt))
 
-sheet-text : sheetText (first .sheet) 2 (1 ∷ 1 ∷ []) ≡ OUTPUT
-unfolding OUTPUT sheetText headLine stationLines stationLine recordLines recordLine recordStart recordWords heightLine baselineLine globalStart globalLine spaced verdict highVerdict decimal decimalIn
+sheet-text : sheetText (first .sheet) 2 (filled (first .records)) ≡ OUTPUT
+unfolding OUTPUT filled sheetText headLine stationLines stationLine recordLines lineFor recordStart sumN wordsOf isEmpty observations heightLine baselineLine globalLine spaced verdict highVerdict decimal decimalIn
 sheet-text = refl
 
 check-prints : checkSays (bookOf first) (xOf first) (mOf first) ≡ OUTPUT
 unfolding checkSays answerSays
 check-prints =
     let accepts = accepted-0 (checked (bookOf first) (xOf first) (mOf first) true) (holds .check .number) in
-    rw (accepts, words-are, two-stations, two-heights) sheet-text
+    rw (accepts, words-are, two-stations, holds .records) sheet-text
 
 -- ════ the text
 all-next : linesNext atStart lines ≡ withBook (bookOf first) 6 (given (xOf first)) (given (mOf first))

@@ -1,21 +1,19 @@
 // Prints one whole text from standard input at once, through the library function whose contract is document 01's print of a text. The program `adjust` takes the same text chunk by
 // chunk; the tests compare the two. specs/Document01.antt proves what is printed for document 01's own lines, which are this program's stdin.
 use night_print::Printing;
-ghost use mathlib.Core.Path.{_≡_};
-ghost use lib.ListN.{length};
 
-// The longest text that is taken, and one byte, by which a longer one is told.
-fn text_room() -> [u8; 8193]
-    ensures { λ r. ⌜ 8193 ≡ length r ⌝ }
-{
-    [0; 8193]
+// The longest text that is taken; what it may print.
+const TEXT_ROOM: usize = 8192;
+
+const OUT_ROOM: usize = printing::LINE_ROOM * TEXT_ROOM + night_print::END_ROOM;
+
+// One byte more than the longest text, by which a longer one is told.
+fn text_room() -> [u8; TEXT_ROOM + 1] {
+    [0; TEXT_ROOM + 1]
 }
 
-// 84 bytes for each byte of the text, and the end: 84·8,192 + 32,272.
-fn out_room() -> [u8; 720400]
-    ensures { λ r. ⌜ 720400 ≡ length r ⌝ }
-{
-    [0; 720400]
+fn out_room() -> [u8; OUT_ROOM] {
+    [0; OUT_ROOM]
 }
 
 // Prints the text.
