@@ -1,4 +1,4 @@
--- A whole book: judged from its parts, written part by part, and changed in place. Assumes nothing.
+-- A whole book: judged from its parts, and written part by part. Assumes nothing.
 use Prim.Native.Nat.{ℕ, _+_, _*_, _<_, _≤_}
 use mathlib.Core.Path.{_≡_, sym, ap, _∙_}
 use mathlib.Core.Bool.{Bool, true, false, _&&_}
@@ -10,16 +10,9 @@ use lib.ListN.{length}
 use lib.IntN.{ℤ}
 use Rattle.words.specs.Bools.{and-no-left, and-no-right}
 use Rattle.words.specs.Runs.{putWords}
-use Rattle.network.specs.Records.{recordAt}
-use Rattle.network.specs.Rules.{recordFits}
-use Rattle.network.specs.declared.Network.{Network}
-use Rattle.network.specs.declared.Record.{Record}
-use Rattle.normals.specs.declared.Normals.{Normals}
-use Rattle.normals.specs.Exchange.{Exchangeable, exchangedN, exchangedU}
 use Rattle.book.specs.declared.Book.{Book}
-use Rattle.book.specs.Book.{withRecord, sound}
-use Rattle.book.specs.Sound.{Sized, Sound}
-use Rattle.book.specs.Exchanged.{may-exchange, exchanged-is}
+use Rattle.book.specs.Book.{sound}
+use Rattle.book.specs.Sound.{Sized}
 use Rattle.layout.specs.Layout.{headWords, stationsPart, placesPart, countsPart, entriesPart, bookWords, placesStart, countsStart, entriesStart, matrixStart, rightStart, bookBytes, stationsStart}
 use Rattle.layout.specs.BookWords.{tail, length-stations, length-places, length-entries}
 use Rattle.layout.specs.Bytes.{bookOf, putBook, laidOut, bytesFit}
@@ -56,19 +49,3 @@ joined b z s s₁ s₂ s₃ s₄ s₅ s₆ p₁ p₂ p₃ p₄ p₅ p₆ =
     ∙ next s₃ s₄ (8 * countsStart) (8 * entriesStart) (countsPart b) (entriesPart b ++ (m ++ u)) (let e : 8 * countsStart + 8 * 2 ≡ 8 * entriesStart = omega arith in e) p₄
     ∙ next s₄ s₅ (8 * entriesStart) (8 * matrixStart) (entriesPart b) (m ++ u) (let l = length-entries b z in omega arith) p₅
     ∙ run-append s₅ (8 * matrixStart) m u)
-
--- ════ N and u of the parts that were read, with one record exchanged
-module _ (b : Book) (o : Sound b) (i : ℕ) (r : Record) (inside : i < 256) (net : Network) (old : Record) (n u : List ℤ) (p : net ≡ b .network) (q : old ≡ recordAt (b .places) i)
-    (e : n ≡ b .normals .matrix) (f : u ≡ b .normals .right) where
-  pub may-change : recordFits (b .network) r ≡ true → Exchangeable net old r n u
-  may-change h = rw (p, q, e, f) (may-exchange b o i r inside h)
-
-  changed : _≡_ {A = Normals} (record { matrix = exchangedN (net .stations) old r n; right = exchangedU (net .stations) old r u }) (withRecord b i r)
-  changed =
-      (λ k. record { matrix = exchangedN (p k .stations) (q k) r (e k); right = exchangedU (p k .stations) (q k) r (f k) }) ∙ exchanged-is b o i r inside
-
-  pub matrix-changed : exchangedN (net .stations) old r n ≡ withRecord b i r .matrix
-  matrix-changed = ap (λ (x : Normals). x .matrix) changed
-
-  pub right-changed : exchangedU (net .stations) old r u ≡ withRecord b i r .right
-  right-changed = ap (λ (x : Normals). x .right) changed

@@ -17,9 +17,9 @@ use Rattle.book.specs.Journal.{journalSize, free}
 use Rattle.book.specs.Sound.{Sized}
 use Rattle.words.specs.Concat.{concatBelow, length-concatBelow, concatBelow-ext}
 use Rattle.network.specs.RecordWords.{recordWords, recordLength}
-use Rattle.layout.specs.Layout.{reversalWords, countsPart, entriesPart, reversalLength, placesStart, countsStart, entriesStart, matrixStart, rightStart, bookBytes}
+use Rattle.layout.specs.Layout.{reversalWords, countsPart, entriesPart, reversalLength, placesStart, countsStart, entriesStart, bookBytes}
 use Rattle.network.specs.RecordWordLaws.{length-record}
-use Rattle.layout.specs.BookWords.{length-reversal, tail, toStations, toPlaces, toCounts, toEntries, length-toStations, length-toPlaces, length-toCounts, length-toEntries, at-places, at-counts, at-entries, at-matrix, at-right, length-book}
+use Rattle.layout.specs.BookWords.{length-reversal, tail, toStations, toPlaces, toCounts, toEntries, length-toStations, length-toPlaces, length-toCounts, length-toEntries, at-places, at-counts, at-entries, at-matrix, length-book}
 use Rattle.layout.specs.Bytes.{putBook}
 use Rattle.layout.specs.RunPatches.{patch}
 
@@ -126,23 +126,6 @@ module _ (s : List ℕ) (room : bookBytes ≤ length s) (b : Book) (z : Sized b)
       ap (λ (x : List ℤ). putWords (putWords s 0 x) (8 * countsStart) (signed next ∷ signed held ∷ [])) (at-counts b z)
       ∙ patch s (toPlaces b z) (countsPart b) (signed next ∷ signed held ∷ []) c (8 * countsStart) refl (let q = length-toPlaces b z in omega arith) fits
       ∙ ap (putWords s 0) (sym (at-counts b′ z′))
-
-  pub put-normals : (m u : List ℤ) → length m ≡ 2304 → length u ≡ 48 → putWords (putWords (putBook s b) (8 * matrixStart) m) (8 * rightStart) u ≡ putBook s (withNormals b m u)
-  put-normals m u lm lu =
-      let b′ = withNormals b m u in
-      let z′ : Sized b′ = record { places = z .places; entries = z .entries; matrix = lm; right = lu } in
-      let a = toEntries b z in
-      let old = b .normals .matrix in
-      let v = b .normals .right in
-      let la = length-toEntries b z in
-      let lo = z .matrix in
-      let lv = z .right in
-      let joined : length (a ++ m) ≡ rightStart = length-append a m ∙ (let e : length a + length m ≡ rightStart = omega arith in e) in
-      ap (λ (x : List ℤ). putWords (putWords (putWords s 0 x) (8 * matrixStart) m) (8 * rightStart) u) (at-matrix b z)
-      ∙ ap (λ (x : List ℕ). putWords x (8 * rightStart) u) (patch s a old m v (8 * matrixStart) (lo ∙ sym lm) (omega arith) (omega arith))
-      ∙ ap (λ (x : List ℤ). putWords (putWords s 0 x) (8 * rightStart) u) (sym (append-assoc a m v) ∙ ap (λ (x : List ℤ). (a ++ m) ++ x) (sym (append-nil v)))
-      ∙ patch s (a ++ m) v u [] (8 * rightStart) (lv ∙ sym lu) (omega arith) (let n : length {A = ℤ} [] ≡ 0 = refl in omega arith)
-      ∙ ap (putWords s 0) (ap (λ (x : List ℤ). (a ++ m) ++ x) (append-nil u) ∙ sym (at-right b′ z′))
 
 -- ════ all of them
 pub put-edit : (s : List ℕ) → bookBytes ≤ length s → (b : Book) → Sized b → (m v : List ℤ) → length m ≡ 2304 → length v ≡ 48 → (i : ℕ) (r : Record) (slot : ℕ) (u : Reversal) (next held : ℕ) → i < 256 → slot < journalSize

@@ -1,12 +1,12 @@
--- Runs of words cut in parts: a part of a run that is read, a run written part by part, and one part of a run written anew. Assumes nothing.
+-- Runs of words cut in parts: a part of a run that is read, a run written part by part, and one part of a run, one word or all of it written anew. Assumes nothing.
 use Prim.Native.Nat.{ℕ, zero, suc, _+_, _*_, _/_, _%_, _<_, _≤_}
-use mathlib.Core.Path.{_≡_, sym, ap, _∙_}
+use mathlib.Core.Path.{_≡_, refl, sym, ap, _∙_}
 use mathlib.Core.Logic.{_⊎_, inl, inr}
-use mathlib.Core.List.{List, [], _∷_, _++_}
+use mathlib.Core.List.{List, [], _∷_, _++_, append-nil}
 use native.Mathlib.Decide.{decLt, ℕ-discrete}
 use native.Mathlib.Omega.{arith}
 use lib.ListN.{length, getD, take, drop, set, length-set, length-drop}
-use lib.Seq.{ext-getD, length-take-le, getD-take, getD-drop, getD-set-same, getD-set-other, set-out}
+use lib.Seq.{ext-getD, length-take-le, getD-take, getD-drop, getD-set-same, getD-set-other, set-out, set-split, set-getD}
 use lib.IntN.{ℤ, pos}
 use Rattle.words.specs.Signed.{unsigned}
 use Rattle.words.specs.Words.{wordAt, putNumber, putWord}
@@ -146,3 +146,20 @@ module _ (s : List ℕ) (a m v c : List ℤ) (at : ℕ) (even : length m ≡ len
               let lf = length-run s 0 a in
               run-in j (putWords (putWords front at m) (at + 8 * length m) c) front at v (omega arith) (omega arith) (omega arith) q
               ∙ sym (run-out (putWords front at v) (at + 8 * length v) c j (inl q))
+
+-- one word of a run
+pub patch-word : (s : List ℕ) (w : List ℤ) (k : ℕ) (x : ℤ) → k < length w → 8 * length w ≤ length s → putWord (putWords s 0 w) (8 * k) x ≡ putWords s 0 (set w k x)
+unfolding putWords
+patch-word s w k x h room =
+    let front = length-take-le k w (let e : k ≤ length w = omega arith in e) in
+    let rest = length-drop (suc k) w in
+    let one : length (x ∷ []) ≡ 1 = refl in
+    ap (λ (l : List ℤ). putWord (putWords s 0 l) (8 * k) x) (sym (set-getD w k (pos 0)) ∙ set-split w k (getD w k (pos 0)) h)
+    ∙ patch s (take k w) (getD w k (pos 0) ∷ []) (x ∷ []) (drop (suc k) w) (8 * k) refl (omega arith) (omega arith)
+    ∙ ap (putWords s 0) (sym (set-split w k x h))
+
+-- a run written over another
+pub patch-whole : (s : List ℕ) (w v : List ℤ) → length w ≡ length v → 8 * length w ≤ length s → putWords (putWords s 0 w) 0 v ≡ putWords s 0 v
+patch-whole s w v even room =
+    let none : length {A = ℤ} [] ≡ 0 = refl in
+    ap (λ (l : List ℤ). putWords (putWords s 0 l) 0 v) (sym (append-nil w)) ∙ patch s [] w v [] 0 even refl (omega arith) ∙ ap (putWords s 0) (append-nil v)

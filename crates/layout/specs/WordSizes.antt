@@ -10,7 +10,7 @@ use lib.ListN.{getD}
 use lib.IntN.{ℤ, pos, natAbs}
 use mir.Syntax.{w64}
 use mir.Val.{SFits}
-use Rattle.integers.specs.Tables.{within-tabulate}
+use Rattle.integers.specs.Tables.{Within, within-tabulate}
 use Rattle.words.specs.Signed.{indexIn, signed}
 use Rattle.words.specs.SignedLaws.{index-number}
 use Rattle.lists.specs.All.{all-at}
@@ -38,11 +38,12 @@ use Rattle.book.specs.Sound.{Sound}
 use Rattle.words.specs.Concat.{concatBelow}
 use Rattle.network.specs.StationWords.{kindWord, stationWords}
 use Rattle.network.specs.RecordWords.{recordWords}
-use Rattle.layout.specs.Layout.{stationPart, reversalWords, stationsPart, placesPart, countsPart, entriesPart, bookWords}
-use Rattle.layout.specs.ReadBack.{Restores, entry-restores}
+use Rattle.layout.specs.Layout.{stationPart, reversalWords, stationsPart, placesPart, countsPart, entriesPart, bookWords, bookLength}
+use Rattle.layout.specs.BookWords.{length-book}
+use Rattle.layout.specs.ReadBack.{Restores, entry-restores, sound-sized}
 
 -- the largest of the limits: that of u
-abbrev L : ℕ
+abbrev pub L : ℕ
 L = 768000000000
 
 -- ════ lists
@@ -155,5 +156,8 @@ module _ (b : Book) (o : Sound b) where
         ),
       )
 
+  pub words-within : Within bookLength L (bookWords b)
+  words-within = record { long = length-book b (sound-sized b o); bound = small-at L (bookWords b) words-small }
+
   pub words-fit : (i : ℕ) → SFits w64 (getD (bookWords b) i (pos 0))
-  words-fit i = fits-by (getD (bookWords b) i (pos 0)) (small-at L (bookWords b) words-small i) tt
+  words-fit i = fits-by (getD (bookWords b) i (pos 0)) (words-within .bound i) tt

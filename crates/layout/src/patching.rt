@@ -4,15 +4,47 @@ use super::reading;
 use super::writing;
 use book::Reversal;
 use network::Record;
+use normals::Equation;
 ghost use mathlib.Core.Path.{_≡_};
 ghost use mathlib.Core.Bool.{true};
-ghost use Prim.Native.Nat.{_<_};
-ghost use lib.ListN.{set};
+ghost use Prim.Native.Nat.{_*_, _<_, _≤_, _^_};
+ghost use lib.ListN.{length, getD, set};
+ghost use lib.IntN.{pos, natAbs, _+ℤ_};
+ghost use Rattle.integers.specs.Tables.{plus, Within};
+ghost use Rattle.words.specs.Words.{putWord};
+ghost use Rattle.words.specs.Runs.{putWords};
 ghost use Rattle.network.specs.Rules.{recordFits};
+ghost use Rattle.normals.specs.Equations.{Fit};
+ghost use Rattle.normals.specs.ShareTerms.{shareFrom};
 ghost use Rattle.book.specs.Journal.{journalSize};
 ghost use Rattle.book.specs.Book.{withEntry, withRecord};
-ghost use Rattle.layout.specs.Bytes.{bookOf, putBook, bytesFit};
+ghost use Rattle.layout.specs.Layout.{matrixStart, bookLength, bookBytes};
+ghost use Rattle.layout.specs.Bytes.{wordsOf, bookOf, putBook, bytesFit};
 ghost use Rattle.layout.specs.BookPatches.{withNormals};
+
+// v more in word k.
+fn add_to_word(s: &mut [u8], k: usize, v: i64)
+    requires { ⌜ (bookBytes ≤ length (now s)) × (k < bookLength) × (natAbs (getD (wordsOf (now s)) k (pos 0)) ≤ 2 ^ 41) × (natAbs v ≤ 2 ^ 41) ⌝ }
+    ensures { λ _. ⌜ now (s .exit) ≡ putWord (now (s .entry)) (8 * k) (getD (wordsOf (now (s .entry))) k (pos 0) +ℤ v) ⌝ }
+{
+    let x = reading::word_in(s, k);
+    words::put_word(s, 8 * k, x + v);
+}
+
+// A record's share added to N and u, or taken off, term by term: no other word is read or written. `sign` is 1 or -1.
+fn add_share(s: &mut [u8], equation: Equation, sign: i64)
+    requires { ⌜ (bookBytes ≤ length (now s)) × Fit equation × (natAbs sign ≤ 1) × Within bookLength (2 ^ 40) (wordsOf (now s)) ⌝ }
+    ensures { λ _. ⌜ now (s .exit) ≡ putWords (now (s .entry)) 0 (plus bookLength (wordsOf (now (s .entry))) sign (shareFrom matrixStart equation)) ⌝ }
+{
+    let mut j = 0;
+    while j < 42 {
+        let t = normals::share_term(equation, j);
+        let k = Layout::MATRIX_START + t.entry;
+        let v = sign * t.amount;
+        add_to_word(s, k, v);
+        j = j + 1;
+    }
+}
 
 // The share of N and u of the record r for that of what place i holds.
 fn exchange(s: &mut [u8], i: usize, r: Record)
@@ -21,10 +53,11 @@ fn exchange(s: &mut [u8], i: usize, r: Record)
 {
     let net = reading::network_in(s);
     let old = reading::record_in(s, i);
-    let mut n = reading::matrix_in(s);
-    let mut u = reading::right_in(s);
-    normals::exchange_shares(&mut n, &mut u, net, old, r);
-    writing::put_normals(s, &n, &u);
+    let x = normals::exchange_of(net, old, r);
+    let off = x.off;
+    let on = x.on;
+    add_share(s, off, -1);
+    add_share(s, on, 1);
 }
 
 // The book's core edit: r at place i, N and u with it, u in a slot of the journal, and its counters.

@@ -42,6 +42,22 @@ pub entry-fits : (q : Equation) (e f : ℕ) (s : ℤ) (n : List ℤ) → Turn q 
     +ℤ stored (stored (stored (stored s *ℤ stored (coefOf q e)) *ℤ stored (weightOf q (e % 3) (f % 3))) *ℤ stored (coefOf q f)))
 entry-fits q e f s n t = fit (search code-bounds depth 12) tt
 
+-- the term of ends e and f
+pub record Pair (q : Equation) (e f : ℕ) : Type 0 where
+  pub row : atOf q e < 48
+  pub column : atOf q f < 48
+  pub coef : natAbs (coefOf q e) ≤ 1
+  pub weight : natAbs (weightOf q (e % 3) (f % 3)) ≤ 10000
+  pub other : natAbs (coefOf q f) ≤ 1
+
+pub pair-product : (q : Equation) (e f : ℕ) → Pair q e f
+    → stored (stored (stored (coefOf q e) *ℤ stored (weightOf q (e % 3) (f % 3))) *ℤ stored (coefOf q f)) ≡ pairN q e f
+pair-product q e f h = ringm (coefOf q e ∷ weightOf q (e % 3) (f % 3) ∷ coefOf q f ∷ []) (search code-shapes depth 16) tt
+
+-- the term of an end: its coefficient c, and its row p of P times the misclosures
+pub end-product : (c p : ℤ) → natAbs c ≤ 1 → natAbs p ≤ 3000000000 → stored (stored c *ℤ stored p) ≡ c *ℤ p
+end-product c p hc hp = ringm (c ∷ p ∷ []) (search code-shapes depth 12) tt
+
 -- the ends and weights of an equation in range are in range
 pub fit-ends : (q : Equation) → Fit q → Fit (endsOf (q .at) (q .coef) (q .weight))
 fit-ends q f = record { ends = f .ends; units = f .units; weights = f .weights; misclosures = λ a. zero-le }

@@ -16,5 +16,6 @@ pub mod Same
 -- The code's view: equations that know no station, and that what they add is the record's share.
 pub mod Equations
 pub mod EquationSizes
+pub mod ShareTerms
 pub mod Shares
 pub mod FirstPlaces

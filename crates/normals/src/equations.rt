@@ -52,7 +52,7 @@ fn add_matrix(n: &mut [i64; Normals::ENTRIES], equation: Equation, sign: i64)
 }
 
 // Row a of P times the misclosures.
-fn weighted_row(equation: Equation, a: usize) -> i64
+pub fn weighted_row(equation: Equation, a: usize) -> i64
     requires { ⌜ (a < 3) × Fit equation ⌝ }
     ensures { λ r. ⌜ r ≡ weighted equation a ⌝ }
 {

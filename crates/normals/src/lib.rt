@@ -15,6 +15,10 @@ ghost use Rattle.normals.specs.Same.{sameNormals};
 
 mod equations;
 mod records;
+mod shares;
+
+pub use shares::exchange_of;
+pub use shares::share_term;
 
 // The observation equations of one record, which know no station. Its six ends are E, N, U at from, then E, N, U at to: end e has the
 // unknown at[e] with the coefficient coef[e], which is 0 where the component is held. Weights by rows.
@@ -23,6 +27,18 @@ pub struct Equation {
     pub coef: [i64; 6],
     pub weight: [i64; 9],
     pub misclosure: [i64; 3],
+}
+
+// One of the 42 amounts that an equation adds to N and u, and its entry, counted through N, by rows, and on through u.
+pub struct ShareTerm {
+    pub entry: usize,
+    pub amount: i64,
+}
+
+// The equations of a record that is taken off N and u, and of the one that is put on.
+pub struct Exchange {
+    pub off: Equation,
+    pub on: Equation,
 }
 
 // N by rows, and u. Entries beyond the unknowns are 0.

@@ -1,58 +1,50 @@
--- `exchange` puts N and u of the changed places in the place of those kept. Assumes nothing.
-use mathlib.Core.Path.{_≡_, sym, ap, _∙_}
+-- `exchange` takes the share of what the place holds off N and u, and puts that of r on: both on the words of the bytes. Assumes nothing.
+use Prim.Native.Nat.{_≤_}
+use mathlib.Core.Path.{_≡_, ap, _∙_}
 use native.Mathlib.Omega.{arith}
+use lib.Dec.{lit≤}
 use lib.ListN.{length}
-use Prim.Native.Nat.{_≤_, _*_}
-use Rattle.integers.specs.Tables.{length-tabulate}
+use lib.IntN.{pos, negsuc}
+use borrow.Author.Needs.{needs}
+use Rattle.integers.specs.Tables.{plus}
 use Rattle.words.specs.Words.{Bytes}
 use Rattle.words.specs.Runs.{putWords}
-use Rattle.book.specs.declared.Book.{Book}
-use Rattle.book.specs.Book.{withRecord}
-use Rattle.layout.specs.Bytes.{bookOf}
-use Rattle.layout.specs.CodecLaws.{read-sized, fits-room, fits-sound, writes-same}
-use Rattle.layout.specs.BookPatches.{put-normals}
-use Rattle.layout.specs.Layout.{matrixStart, rightStart, bookBytes}
-use Rattle.layout.proofs.Whole.{may-change, matrix-changed, right-changed}
-use borrow.Author.Needs.{needs}
+use Rattle.network.specs.Records.{recordAt}
+use Rattle.normals.specs.declared.Exchange.{Exchange}
+use Rattle.normals.specs.Shares.{equation}
+use Rattle.normals.specs.ShareTerms.{shareFrom}
+use Rattle.layout.specs.Bytes.{wordsOf, bookOf}
+use Rattle.layout.specs.CodecLaws.{fits-room, fits-sound}
+use Rattle.layout.specs.Layout.{matrixStart, bookLength, bookBytes}
+use Rattle.layout.proofs.Shares.{off-fits, on-fits, first-within, second-within, put-on}
 use Rattle.layout.proofs.patching.exchange.Statement.{statement}
 use Rattle.layout.proofs.patching.exchange.Tie as tie
-
-abbrev here : tie.Start → Book
-here s = bookOf (s .args .s .now)
 
 room : (s : tie.Start) → bookBytes ≤ length (s .args .s .now)
 room s = fits-room (s .args .s .now) (s .pre .0)
 
--- where the shares are exchanged
-abbrev start : tie.After-u → tie.Start
-start c = c .before .before .before .before .before .before .before .before .before .before .before
+-- the equations of what the place holds, and of r
+module _ (x : tie.After-exchange-of) where
+  abbrev start : tie.Start
+  start = x .before .before .before .before .before .before
 
--- N and u after it
-module _ (x : tie.After-exchange-shares) where
-  abbrev s : tie.Start
-  s = start (x .before)
+  equations : x .exchange-of .result ≡ record { off = equation (bookOf (start .args .s .now) .network .stations) (recordAt (bookOf (start .args .s .now) .places) (start .args .i)); on = equation (bookOf (start .args .s .now) .network .stations) (start .args .r) }
+  equations =
+      x .exchange-of .ensures
+      ∙ (λ i. record { off = equation (x .before .before .before .network-in .ensures i .stations) (x .before .record-in .ensures i); on = equation (x .before .before .before .network-in .ensures i .stations) (start .args .r) })
 
-  abbrev right : tie.After-right-in
-  right = x .before .before .before
+-- the bytes with the old share off
+module _ (a : tie.After-add-share) where
+  abbrev both : tie.After-exchange-of
+  both = a .before .before .before .before
 
-  abbrev matrix : tie.After-matrix-in
-  matrix = right .before .before
+  taken-off : a .add-share .last .0 ≡ putWords (start both .args .s .now) 0 (plus bookLength (wordsOf (start both .args .s .now)) (negsuc 0) (shareFrom matrixStart (equation (bookOf (start both .args .s .now) .network .stations) (recordAt (bookOf (start both .args .s .now) .places) (start both .args .i)))))
+  taken-off =
+      let t = start both .args .s .now in
+      a .add-share .ensures ∙ ap (λ (x : Exchange). putWords t 0 (plus bookLength (wordsOf t) (negsuc 0) (shareFrom matrixStart (x .off)))) (equations both)
 
-  abbrev place : tie.After-record-in
-  place = matrix .before .before
-
-  abbrev network : tie.After-network-in
-  network = place .before .before
-
-  matrix-new : x .exchange-shares .last .0 ≡ withRecord (here s) (s .args .i) (s .args .r) .matrix
-  matrix-new =
-      x .exchange-shares .ensures .0
-      ∙ matrix-changed (here s) (fits-sound (s .args .s .now) (s .pre .0)) (s .args .i) (s .args .r) (s .pre .1) _ _ _ _ (network .network-in .ensures) (place .record-in .ensures) (matrix .matrix-in .ensures) (right .right-in .ensures)
-
-  right-new : x .exchange-shares .last .1 .0 ≡ withRecord (here s) (s .args .i) (s .args .r) .right
-  right-new =
-      x .exchange-shares .ensures .1
-      ∙ right-changed (here s) (fits-sound (s .args .s .now) (s .pre .0)) (s .args .i) (s .args .r) (s .pre .1) _ _ _ _ (network .network-in .ensures) (place .record-in .ensures) (matrix .matrix-in .ensures) (right .right-in .ensures)
+  bytes : Bytes (start both .args .s .now)
+  bytes i = let h = both .before .before .before .before .before .slice-known .given i in omega arith
 
 network-in-requires : tie.Need-network-in-requires
 network-in-requires c κs = room (c .before .before)
@@ -60,39 +52,45 @@ network-in-requires c κs = room (c .before .before)
 record-in-requires : tie.Need-record-in-requires
 record-in-requires c κs = room (c .before .before .before .before)
 
-matrix-in-requires : tie.Need-matrix-in-requires
-matrix-in-requires c κs = room (c .before .before .before .before .before .before)
+exchange-of-requires : tie.Need-exchange-of-requires
+exchange-of-requires c κs =
+    let n = c .before .before in
+    let s = n .before .before .before in
+    let sound = fits-sound (s .args .s .now) (s .pre .0) in (
+      rw (n .network-in .ensures) (sound .network),
+      rw (n .network-in .ensures, c .record-in .ensures) (sound .records (s .args .i)),
+      rw (n .network-in .ensures) (s .pre .2),
+    )
 
-right-in-requires : tie.Need-right-in-requires
-right-in-requires c κs = room (c .before .before .before .before .before .before .before .before)
-
-exchange-shares-requires : tie.Need-exchange-shares-requires
-exchange-shares-requires c κs =
-    let s = start c in
-    let right = c .before .before in
-    let matrix = right .before .before in
-    let place = matrix .before .before in
-    may-change (here s) (fits-sound (s .args .s .now) (s .pre .0)) (s .args .i) (s .args .r) (s .pre .1) _ _ _ _ (place .before .before .network-in .ensures) (place .record-in .ensures) (matrix .matrix-in .ensures) (right .right-in .ensures) (s .pre .2)
-
-put-normals-requires : tie.Need-put-normals-requires
-put-normals-requires c κs =
+add-share-requires : tie.Need-add-share-requires
+add-share-requires c κs =
     let x = c .before .before .before in
-    (room (start (x .before)), ap length (matrix-new x) ∙ length-tabulate 2304 _, ap length (right-new x) ∙ length-tabulate 48 _)
+    let s = start x in
+    let t = s .args .s .now in
+    (room s, rw (equations x) (off-fits t (s .pre .0) (s .args .i) (s .args .r) (s .pre .1) (s .pre .2)), lit≤ tt, first-within t (s .pre .0) (s .args .i) (s .args .r) (s .pre .1) (s .pre .2))
+
+add-share-requires-2 : tie.Need-add-share-requires-2
+add-share-requires-2 c κs =
+    let a = c .before .before .before in
+    let x = both a in
+    let s = start x in
+    let t = s .args .s .now in
+    let h = room s in
+    let k : length (a .add-share .last .0) ≡ length t = a .add-share .kept .0 in
+    (omega arith, rw (equations x) (on-fits t (s .pre .0) (s .args .i) (s .args .r) (s .pre .1) (s .pre .2)), lit≤ tt, second-within t (s .pre .0) (s .args .i) (s .args .r) (s .pre .1) (s .pre .2) (bytes a) _ (taken-off a))
 
 same-length : tie.Need-same-length
 same-length c = search needs
 
 returns : tie.Need-returns
 returns c =
-    let p = c .before .before in
-    let x = p .before .before .before .before in
-    let s = start (x .before) in
-    let t = s .args .s .now in
-    let bytes : Bytes t = λ i. let h = x .before .before .before .before .before .before .before .before .before .before .before .slice-known .given i in omega arith in
-    let n = withRecord (here s) (s .args .i) (s .args .r) in
-    p .put-normals .ensures
-    ∙ (λ i. putWords (putWords (sym (writes-same t (s .pre .0) bytes) i) (8 * matrixStart) (matrix-new x i)) (8 * rightStart) (right-new x i))
-    ∙ put-normals t (room s) (here s) (read-sized t) (n .matrix) (n .right) (length-tabulate 2304 _) (length-tabulate 48 _)
+    let d = c .before .before in
+    let a = d .before .before .before .before in
+    let x = both a in
+    let s = start x in
+    let u = a .add-share .last .0 in
+    put-on (s .args .s .now) (s .pre .0) (s .args .i) (s .args .r) (s .pre .1) (s .pre .2) (bytes a) u (taken-off a) _
+    (d .add-share2 .ensures ∙ ap (λ (y : Exchange). putWords u 0 (plus bookLength (wordsOf u) (pos 1) (shareFrom matrixStart (y .on)))) (equations x))
 
 pub exchange-spec : {M : Type 1} → statement M
 exchange-spec =
@@ -100,9 +98,8 @@ exchange-spec =
     (tie.spec
     network-in-requires
     record-in-requires
-    matrix-in-requires
-    right-in-requires
-    exchange-shares-requires
-    put-normals-requires
+    exchange-of-requires
+    add-share-requires
+    add-share-requires-2
     same-length
     returns)
