@@ -2,7 +2,7 @@
 import math
 import struct
 
-from layout import BYTES, HELD_AT, MATRIX_AT, NEXT_AT, PLACES, PLACES_AT, SLOTS, SLOTS_AT, WORDS
+from layout import BYTES, COUNT_AT, MATRIX_AT, NEXT_AT, PLACES, PLACES_AT, SLOTS, SLOTS_AT, WORDS
 from expected import packed
 import solve
 import survey
@@ -181,7 +181,7 @@ class Arguments:
         elif kind == 'a word':
             put(r.choice([journal, r.randrange(WORDS)]), r.choice(EXTREME))
         elif kind == 'a head':
-            put(r.choice([0, 1, NEXT_AT, HELD_AT, r.randrange(2, PLACES_AT), SLOTS_AT + 15 * r.randrange(SLOTS)]), r.choice([0, 1, 2, 3, 4, 5, 63, 64, 65, 255, 256, -1]))
+            put(r.choice([0, 1, NEXT_AT, COUNT_AT, r.randrange(2, PLACES_AT), SLOTS_AT + 15 * r.randrange(SLOTS)]), r.choice([0, 1, 2, 3, 4, 5, 63, 64, 65, 255, 256, -1]))
         elif kind == 'a journal word':
             put(journal, words[journal] + r.choice([-1, 1, 100, 200_000]))
         else:

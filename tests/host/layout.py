@@ -10,7 +10,7 @@ import survey  # noqa: E402
 WORDS = 7028
 BYTES = 8 * WORDS
 PLACES, SLOTS = 256, 64
-STATIONS_AT, PLACES_AT, NEXT_AT, HELD_AT, SLOTS_AT, MATRIX_AT, RIGHT_AT = 2, 130, 3714, 3715, 3716, 4676, 6980
+STATIONS_AT, PLACES_AT, NEXT_AT, COUNT_AT, SLOTS_AT, MATRIX_AT, RIGHT_AT = 2, 130, 3714, 3715, 3716, 4676, 6980
 
 
 def record_words(r):
@@ -50,7 +50,7 @@ class Book:
         self.records = {}
         self.slots = [None] * SLOTS
         self.next = 0
-        self.held = 0
+        self.count = 0
 
     def bytes(self):
         w = [1, len(self.rows)]
@@ -58,7 +58,7 @@ class Book:
             w += self.rows[k] if k < len(self.rows) else (0, 0, 0, 0)
         for p in range(1, PLACES + 1):
             w += record_words(self.records.get(p))
-        w += [self.next, self.held]
+        w += [self.next, self.count]
         for slot in self.slots:
             w += [0] * 15 if slot is None else [slot[0]] + record_words(slot[1])
         return struct.pack('<%dq' % MATRIX_AT, *w) + normal_bytes(self.net, self.records)
@@ -66,7 +66,7 @@ class Book:
     def enter(self, place, record):
         self.slots[self.next] = (place - 1, self.records.get(place))
         self.next = (self.next + 1) % SLOTS
-        self.held = min(self.held + 1, SLOTS)
+        self.count = min(self.count + 1, SLOTS)
         self.put(place, record)
 
     def put(self, place, record):
@@ -78,10 +78,10 @@ class Book:
     def edit(self, call, place, record):
         """The number of an edit, which is done where it is 0."""
         if call == 'undo':
-            if self.held == 0:
+            if self.count == 0:
                 return 8
             self.next = (self.next - 1) % SLOTS
-            self.held -= 1
+            self.count -= 1
             p, before = self.slots[self.next]
             self.slots[self.next] = None
             self.put(p + 1, before)
@@ -128,14 +128,14 @@ def judge(data):
     book = Book(known[0])
     book.records = dict(known[1])
     w = struct.unpack('<%dq' % MATRIX_AT, data[:8 * MATRIX_AT])
-    book.next, book.held = w[NEXT_AT], w[HELD_AT]
-    if not (0 <= book.next < SLOTS and 0 <= book.held <= SLOTS):
+    book.next, book.count = w[NEXT_AT], w[COUNT_AT]
+    if not (0 <= book.next < SLOTS and 0 <= book.count <= SLOTS):
         return None
     state = dict(book.records)
     for age in range(SLOTS):
         k = (book.next - 1 - age) % SLOTS
         slot = w[SLOTS_AT + 15 * k:SLOTS_AT + 15 * k + 15]
-        if age >= book.held:
+        if age >= book.count:
             if any(slot):
                 return None
             continue

@@ -11,12 +11,12 @@ use Rattle.network.specs.Stations.{unknownCount}
 use Rattle.network.specs.RuleLaws.{sound-stations, network-few}
 use Rattle.network.specs.declared.Network.{Network}
 use Rattle.network.specs.declared.Place.{Place}
-use Rattle.normals.specs.Sound.{Sound, record-sound}
+use Rattle.normals.specs.ByRules.{ByRules, record-sound}
 use Rattle.normals.specs.Formulas.{entryN, entryU, matrixOf, rightOf}
 use Rattle.normals.specs.Entries.{matrix-at, right-at, matrix-within, right-within}
 use Rattle.acceptance.specs.Tests.{S, at, byRows, normalResidual, defectSmall, residualSmall, refinementSmall}
 use Rattle.acceptance.specs.Judge.{judgeNumbers, judge}
-use Rattle.acceptance.specs.JudgeLaws.{Fit, all-same}
+use Rattle.acceptance.specs.JudgeLaws.{BookInRange, all-same}
 use Rattle.acceptance.specs.declared.Answer.{Answer}
 
 -- ════ n, N and u of the book, and M by rows
@@ -69,7 +69,7 @@ judge-same net places N N′ u u′ same side x m room =
       refinement-same (n net) N N′ (rows net m) u u′ (at x) same side,
     )
 
-module _ (net : Network) (places : List Place) (g : Sound net places) where
+module _ (net : Network) (places : List Place) (g : ByRules net places) where
   few : n net ≤ 48
   few = sound-stations net (g .network) .few
 
@@ -80,8 +80,8 @@ module _ (net : Network) (places : List Place) (g : Sound net places) where
   u-is i h = let f = few in right-at (net .stations) places i (omega arith)
 
   -- what `accept` asks holds of every sound book
-  pub fit-of : Fit net places (matrixOf (net .stations) places) (rightOf (net .stations) places)
-  fit-of =
+  pub book-in-range : BookInRange net places (matrixOf (net .stations) places) (rightOf (net .stations) places)
+  book-in-range =
       record {
         few = few;
         ends = record {

@@ -29,13 +29,13 @@ pub record RoundedAnswer (n : ℕ) (N : ℕ → ℕ → ℤ) (u x : ℕ → ℤ)
   pub solves : (i : ℕ) → i < n → sum n (λ j. N i j *ℤ y j) ≡ pos d *ℤ u i
   pub nearest : (i : ℕ) → i < n → 2 * natAbs (y i -ℤ pos d *ℤ x i) ≤ d
 
--- "M is S times the exact inverse, … rounded to nearest": the inverse is Z over D
+-- "M is S times the exact inverse, … rounded to nearest": the inverse is Z over a divisor
 pub record RoundedInverse (n : ℕ) (N M : ℕ → ℕ → ℤ) : Type 0 where
   pub Z : ℕ → ℕ → ℤ
-  pub D : ℕ
-  pub positive : 0 < D
-  pub inverse : (i j : ℕ) → i < n → j < n → sum n (λ k. N i k *ℤ Z k j) ≡ pos D *ℤ δ i j
-  pub nearest : (i j : ℕ) → i < n → j < n → 2 * natAbs (S *ℤ Z i j -ℤ pos D *ℤ M i j) ≤ D
+  pub divisor : ℕ
+  pub positive : 0 < divisor
+  pub inverse : (i j : ℕ) → i < n → j < n → sum n (λ k. N i k *ℤ Z k j) ≡ pos divisor *ℤ δ i j
+  pub nearest : (i j : ℕ) → i < n → j < n → 2 * natAbs (S *ℤ Z i j -ℤ pos divisor *ℤ M i j) ≤ divisor
 
 -- what completeness asks of N: the records' rules give it
 pub record Moderate (n : ℕ) (N : ℕ → ℕ → ℤ) : Type 0 where
@@ -54,22 +54,22 @@ module _ (n : ℕ) (N M : ℕ → ℕ → ℤ) (u x : ℕ → ℤ) where
   refinements e i h = leb-true _ _ (all-at n _ i e h)
 
   -- "for all whole y and d > 0 with Ny = du, |y − d·x| ≤ d in each place"
-  pub correction : defectSmall n N M ≡ true → refinementSmall n N M u x ≡ true
+  pub correction-bound : defectSmall n N M ≡ true → refinementSmall n N M u x ≡ true
       → (y : ℕ → ℤ) (d : ℤ) → Solves n N u y d → (i : ℕ) → i < n → pos (natAbs (y i -ℤ d *ℤ x i)) ≤ℤ d
-  correction e f y d s = approx n M N x u y d (s .positive) (s .solves) (row-sums n N M e) (refinements f)
+  correction-bound e f y d s = approx n M N x u y d (s .positive) (s .solves) (row-sums n N M e) (refinements f)
 
   -- "For all whole z and d > 0 with Nz = d times unit column j, 16·|d·M_ij − S·z_i| ≤ S times the largest |z|"
-  pub column : defectSmall n N M ≡ true
+  pub column-bound : defectSmall n N M ≡ true
       → (z : ℕ → ℤ) (d : ℤ) (j : ℕ) → j < n → Solves n N (λ k. δ k j) z d → (i : ℕ) → i < n → 16 * natAbs (d *ℤ M i j -ℤ S *ℤ z i) ≤ 2 ^ 30 * largest n z
-  column e z d j lj s i li = approx-column n M N z d j lj (s .solves) (largest n z) (≤-largest n (λ k. natAbs (z k))) i li (row-sums n N M e i li)
+  column-bound e z d j lj s i li = approx-column n M N z d j lj (s .solves) (largest n z) (≤-largest n (λ k. natAbs (z k))) i li (row-sums n N M e i li)
 
   -- "if x is the exact answer, and M is S times the exact inverse, both rounded to nearest, … then 5 to 7 hold"
   pub rounded-defect : Moderate n N → RoundedInverse n N M → defectSmall n N M ≡ true
   unfolding defectSmall
   rounded-defect g r =
       all-by n _ (λ i l. le-leb _ _
-      (rounded-passes-5 n M N (r .Z) (r .D) (r .positive) i
-      (λ j h. left-inverse n N (r .Z) (r .D) (r .positive) (g .symmetric) (r .inverse) i j l h)
+      (rounded-passes-5 n M N (r .Z) (r .divisor) (r .positive) i
+      (λ j h. left-inverse n N (r .Z) (r .divisor) (r .positive) (g .symmetric) (r .inverse) i j l h)
       (λ k h. r .nearest i k l h)
       (subst (λ (m : ℕ). m ≤ 2 ^ 27) (sumN-swap n n (λ i j. natAbs (N i j))) (g .whole))))
 

@@ -12,7 +12,7 @@ use Rattle.network.specs.declared.Network.{Network}
 use Rattle.network.specs.declared.Place.{Place}
 use Rattle.chains.specs.Chains.{allTied, firstUntied}
 use Rattle.acceptance.specs.Tests.{at, lengthsFit, correctionsSmall, inverseSmall, defectSmall, residualSmall, refinementSmall}
-use Rattle.acceptance.specs.Judge.{refusalNumber, numberOf, unless, judgeNumbers, judge}
+use Rattle.acceptance.specs.Judge.{refusalNumber, answerNumber, refuseUnless, judgeNumbers, judge}
 use Rattle.acceptance.specs.JudgeLaws.{refusal-least}
 use Rattle.acceptance.specs.Exactly.{answer, n, N, u, rows}
 use Rattle.acceptance.specs.declared.Answer.{Answer}
@@ -23,23 +23,23 @@ use Rattle.acceptance.specs.declared.Refusal.the-variants.{Lengths, Unti
 -- ════ tests made in turn, from number k on
 unfoldable inTurn : (ℕ → Bool) → (ℕ → Refusal) → ℕ → ℕ → Answer
 inTurn test refusal k zero = Accepted
-inTurn test refusal k (suc left) = unless (test k) (refusal k) (inTurn test refusal (suc k) left)
+inTurn test refusal k (suc left) = refuseUnless (test k) (refusal k) (inTurn test refusal (suc k) left)
 
-pub data Outcome (test : ℕ → Bool) (refusal : ℕ → Refusal) (all : ℕ) : Answer → Type 0 where
-  passes : ((j : ℕ) → j < all → test j ≡ true) → Outcome test refusal all Accepted
-  fails : (k : ℕ) → k < all → ((j : ℕ) → j < k → test j ≡ true) → test k ≡ false → Outcome test refusal all (Refused (refusal k))
+pub data TestsAnswer (test : ℕ → Bool) (refusal : ℕ → Refusal) (all : ℕ) : Answer → Type 0 where
+  passes : ((j : ℕ) → j < all → test j ≡ true) → TestsAnswer test refusal all Accepted
+  fails : (k : ℕ) → k < all → ((j : ℕ) → j < k → test j ≡ true) → test k ≡ false → TestsAnswer test refusal all (Refused (refusal k))
 
-outcome : (test : ℕ → Bool) (refusal : ℕ → Refusal) (all left k : ℕ) → k + left ≡ all → ((j : ℕ) → j < k → test j ≡ true) → Outcome test refusal all (inTurn test refusal k left)
+tests-answer : (test : ℕ → Bool) (refusal : ℕ → Refusal) (all left k : ℕ) → k + left ≡ all → ((j : ℕ) → j < k → test j ≡ true) → TestsAnswer test refusal all (inTurn test refusal k left)
 unfolding inTurn
-outcome test refusal all zero k e h = passes (λ j l. h j (omega arith))
-outcome test refusal all (suc left) k e h = go (λ p. outcome test refusal all left (suc k) (omega arith) (λ j l. more p j l (ℕ-discrete j k))) (true-or-false (test k))
+tests-answer test refusal all zero k e h = passes (λ j l. h j (omega arith))
+tests-answer test refusal all (suc left) k e h = go (λ p. tests-answer test refusal all left (suc k) (omega arith) (λ j l. more p j l (ℕ-discrete j k))) (true-or-false (test k))
   where
     more : test k ≡ true → (j : ℕ) → j < suc k → Dec (j ≡ k) → test j ≡ true
     more p j l (yes q) = ap test q ∙ p
     more p j l (no q) = h j (omega arith)
 
-    go : (test k ≡ true → Outcome test refusal all (inTurn test refusal (suc k) left)) → (test k ≡ true) ⊎ (test k ≡ false)
-        → Outcome test refusal all (unless (test k) (refusal k) (inTurn test refusal (suc k) left))
+    go : (test k ≡ true → TestsAnswer test refusal all (inTurn test refusal (suc k) left)) → (test k ≡ true) ⊎ (test k ≡ false)
+        → TestsAnswer test refusal all (refuseUnless (test k) (refusal k) (inTurn test refusal (suc k) left))
     go rest (inl p) = rw p (rest p)
     go rest (inr p) = rw p (fails k (omega arith) h p)
 
@@ -68,8 +68,8 @@ module _ (net : Network) (places : List Place) (x m : List ℤ) (room : Bool) wh
   unfolding answer judge judgeNumbers inTurn computed refusal
   in-turn = refl
 
-  pub settled : Outcome computed refusal 7 (answer net places x m room)
-  settled = subst (Outcome computed refusal 7) (sym in-turn) (outcome computed refusal 7 7 0 refl (λ j l. absurd (omega arith)))
+  pub answer-tested : TestsAnswer computed refusal 7 (answer net places x m room)
+  answer-tested = subst (TestsAnswer computed refusal 7) (sym in-turn) (tests-answer computed refusal 7 7 0 refl (λ j l. absurd (omega arith)))
 
   pub number-is : (k : ℕ) → k < 7 → refusalNumber (refusal k) ≡ 10 + k
   unfolding refusal
@@ -83,8 +83,8 @@ module _ (net : Network) (places : List Place) (x m : List ℤ) (room : Bool) wh
   number-is (suc (suc (suc (suc (suc (suc (suc k))))))) l = absurd (omega arith)
 
   pub accepted-tests : answer net places x m room ≡ Accepted → (k : ℕ) → k < 7 → computed k ≡ true
-  accepted-tests e = go (answer net places x m room) settled e
+  accepted-tests e = go (answer net places x m room) answer-tested e
     where
-      go : (a : Answer) → Outcome computed refusal 7 a → a ≡ Accepted → (k : ℕ) → k < 7 → computed k ≡ true
+      go : (a : Answer) → TestsAnswer computed refusal 7 a → a ≡ Accepted → (k : ℕ) → k < 7 → computed k ≡ true
       go a (passes h) q = h
-      go a (fails k l before fail) q = absurd (omega (arith, refusal-least (refusal k), ap numberOf q))
+      go a (fails k l before fail) q = absurd (omega (arith, refusal-least (refusal k), ap answerNumber q))

@@ -26,9 +26,9 @@ refusalNumber Refinement = 16
 refusalNumber TooLarge = 9
 
 -- 0 where "the call is not refused"
-abbrev pub numberOf : Answer → ℕ
-numberOf Accepted = 0
-numberOf (Refused refusal) = refusalNumber refusal
+abbrev pub answerNumber : Answer → ℕ
+answerNumber Accepted = 0
+answerNumber (Refused refusal) = refusalNumber refusal
 
 -- "for 11 also the first unknown without a chain", by its number from 1; 0 in every other answer
 abbrev pub refusalUnknown : Refusal → ℕ
@@ -41,29 +41,29 @@ refusalUnknown Residual = 0
 refusalUnknown Refinement = 0
 refusalUnknown TooLarge = 0
 
-abbrev pub unknownOf : Answer → ℕ
-unknownOf Accepted = 0
-unknownOf (Refused refusal) = refusalUnknown refusal
+abbrev pub answerUnknown : Answer → ℕ
+answerUnknown Accepted = 0
+answerUnknown (Refused refusal) = refusalUnknown refusal
 
 -- ════ the tests in their order
 -- a test that fails settles the answer
-abbrev pub unless : Bool → Refusal → Answer → Answer
-unless true refusal next = next
-unless false refusal next = Refused refusal
+abbrev pub refuseUnless : Bool → Refusal → Answer → Answer
+refuseUnless true refusal next = next
+refuseUnless false refusal next = Refused refusal
 
 -- tests 3 to 7; M by rows of n
 unfoldable pub judgeNumbers : ℕ → (ℕ → ℕ → ℤ) → (ℕ → ℤ) → List ℤ → List ℤ → Answer
 judgeNumbers n N u x m =
-    unless (correctionsSmall x) Correction
-    (unless (inverseSmall m) Inverse
-    (unless (defectSmall n N (byRows n m)) Defect
-    (unless (residualSmall n N u (at x)) Residual
-    (unless (refinementSmall n N (byRows n m) u (at x)) Refinement
+    refuseUnless (correctionsSmall x) Correction
+    (refuseUnless (inverseSmall m) Inverse
+    (refuseUnless (defectSmall n N (byRows n m)) Defect
+    (refuseUnless (residualSmall n N u (at x)) Residual
+    (refuseUnless (refinementSmall n N (byRows n m) u (at x)) Refinement
     Accepted))))
 
 -- all seven, with N and u of the book; room: the sheet, where one is lent, has room
 unfoldable pub judge : Network → List Place → (ℕ → ℕ → ℤ) → (ℕ → ℤ) → List ℤ → List ℤ → Bool → Answer
 judge net places N u x m room =
-    unless (lengthsFit (unknownCount (net .stations)) x m room) Lengths
-    (unless (allTied net places) (Untied (firstUntied net places))
+    refuseUnless (lengthsFit (unknownCount (net .stations)) x m room) Lengths
+    (refuseUnless (allTied net places) (Untied (firstUntied net places))
     (judgeNumbers (unknownCount (net .stations)) N u x m))

@@ -15,24 +15,24 @@ use Rattle.lists.specs.All.{allBelow, all-at, all-by}
 use Rattle.network.specs.Stations.{unknownCount}
 use Rattle.network.specs.declared.Network.{Network}
 use Rattle.network.specs.declared.Place.{Place}
-use Rattle.chains.specs.ChainLaws.{Ends}
+use Rattle.chains.specs.ChainLaws.{EndsInRange}
 use Rattle.acceptance.specs.Tests.{at, byRows, lengthsFit, correctionsSmall, inverseSmall, normalResidual, residualSmall, refinementSmall}
 use Rattle.acceptance.specs.Loops.{Residuals}
-use Rattle.acceptance.specs.Judge.{refusalNumber, numberOf}
+use Rattle.acceptance.specs.Judge.{refusalNumber, answerNumber}
 use Rattle.acceptance.specs.declared.Answer.{Answer}
 use Rattle.acceptance.specs.declared.Answer.the-variants.{Accepted, Refused}
 use Rattle.acceptance.specs.declared.Refusal.{Refusal}
 use Rattle.acceptance.specs.declared.Refusal.the-variants.{Lengths, Untied, Correction, Inverse, Defect, Residual, Refinement, TooLarge}
 
 -- what the answer asks of a book: at most 48 unknowns, ends among the stations, and the sizes of N and u
-pub record Fit (net : Network) (places : List Place) (normal right : List ℤ) : Type 0 where
+pub record BookInRange (net : Network) (places : List Place) (normal right : List ℤ) : Type 0 where
   pub few : unknownCount (net .stations) ≤ 48
-  pub ends : Ends net places
+  pub ends : EndsInRange net places
   pub matrix : Within 2304 2560000 normal
   pub absolute : Within 48 768000000000 right
 
 -- the same of the parts, after test 1
-pub record Numbers (n : ℕ) (normal right x m : List ℤ) : Type 0 where
+pub record NumbersInRange (n : ℕ) (normal right x m : List ℤ) : Type 0 where
   pub few : n ≤ 48
   pub corrections : length x ≡ n
   pub square : length m ≡ n * n
@@ -99,6 +99,6 @@ refusal-most Residual = lit≤ tt
 refusal-most Refinement = lit≤ tt
 refusal-most TooLarge = lit≤ tt
 
-pub number-most : (a : Answer) → numberOf a ≤ 16
+pub number-most : (a : Answer) → answerNumber a ≤ 16
 number-most Accepted = lit≤ tt
 number-most (Refused r) = refusal-most r

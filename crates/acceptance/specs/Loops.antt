@@ -21,8 +21,8 @@ use Rattle.acceptance.specs.Tests.{at, byRows}
 pub small-fits : (z : ℤ) → natAbs z < 2 ^ 63 → SFits w64 z
 small-fits z h = let l : natAbs z ≤ natAbs z = omega arith in fits (search bounds) (omega arith)
 
-pub back : (z : ℤ) → natAbs z < 2 ^ 63 → toZ w64 (ofZ w64 z) ≡ z
-back z h = toZ-ofZ w64 z (small-fits z h)
+pub read-back : (z : ℤ) → natAbs z < 2 ^ 63 → toZ w64 (ofZ w64 z) ≡ z
+read-back z h = toZ-ofZ w64 z (small-fits z h)
 
 -- One turn of such a loop. s is the sum so far and x its bits; a and b are the factors, as the machine reads them back:
 -- the product and the sum fit, and the bits afterwards are those of the new sum.
@@ -35,10 +35,10 @@ pub turn : (s a b : ℤ) (x A B C : ℕ) → x ≡ ofZ w64 s → natAbs s ≤ C 
 turn s a b x A B C e hs ha hb la lb room =
     let hp : natAbs (a *ℤ b) ≤ A * B = absle (a *ℤ b) (search bounds) (omega arith) in
     let ht : natAbs (s +ℤ a *ℤ b) ≤ C + A * B = absle (s +ℤ a *ℤ b) (search bounds) (omega arith) in
-    let fa : toZ w64 (ofZ w64 a) ≡ a = back a (omega arith) in
-    let fb : toZ w64 (ofZ w64 b) ≡ b = back b (omega arith) in
+    let fa : toZ w64 (ofZ w64 a) ≡ a = read-back a (omega arith) in
+    let fb : toZ w64 (ofZ w64 b) ≡ b = read-back b (omega arith) in
     let q : toZ w64 x +ℤ toZ w64 (ofZ w64 (toZ w64 (ofZ w64 a) *ℤ toZ w64 (ofZ w64 b))) ≡ s +ℤ a *ℤ b =
-    rw (e, fa, fb, back s (omega arith), back (a *ℤ b) (omega arith)) in
+    rw (e, fa, fb, read-back s (omega arith), read-back (a *ℤ b) (omega arith)) in
     record {
       mul = rw (fa, fb) (small-fits (a *ℤ b) (omega arith));
       add = rw q (small-fits (s +ℤ a *ℤ b) (omega arith));
@@ -73,7 +73,7 @@ module _ {a b : ℕ → ℤ} {A B n : ℕ} (t : Terms a b A B n) where
   sum-done {x} {k} h e =
       let s = sum-small k h in
       let m = small-enough k h in
-      ap (toZ w64) e ∙ back (sum k (λ k. a k *ℤ b k)) (omega arith)
+      ap (toZ w64) e ∙ read-back (sum k (λ k. a k *ℤ b k)) (omega arith)
 
 -- what `dot` asks: at most 48 products of numbers of at most 2^34 and 2^23 in size. The rows of M against the columns of N, those of N against x and
 -- those of M against r are all such.
@@ -100,14 +100,14 @@ row-end {i} {n} h = rw row-next (mul-le-mul-right n (let k : i + 1 ≤ n = omega
 
 -- ════ what the tests ask, each of those before it: the sizes of N and u are those of every sound book
 -- test 5, after 1 and 4
-pub record Pair (n : ℕ) (m normal : List ℤ) : Type 0 where
+pub record DefectRange (n : ℕ) (m normal : List ℤ) : Type 0 where
   pub few : n ≤ 48
   pub long : length m ≡ n * n
   pub inverse : (k : ℕ) → natAbs (at m k) ≤ 2 ^ 34
   pub matrix : Within 2304 2560000 normal
 
 -- test 6, after 1 and 3
-pub record Normal (n : ℕ) (normal right x : List ℤ) : Type 0 where
+pub record ResidualRange (n : ℕ) (normal right x : List ℤ) : Type 0 where
   pub few : n ≤ 48
   pub long : length x ≡ n
   pub corrections : (k : ℕ) → natAbs (at x k) ≤ 100000
@@ -115,7 +115,7 @@ pub record Normal (n : ℕ) (normal right x : List ℤ) : Type 0 where
   pub absolute : Within 48 768000000000 right
 
 -- test 7, after 1, 4 and 6
-pub record Small (n : ℕ) (m r : List ℤ) : Type 0 where
+pub record RefinementRange (n : ℕ) (m r : List ℤ) : Type 0 where
   pub few : n ≤ 48
   pub long : length m ≡ n * n
   pub inverse : (k : ℕ) → natAbs (at m k) ≤ 2 ^ 34
@@ -128,7 +128,7 @@ pub record Residuals (n : ℕ) (f : ℕ → ℤ) (l : List ℤ) : Type 0 where
   pub is : (k : ℕ) → k < n → at l k ≡ f k
 
 -- ════ the factors of each
-pub pair-factors : {n : ℕ} {m normal : List ℤ} → Pair n m normal → (row i j : ℕ) → row ≡ i * n → i < n → j < n → Factors m row normal j 48 n
+pub pair-factors : {n : ℕ} {m normal : List ℤ} → DefectRange n m normal → (row i j : ℕ) → row ≡ i * n → i < n → j < n → Factors m row normal j 48 n
 pair-factors {n} {m} {normal} p row i j e hi hj =
     record {
       few = p .few;
@@ -138,7 +138,7 @@ pair-factors {n} {m} {normal} p row i j e hi hj =
       right = λ k h. let b = p .matrix .bound (j + k * 48) in omega arith;
     }
 
-pub normal-factors : {n : ℕ} {normal right x : List ℤ} → Normal n normal right x → (i : ℕ) → i < n → Factors normal (i * 48) x 0 1 n
+pub normal-factors : {n : ℕ} {normal right x : List ℤ} → ResidualRange n normal right x → (i : ℕ) → i < n → Factors normal (i * 48) x 0 1 n
 normal-factors {n} {normal} {right} {x} p i hi =
     record {
       few = p .few;
@@ -148,7 +148,7 @@ normal-factors {n} {normal} {right} {x} p i hi =
       right = λ k h. let b = p .corrections (0 + k * 1) in omega arith;
     }
 
-pub small-factors : {n : ℕ} {m r : List ℤ} → Small n m r → (row i : ℕ) → row ≡ i * n → i < n → Factors m row r 0 1 n
+pub small-factors : {n : ℕ} {m r : List ℤ} → RefinementRange n m r → (row i : ℕ) → row ≡ i * n → i < n → Factors m row r 0 1 n
 small-factors {n} {m} {r} p row i e hi =
     record {
       few = p .few;
@@ -179,9 +179,9 @@ pub record Difference (a b : ℤ) : Type 0 where
 pub difference : (a b : ℤ) → natAbs a + natAbs b < 2 ^ 63 → Difference a b
 difference a b h =
     let s = abs-- a b in
-    let d : toZ w64 (ofZ w64 a) ≡ a = back a (omega arith) in
-    let e : toZ w64 (ofZ w64 b) ≡ b = back b (omega arith) in
-    record { fits = rw (d, e) (small-fits (a -ℤ b) (omega arith)); is = rw (d, e) (back (a -ℤ b) (omega arith)); small = s }
+    let d : toZ w64 (ofZ w64 a) ≡ a = read-back a (omega arith) in
+    let e : toZ w64 (ofZ w64 b) ≡ b = read-back b (omega arith) in
+    record { fits = rw (d, e) (small-fits (a -ℤ b) (omega arith)); is = rw (d, e) (read-back (a -ℤ b) (omega arith)); small = s }
 
 -- A loop that adds f up and stops above a limit: x is the sum before j, and d the term at j.
 module _ (f : ℕ → ℕ) where

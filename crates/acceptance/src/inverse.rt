@@ -8,11 +8,11 @@ ghost use lib.Dec.{leb};
 ghost use lib.IntN.{natAbs};
 ghost use Rattle.integers.specs.Sums.{sumN};
 ghost use Rattle.acceptance.specs.Tests.{byRows, defect, defectSmall};
-ghost use Rattle.acceptance.specs.Loops.{Pair};
+ghost use Rattle.acceptance.specs.Loops.{DefectRange};
 
 // The size of the entry of S·I − MN in row i and column j; the row of M starts at `row`.
 fn defect_size(m: &[i64], row: usize, normal: &[i64], i: usize, j: usize, n: usize) -> u64
-    requires { ⌜ Pair n (now m) (now normal) ⌝ }
+    requires { ⌜ DefectRange n (now m) (now normal) ⌝ }
     requires { ⌜ (row ≡ i * n) × ((i < n) × (j < n)) ⌝ }
     ensures { λ r. ⌜ r ≡ natAbs (defect n (byRows 48 (now (normal .entry))) (byRows n (now (m .entry))) i j) ⌝ }
     ensures small { λ r. ⌜ r < 2 ^ 63 ⌝ }
@@ -26,7 +26,7 @@ fn defect_size(m: &[i64], row: usize, normal: &[i64], i: usize, j: usize, n: usi
 
 // Whether the sizes in row i add up to at most 2^26; it stops where they pass it.
 fn row_near(m: &[i64], row: usize, normal: &[i64], i: usize, n: usize) -> bool
-    requires { ⌜ Pair n (now m) (now normal) ⌝ }
+    requires { ⌜ DefectRange n (now m) (now normal) ⌝ }
     requires { ⌜ (row ≡ i * n) × (i < n) ⌝ }
     ensures { λ r. ⌜ r ≡ leb (sumN n (λ j. natAbs (defect n (byRows 48 (now (normal .entry))) (byRows n (now (m .entry))) i j))) (2 ^ 26) ⌝ }
 {
@@ -44,7 +44,7 @@ fn row_near(m: &[i64], row: usize, normal: &[i64], i: usize, n: usize) -> bool
 
 // Whether every row of M is near the inverse.
 pub fn rows_near(m: &[i64], normal: &[i64], n: usize) -> bool
-    requires { ⌜ Pair n (now m) (now normal) ⌝ }
+    requires { ⌜ DefectRange n (now m) (now normal) ⌝ }
     ensures { λ r. ⌜ r ≡ defectSmall n (byRows 48 (now (normal .entry))) (byRows n (now (m .entry))) ⌝ }
 {
     let mut row: usize = 0;

@@ -16,8 +16,8 @@ ghost use lib.Dec.{eqb};
 ghost use lib.ListN.{length};
 ghost use Rattle.network.specs.Places.{placesLength, placesIn};
 ghost use Rattle.acceptance.specs.Tests.{at, byRows};
-ghost use Rattle.acceptance.specs.Judge.{refusalNumber, refusalUnknown, numberOf, unknownOf, judgeNumbers, judge};
-ghost use Rattle.acceptance.specs.JudgeLaws.{Fit, Numbers};
+ghost use Rattle.acceptance.specs.Judge.{refusalNumber, refusalUnknown, answerNumber, answerUnknown, judgeNumbers, judge};
+ghost use Rattle.acceptance.specs.JudgeLaws.{BookInRange, NumbersInRange};
 
 // Document 01's number of a refusal.
 fn refusal_number(refusal: Refusal) -> u64
@@ -37,7 +37,7 @@ fn refusal_number(refusal: Refusal) -> u64
 
 // Document 01's number of an answer, 0 where the call is not refused.
 pub fn number(answer: Answer) -> u64
-    ensures { λ r. ⌜ r ≡ numberOf answer ⌝ }
+    ensures { λ r. ⌜ r ≡ answerNumber answer ⌝ }
 {
     match answer {
         Answer::Accepted => 0,
@@ -63,7 +63,7 @@ fn refusal_unknown(refusal: Refusal) -> u64
 
 // The unknown of refusal 11, by its number from 1; 0 in every other answer.
 pub fn unknown(answer: Answer) -> u64
-    ensures { λ r. ⌜ r ≡ unknownOf answer ⌝ }
+    ensures { λ r. ⌜ r ≡ answerUnknown answer ⌝ }
 {
     match answer {
         Answer::Accepted => 0,
@@ -92,7 +92,7 @@ fn judge_numbers(
     m: &[i64],
     n: usize,
 ) -> Answer
-    requires { ⌜ Numbers n (now normal) (now right) (now x) (now m) ⌝ }
+    requires { ⌜ NumbersInRange n (now normal) (now right) (now x) (now m) ⌝ }
     ensures { λ r. ⌜ r ≡ judgeNumbers n (byRows 48 (now (normal .entry))) (at (now (right .entry))) (now (x .entry)) (now (m .entry)) ⌝ }
 {
     if !first_within(x, x.len(), limits::CORRECTION) {
@@ -124,7 +124,7 @@ pub fn accept(
     m: &[i64],
     room: bool,
 ) -> Answer
-    requires { ⌜ (placesLength ≤ length (now places)) × Fit net (placesIn (now places)) (now normal) (now right) ⌝ }
+    requires { ⌜ (placesLength ≤ length (now places)) × BookInRange net (placesIn (now places)) (now normal) (now right) ⌝ }
     ensures { λ r. ⌜ r ≡ judge net (placesIn (now (places .entry))) (byRows 48 (now (normal .entry))) (at (now (right .entry))) (now (x .entry)) (now (m .entry)) room ⌝ }
 {
     let stations = net.stations;

@@ -9,7 +9,7 @@ ghost use lib.IntN.{natAbs, _*ℤ_};
 ghost use Rattle.integers.specs.Sums.{sum};
 ghost use Rattle.lists.specs.All.{allBelow};
 ghost use Rattle.acceptance.specs.Tests.{at, byRows, normalResidual};
-ghost use Rattle.acceptance.specs.Loops.{Normal, Residuals, Small};
+ghost use Rattle.acceptance.specs.Loops.{ResidualRange, Residuals, RefinementRange};
 
 // r = u − Nx; 0 beyond the n-th entry.
 pub fn normal_residual(
@@ -18,7 +18,7 @@ pub fn normal_residual(
     x: &[i64],
     n: usize,
 ) -> [i64; Normals::ROW]
-    requires { ⌜ Normal n (now normal) (now right) (now x) ⌝ }
+    requires { ⌜ ResidualRange n (now normal) (now right) (now x) ⌝ }
     ensures { λ r. ⌜ Residuals n (normalResidual n (byRows 48 (now (normal .entry))) (at (now (right .entry))) (at (now (x .entry)))) r ⌝ }
 {
     let mut out = [0i64; Normals::ROW];
@@ -34,7 +34,7 @@ pub fn normal_residual(
 
 // Whether the product of M with r is at most 15·2^26 in size in every row.
 pub fn refinements_within(m: &[i64], r: &[i64; Normals::ROW], n: usize) -> bool
-    requires { ⌜ Small n (now m) (now r) ⌝ }
+    requires { ⌜ RefinementRange n (now m) (now r) ⌝ }
     ensures { λ b. ⌜ b ≡ allBelow n (λ i. leb (natAbs (sum n (λ k. byRows n (now (m .entry)) i k *ℤ at (now (r .entry)) k))) (15 * 2 ^ 26)) ⌝ }
 {
     let mut row: usize = 0;

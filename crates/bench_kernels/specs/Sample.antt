@@ -26,7 +26,7 @@ use Rattle.network.specs.declared.Record.{Record}
 use Rattle.network.specs.declared.Record.the-variants.{Baseline as baseline}
 use Rattle.network.specs.declared.Place.{Place}
 use Rattle.normals.specs.declared.Normals.{Normals}
-use Rattle.normals.specs.Sound.{Sound}
+use Rattle.normals.specs.ByRules.{ByRules}
 
 abbrev pub sampleStation : Kind → Station
 sampleStation k = record { kind = k; east = pos 0; north = pos 0; up = pos 0 }
@@ -118,7 +118,7 @@ module _ (p : ℕ) (h : p < 256) where
       passes e (baselineInRange b) (matrixFits (weightMatrixOf b)) _
       (and-left e (baselineInRange b && matrixFits (weightMatrixOf b)) t) (and-left (baselineInRange b) (matrixFits (weightMatrixOf b)) u) (and-right (baselineInRange b) (matrixFits (weightMatrixOf b)) u) closes
 
-pub sample-sound : Sound sampleNetwork samplePlaces
+pub sample-sound : ByRules sampleNetwork samplePlaces
 sample-sound =
     record {
       network = network-fits;

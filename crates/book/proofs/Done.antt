@@ -20,7 +20,7 @@ use Rattle.book.specs.declared.Call.{Call}
 use Rattle.book.specs.declared.Call.the-variants.{Edit}
 use Rattle.book.specs.Calls.{placeOf, puts, undoNo, unless}
 use Rattle.book.specs.Book.{openedBook, opening, withEntry, edited, undone, bookSays, bookAccepts, settled, outcome, sound}
-use Rattle.book.specs.Sound.{Sound, parts-sound}
+use Rattle.book.specs.Sound.{SoundParts, parts-sound}
 use Rattle.book.specs.SoundLaws.{sound-next}
 use Rattle.book.specs.Opened.{sound-opened}
 
@@ -50,10 +50,10 @@ unfolding unless
 settled-refused zero b c e p q = absurd (p refl)
 settled-refused (suc n) b c e p q = q
 
-pub call-done : (b : Book) (c : Call) (e : Edited) → Sound b → e ≡ outcome b c → (e ≡ outcome b c) × (sound (e .book) ≡ true)
+pub call-done : (b : Book) (c : Call) (e : Edited) → SoundParts b → e ≡ outcome b c → (e ≡ outcome b c) × (sound (e .book) ≡ true)
 call-done b c e o w = (w, ap (λ (x : Edited). sound (x .book)) w ∙ parts-sound _ (sound-next b o c))
 
-pub edit-done : (b : Book) (p : ℤ) (c : Change) (n i : ℕ) (r : Record) (e : Edited) → Sound b → n ≡ bookSays b (Edit p c) → i ≡ placeOf p → r ≡ puts c → e ≡ settled n b (edited b i r)
+pub edit-done : (b : Book) (p : ℤ) (c : Change) (n i : ℕ) (r : Record) (e : Edited) → SoundParts b → n ≡ bookSays b (Edit p c) → i ≡ placeOf p → r ≡ puts c → e ≡ settled n b (edited b i r)
     → (e ≡ outcome b (Edit p c)) × (sound (e .book) ≡ true)
 unfolding bookAccepts
 edit-done b p c n i r e o q at w s = call-done b (Edit p c) e o (s ∙ (λ k. settled (q k) b (edited b (at k) (w k))))

@@ -7,7 +7,7 @@ use Rattle.network.specs.Records.{recordAt}
 use Rattle.network.specs.Rules.{recordFits}
 use Rattle.normals.specs.Formulas.{normalsOf}
 use Rattle.normals.specs.Same.{sameNormals}
-use Rattle.normals.specs.Sound as normals
+use Rattle.normals.specs.ByRules as normals
 use Rattle.book.specs.declared.Book.{Book}
 use Rattle.book.specs.Journal.{journalFits, reversals}
 use Rattle.book.specs.Book.{recordsFit, undoable, sound}
@@ -42,7 +42,7 @@ module _ (b : Book) where
     records-fail e = second (networkFits (b .network)) records _ _ _ n e
 
     module _ (r : records ≡ true) where
-      pub by-rules : normals.Sound (b .network) (b .places)
+      pub by-rules : normals.ByRules (b .network) (b .places)
       by-rules = record { network = n; each = λ p h. all-at 256 (λ k. recordFits (b .network) (recordAt (b .places) k)) p r h }
 
       pub journal-fails : journalFits (b .journal) ≡ false → false ≡ sound b

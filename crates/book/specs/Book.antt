@@ -59,7 +59,7 @@ bookAccepts b Undo = undone b
 
 -- the number of a call on a book
 abbrev pub bookSays : Book → Call → ℕ
-bookSays b c = callNo (b .network) (recordAt (b .places)) (b .journal .held) c
+bookSays b c = callNo (b .network) (recordAt (b .places)) (b .journal .count) c
 
 -- what a call answers, and the book afterwards: a refusal gives the book back as it came
 abbrev pub settled : ℕ → Book → Book → Edited

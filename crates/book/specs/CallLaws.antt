@@ -51,20 +51,20 @@ pub place-inside : (p : ℤ) → placeNo p ≡ 0 → placeOf p < 256
 unfolding placeNo
 place-inside p e = ltb-true _ _ (index-test p 256 ∙ cond-zero (inList 256 p) 1 e)
 
-pub empty-is : (r : Record) → emptyNo r ≡ 0 → isEmpty r ≡ false
+pub empty-zero : (r : Record) → emptyNo r ≡ 0 → isEmpty r ≡ false
 unfolding emptyNo
-empty-is r e = cond-not-zero (isEmpty r) 6 e
+empty-zero r e = cond-not-zero (isEmpty r) 6 e
 
-pub undo-some : (n : ℕ) → undoNo n ≡ 0 → 0 < n
+pub undo-zero : (n : ℕ) → undoNo n ≡ 0 → 0 < n
 unfolding undoNo
-undo-some zero e = absurd (let z : _≡_ {A = ℕ} 8 0 = e in omega arith)
-undo-some (suc n) e = omega arith
+undo-zero zero e = absurd (let z : _≡_ {A = ℕ} 8 0 = e in omega arith)
+undo-zero (suc n) e = omega arith
 
 -- "8 | undo | history empty"
-pub undo-none : (n : ℕ) → undoNo n ≡ 8 → n ≡ 0
+pub undo-eight : (n : ℕ) → undoNo n ≡ 8 → n ≡ 0
 unfolding undoNo
-undo-none zero e = refl
-undo-none (suc n) e = absurd (let z : _≡_ {A = ℕ} 0 8 = e in omega arith)
+undo-eight zero e = refl
+undo-eight (suc n) e = absurd (let z : _≡_ {A = ℕ} 0 8 = e in omega arith)
 
 pub none-undo : (n : ℕ) → n ≡ 0 → undoNo n ≡ 8
 unfolding undoNo

@@ -17,9 +17,9 @@ use Rattle.book.specs.Calls.{undoNo, callNo}
 use Rattle.book.specs.Run.{Alike, run-answers, run-final, answer-at}
 use Rattle.book.specs.Rows.{rowNext, rowSays}
 use Rattle.book.specs.Book.{openedBook, bookNext, bookSays}
-use Rattle.book.specs.Ledger.{Ledger, nothing, ledgerNext, ledgerSays}
+use Rattle.book.specs.Ledger.{Ledger, emptyLedger, ledgerNext, ledgerSays}
 use Rattle.network.specs.OpeningLaws.{opened-fits}
-use Rattle.book.specs.CallLaws.{undo-none, none-undo}
+use Rattle.book.specs.CallLaws.{undo-eight, none-undo}
 use Rattle.book.specs.Sound.{parts-sound}
 use Rattle.book.specs.Follows.{Follows, says, follows-next, follows-normals, follows-opened}
 use Rattle.book.specs.Demand3.{Demand, Demand3, bookAfter, bookAnswers, ledgerAfter, ledgerAnswers}
@@ -45,11 +45,11 @@ undo-said net l r e = ap (rowSays (ledgerSays net) l) e
 module _ (net : Network) (rows : List Row) (k : ℕ) (h : k < length rows) (e : getD rows k Nameless ≡ Names Undo) where
   ledger-said : getD (ledgerAnswers net rows) k (pos 0) ≡ pos (undoNo (ledgerAfter net (take k rows) .count))
   ledger-said =
-      answer-at (rowNext (ledgerNext net)) (rowSays (ledgerSays net)) nothing rows k (pos 0) Nameless h
+      answer-at (rowNext (ledgerNext net)) (rowSays (ledgerSays net)) emptyLedger rows k (pos 0) Nameless h
       ∙ undo-said net (ledgerAfter net (take k rows)) (getD rows k Nameless) e
 
   was-refused : getD (ledgerAnswers net rows) k (pos 0) ≡ pos 8 → ledgerAfter net (take k rows) .count ≡ 0
-  was-refused p = undo-none _ (let q : pos (undoNo (ledgerAfter net (take k rows) .count)) ≡ pos 8 = sym ledger-said ∙ p in cc)
+  was-refused p = undo-eight _ (let q : pos (undoNo (ledgerAfter net (take k rows) .count)) ≡ pos 8 = sym ledger-said ∙ p in cc)
 
   was-spent : ledgerAfter net (take k rows) .count ≡ 0 → getD (ledgerAnswers net rows) k (pos 0) ≡ pos 8
   was-spent p = ledger-said ∙ ap pos (none-undo _ p)
@@ -57,7 +57,7 @@ module _ (net : Network) (rows : List Row) (k : ℕ) (h : k < length rows) (e : 
 -- the book and the ledger along a run
 follows-along : (net : Network) → networkFits net ≡ true → (rows : List Row) → Follows net (bookAfter net rows) (ledgerAfter net rows)
 follows-along net g rows =
-    run-final (rowNext bookNext) (rowSays bookSays) (rowNext (ledgerNext net)) (rowSays (ledgerSays net)) (Follows net) (alike net) (openedBook net) nothing rows (follows-opened net g)
+    run-final (rowNext bookNext) (rowSays bookSays) (rowNext (ledgerNext net)) (rowSays (ledgerSays net)) (Follows net) (alike net) (openedBook net) emptyLedger rows (follows-opened net g)
 
 -- what is said and left by the book's calls is what demand 3 asks
 module _ (net : Network) (g : networkFits net ≡ true) (rows : List Row) (said : List ℤ) (after : ℕ → Book) (left : Book)
@@ -65,10 +65,10 @@ module _ (net : Network) (g : networkFits net ≡ true) (rows : List Row) (said 
   same : said ≡ ledgerAnswers net rows
   same =
       says
-      ∙ run-answers (rowNext bookNext) (rowSays bookSays) (rowNext (ledgerNext net)) (rowSays (ledgerSays net)) (Follows net) (alike net) (openedBook net) nothing rows (follows-opened net g)
+      ∙ run-answers (rowNext bookNext) (rowSays bookSays) (rowNext (ledgerNext net)) (rowSays (ledgerSays net)) (Follows net) (alike net) (openedBook net) emptyLedger rows (follows-opened net g)
 
-  counted : (k : ℕ) → after k .journal .held ≡ ledgerAfter net (take k rows) .count
-  counted k = ap (λ (b : Book). b .journal .held) (along k) ∙ follows-along net g (take k rows) .counted
+  counted : (k : ℕ) → after k .journal .count ≡ ledgerAfter net (take k rows) .count
+  counted k = ap (λ (b : Book). b .journal .count) (along k) ∙ follows-along net g (take k rows) .counted
 
   pub demanded : Demand net rows said after left
   demanded =

@@ -7,14 +7,14 @@ use Rattle.network.specs.Records.{recordAt}
 use Rattle.network.specs.Rules.{recordFits}
 use Rattle.network.specs.declared.Record.{Record}
 use Rattle.normals.specs.declared.Normals.{Normals}
-use Rattle.normals.specs.Sound as normals
+use Rattle.normals.specs.ByRules as normals
 use Rattle.normals.specs.Exchange.{Exchangeable, exchangeable, exchanged, exchange-N, exchange-u}
 use Rattle.book.specs.declared.Book.{Book}
 use Rattle.book.specs.Book.{withRecord}
-use Rattle.book.specs.Sound.{Sound}
+use Rattle.book.specs.Sound.{SoundParts}
 
-module _ (b : Book) (o : Sound b) where
-  pub by-the-rules : normals.Sound (b .network) (b .places)
+module _ (b : Book) (o : SoundParts b) where
+  pub by-the-rules : normals.ByRules (b .network) (b .places)
   by-the-rules = record { network = o .network; each = λ p h. o .records p }
 
   module _ (p : ℕ) (r : Record) (inside : p < 256) where

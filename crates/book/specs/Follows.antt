@@ -17,13 +17,13 @@ use Rattle.book.specs.declared.Book.{Book}
 use Rattle.book.specs.declared.Call.{Call}
 use Rattle.book.specs.declared.Call.the-variants as call
 use Rattle.book.specs.Calls.{placeOf, callNo, changed, puts}
-use Rattle.book.specs.Ledger.{StandingEdit, Ledger, nothing, standing, rest, entered, accepted, ledgerSays, ledgerNext, ledgerNormals}
+use Rattle.book.specs.Ledger.{StandingEdit, Ledger, emptyLedger, standing, rest, appended, accepted, ledgerSays, ledgerNext, ledgerNormals}
 use Rattle.book.specs.Journal.{journalSize, oneMore, entriesBefore, reversals, latest, popped}
 use Rattle.book.specs.Book.{edited, undone, bookAccepts, bookSays, bookNext, openedBook}
 use Rattle.book.specs.PlaceLaws.{changed-same, changed-other, record-set, is-placesOf}
 use Rattle.book.specs.JournalLaws.{reversals-push, reversals-pop}
-use Rattle.book.specs.CallLaws.{call-same, undo-some, unless-both}
-use Rattle.book.specs.Sound.{Sound}
+use Rattle.book.specs.CallLaws.{call-same, undo-zero, unless-both}
+use Rattle.book.specs.Sound.{SoundParts}
 use Rattle.book.specs.SoundLaws.{Enters, enters-edit, latest-undoes, sound-edited, sound-undone}
 use Rattle.book.specs.Opened.{empty-at, sound-opened}
 
@@ -57,19 +57,19 @@ taken-back (more {h} {l} p r m) = record { prior = refl; others = λ k w. standi
 -- ════ a book follows a ledger
 pub record Follows (net : Network) (b : Book) (l : Ledger) : Type 0 where
   pub network : b .network ≡ net
-  pub sound : Sound b
+  pub sound : SoundParts b
   pub holds : (p : ℕ) → p < 256 → recordAt (b .places) p ≡ standing (l .edits) p
   pub journal : Remembers (reversals (b .journal)) (l .edits)
-  pub counted : b .journal .held ≡ l .count
+  pub counted : b .journal .count ≡ l .count
 
 module _ (net : Network) (b : Book) (l : Ledger) (o : Follows net b l) where
   pub says : (c : Call) → bookSays b c ≡ ledgerSays net l c
   says c =
-      ap (λ (n : Network). callNo n (recordAt (b .places)) (b .journal .held) c) (o .network)
-      ∙ call-same net (recordAt (b .places)) (standing (l .edits)) (o .holds) (b .journal .held) c
+      ap (λ (n : Network). callNo n (recordAt (b .places)) (b .journal .count) c) (o .network)
+      ∙ call-same net (recordAt (b .places)) (standing (l .edits)) (o .holds) (b .journal .count) c
       ∙ ap (λ (n : ℕ). callNo net (standing (l .edits)) n c) (o .counted)
 
-  pub follows-edited : (p : ℕ) (r : Record) → Enters b p r → Follows net (edited b p r) (entered l p r)
+  pub follows-edited : (p : ℕ) (r : Record) → Enters b p r → Follows net (edited b p r) (appended l p r)
   follows-edited p r n =
       let ps = b .places in
       let inside : p < length ps = let x : length ps ≡ 256 = o .sound .places in let y : p < 256 = n .inside in omega arith in
@@ -90,7 +90,7 @@ module _ (net : Network) (b : Book) (l : Ledger) (o : Follows net b l) where
       put j m (yes e) = changed-same (recordAt (b .places)) p r j e ∙ sym (standing-same (record { place = p; puts = r }) (l .edits) j e)
       put j m (no e) = changed-other (recordAt (b .places)) p r j e ∙ o .holds j m ∙ sym (standing-other (record { place = p; puts = r }) (l .edits) j e)
 
-  pub follows-undone : 0 < b .journal .held → Follows net (undone b) (record { edits = rest (l .edits); count = l .count - 1 })
+  pub follows-undone : 0 < b .journal .count → Follows net (undone b) (record { edits = rest (l .edits); count = l .count - 1 })
   follows-undone some =
       let j = b .journal in
       let u : Reversal = latest j in
@@ -116,7 +116,7 @@ module _ (net : Network) (b : Book) (l : Ledger) (o : Follows net b l) where
   follows-next (call.Edit p c) =
       unless-both (Follows net) (bookSays b (call.Edit p c)) (ledgerSays net l (call.Edit p c)) b _ l _ (says (call.Edit p c)) o (λ e. follows-edited (placeOf p) (puts c) (enters-edit b p c _ _ refl refl e))
   follows-next call.Undo =
-      unless-both (Follows net) (bookSays b call.Undo) (ledgerSays net l call.Undo) b _ l _ (says call.Undo) o (λ e. follows-undone (undo-some (b .journal .held) e))
+      unless-both (Follows net) (bookSays b call.Undo) (ledgerSays net l call.Undo) b _ l _ (says call.Undo) o (λ e. follows-undone (undo-zero (b .journal .count) e))
 
   -- its N and u are the ledger's
   pub follows-normals : b .normals ≡ ledgerNormals net l
@@ -126,6 +126,6 @@ module _ (net : Network) (b : Book) (l : Ledger) (o : Follows net b l) where
       ∙ ap (normalsOf (net .stations)) (is-placesOf (b .places) (standing (l .edits)) (o .sound .places) (o .holds))
 
 -- the opened book and the ledger before the first call
-pub follows-opened : (net : Network) → networkFits net ≡ true → Follows net (openedBook net) nothing
+pub follows-opened : (net : Network) → networkFits net ≡ true → Follows net (openedBook net) emptyLedger
 unfolding standing entriesBefore
 follows-opened net g = record { network = refl; sound = sound-opened net g; holds = λ p h. empty-at 256 p; journal = none; counted = refl }

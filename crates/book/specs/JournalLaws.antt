@@ -14,7 +14,7 @@ use Rattle.lists.specs.All.{all-at, all-by}
 use Rattle.network.specs.Records.{isEmpty, observations}
 use Rattle.book.specs.declared.Reversal.{Reversal}
 use Rattle.book.specs.declared.Journal.{Journal}
-use Rattle.book.specs.Journal.{journalSize, slotBefore, slotAfter, oneMore, age, free, entriesBefore, reversals, pushed, popped, latest, isFree, isHeld, journalFits}
+use Rattle.book.specs.Journal.{journalSize, slotBefore, slotAfter, oneMore, age, free, entriesBefore, reversals, pushed, popped, latest, isFree, inUse, journalFits}
 
 -- what is stored in a slot is not among the k entries before a slot that lies d before it
 untouched : (l : List Reversal) (slot : ℕ) (e : Reversal) (d k p : ℕ) → slot < journalSize → d + k ≤ (journalSize - 1) → p ≡ (slot + (journalSize - d)) % journalSize
@@ -34,40 +34,40 @@ fewer l p (suc m) (suc k) =
     ap (λ (r : List Reversal). getD l (slotBefore p) free ∷ r) (fewer l (slotBefore p) m k)
     ∙ ap (entriesBefore l p) (let e : suc (min m k) ≡ min (suc m) (suc k) = omega arith in e)
 
--- the counters in range, and the slots that are not held free
+-- the counters in range, and the slots not in use free
 pub record Tidy (j : Journal) : Type 0 where
   pub next : j .next < journalSize
-  pub held : j .held ≤ journalSize
-  pub blank : (slot : ℕ) → slot < journalSize → j .held ≤ age (j .next) slot → isFree (getD (j .entries) slot free) ≡ true
+  pub count : j .count ≤ journalSize
+  pub blank : (slot : ℕ) → slot < journalSize → j .count ≤ age (j .next) slot → isFree (getD (j .entries) slot free) ≡ true
 
 tidy-slot : (a b : Bool) → a || b ≡ true → a ≡ false → b ≡ true
 tidy-slot true b e f = clash refl f
 tidy-slot false b e f = e
 
-slot-tidy : (j : Journal) (slot : ℕ) → (j .held ≤ age (j .next) slot → isFree (getD (j .entries) slot free) ≡ true) → isHeld j slot || isFree (getD (j .entries) slot free) ≡ true
-slot-tidy j slot h = go (decLt (age (j .next) slot) (j .held))
+slot-tidy : (j : Journal) (slot : ℕ) → (j .count ≤ age (j .next) slot → isFree (getD (j .entries) slot free) ≡ true) → inUse j slot || isFree (getD (j .entries) slot free) ≡ true
+slot-tidy j slot h = go (decLt (age (j .next) slot) (j .count))
   where
-    go : Dec (age (j .next) slot < j .held) → isHeld j slot || isFree (getD (j .entries) slot free) ≡ true
-    go (yes e) = rw (lt-ltb (age (j .next) slot) (j .held) e)
-    go (no e) = rw (le-ltb (age (j .next) slot) (j .held) (omega arith)) (h (omega arith))
+    go : Dec (age (j .next) slot < j .count) → inUse j slot || isFree (getD (j .entries) slot free) ≡ true
+    go (yes e) = rw (lt-ltb (age (j .next) slot) (j .count) e)
+    go (no e) = rw (le-ltb (age (j .next) slot) (j .count) (omega arith)) (h (omega arith))
 
 pub fits-tidy : (j : Journal) → journalFits j ≡ true → Tidy j
 unfolding journalFits
 fits-tidy j e =
-    let both = and-left (ltb (j .next) journalSize && leb (j .held) journalSize) _ e in
+    let both = and-left (ltb (j .next) journalSize && leb (j .count) journalSize) _ e in
     record {
-      next = ltb-true _ _ (and-left (ltb (j .next) journalSize) (leb (j .held) journalSize) both);
-      held = leb-true _ _ (and-right (ltb (j .next) journalSize) (leb (j .held) journalSize) both);
+      next = ltb-true _ _ (and-left (ltb (j .next) journalSize) (leb (j .count) journalSize) both);
+      count = leb-true _ _ (and-right (ltb (j .next) journalSize) (leb (j .count) journalSize) both);
       blank = λ slot h q.
-          tidy-slot _ _ (all-at journalSize (λ s. isHeld j s || isFree (getD (j .entries) s free)) slot (and-right (ltb (j .next) journalSize && leb (j .held) journalSize) _ e) h)
-          (le-ltb (age (j .next) slot) (j .held) q);
+          tidy-slot _ _ (all-at journalSize (λ s. inUse j s || isFree (getD (j .entries) s free)) slot (and-right (ltb (j .next) journalSize && leb (j .count) journalSize) _ e) h)
+          (le-ltb (age (j .next) slot) (j .count) q);
     }
 
 pub tidy-fits : (j : Journal) → Tidy j → journalFits j ≡ true
 unfolding journalFits
 tidy-fits j t =
-    and-both _ _ (and-both _ _ (lt-ltb (j .next) journalSize (t .next)) (le-leb (j .held) journalSize (t .held)))
-    (all-by journalSize (λ s. isHeld j s || isFree (getD (j .entries) s free)) (λ slot h. slot-tidy j slot (t .blank slot h)))
+    and-both _ _ (and-both _ _ (lt-ltb (j .next) journalSize (t .next)) (le-leb (j .count) journalSize (t .count)))
+    (all-by journalSize (λ s. inUse j s || isFree (getD (j .entries) s free)) (λ slot h. slot-tidy j slot (t .blank slot h)))
 
 -- "which keeps the latest 64; a 65th pushes out the oldest"
 pub reversals-push : (j : Journal) (e : Reversal) → length (j .entries) ≡ journalSize → Tidy j → reversals (pushed j e) ≡ take journalSize (e ∷ reversals j)
@@ -75,9 +75,9 @@ unfolding entriesBefore
 reversals-push j e len t =
     let l = j .entries in
     let slot = j .next in
-    let k = j .held in
+    let k = j .count in
     let p : slot < journalSize = t .next in
-    let q : k ≤ journalSize = t .held in
+    let q : k ≤ journalSize = t .count in
     let home : slotBefore (slotAfter slot) ≡ slot = omega arith in
     ap (λ (n : ℕ). entriesBefore (set l slot e) (slotAfter slot) n) (let w : oneMore k ≡ suc (min (journalSize - 1) k) = omega arith in w)
     ∙ ap (λ (n : ℕ). getD (set l slot e) n free ∷ entriesBefore (set l slot e) n (min (journalSize - 1) k)) home
@@ -87,36 +87,36 @@ reversals-push j e len t =
 pub tidy-pushed : (j : Journal) (e : Reversal) → length (j .entries) ≡ journalSize → Tidy j → Tidy (pushed j e)
 tidy-pushed j e len t =
     let p : j .next < journalSize = t .next in
-    let q : j .held ≤ journalSize = t .held in
+    let q : j .count ≤ journalSize = t .count in
     record {
       next = omega arith;
-      held = omega arith;
+      count = omega arith;
       blank = λ slot h w.
           let other : slot ≡ j .next → ⊥ = λ x. omega arith in
           ap isFree (getD-set-other (j .entries) (j .next) slot e free other) ∙ t .blank slot h (omega arith);
     }
 
 -- "Undo takes the latest off"
-pub reversals-pop : (j : Journal) → 0 < j .held → Tidy j → reversals j ≡ latest j ∷ reversals (popped j)
+pub reversals-pop : (j : Journal) → 0 < j .count → Tidy j → reversals j ≡ latest j ∷ reversals (popped j)
 unfolding entriesBefore
 reversals-pop j some t =
     let l = j .entries in
     let p : j .next < journalSize = t .next in
-    let q : j .held ≤ journalSize = t .held in
-    ap (entriesBefore l (j .next)) (let w : j .held ≡ suc (j .held - 1) = omega arith in w)
+    let q : j .count ≤ journalSize = t .count in
+    ap (entriesBefore l (j .next)) (let w : j .count ≡ suc (j .count - 1) = omega arith in w)
     ∙ ap (λ (r : List Reversal). getD l (slotBefore (j .next)) free ∷ r)
-    (sym (untouched l (slotBefore (j .next)) free 0 (j .held - 1) (slotBefore (j .next)) (omega arith) (omega arith) (omega arith)))
+    (sym (untouched l (slotBefore (j .next)) free 0 (j .count - 1) (slotBefore (j .next)) (omega arith) (omega arith) (omega arith)))
 
-pub tidy-popped : (j : Journal) → length (j .entries) ≡ journalSize → 0 < j .held → Tidy j → Tidy (popped j)
+pub tidy-popped : (j : Journal) → length (j .entries) ≡ journalSize → 0 < j .count → Tidy j → Tidy (popped j)
 unfolding isFree isEmpty observations
 tidy-popped j len some t =
     let p : j .next < journalSize = t .next in
-    let q : j .held ≤ journalSize = t .held in
-    record { next = omega arith; held = omega arith; blank = λ slot h w. here slot h w (ℕ-discrete slot (slotBefore (j .next))) }
+    let q : j .count ≤ journalSize = t .count in
+    record { next = omega arith; count = omega arith; blank = λ slot h w. here slot h w (ℕ-discrete slot (slotBefore (j .next))) }
   where
-    here : (slot : ℕ) → slot < journalSize → j .held - 1 ≤ age (slotBefore (j .next)) slot → Dec (slot ≡ slotBefore (j .next)) → isFree (getD (popped j .entries) slot free) ≡ true
+    here : (slot : ℕ) → slot < journalSize → j .count - 1 ≤ age (slotBefore (j .next)) slot → Dec (slot ≡ slotBefore (j .next)) → isFree (getD (popped j .entries) slot free) ≡ true
     here slot h w (yes e) = ap (λ (k : ℕ). isFree (getD (popped j .entries) k free)) e ∙ ap isFree (getD-set-same (j .entries) (slotBefore (j .next)) free free (omega arith))
     here slot h w (no e) =
         let p : j .next < journalSize = t .next in
-        let q : j .held ≤ journalSize = t .held in
+        let q : j .count ≤ journalSize = t .count in
         ap isFree (getD-set-other (j .entries) (slotBefore (j .next)) slot free free e) ∙ t .blank slot h (omega arith)

@@ -23,8 +23,8 @@ pub record Ledger : Type 0 where
   pub edits : List StandingEdit
   pub count : ℕ
 
-abbrev pub nothing : Ledger
-nothing = record { edits = []; count = 0 }
+abbrev pub emptyLedger : Ledger
+emptyLedger = record { edits = []; count = 0 }
 
 -- "Its record at a place is what the last standing edit of that place puts there … Where no standing edit names the place, it is empty."
 unfoldable pub standing : List StandingEdit → ℕ → Record
@@ -36,8 +36,8 @@ abbrev pub ledgerNormals : Network → Ledger → Normals
 ledgerNormals net l = normalsOf (net .stations) (placesOf (standing (l .edits)))
 
 -- "An accepted add, replacement or strike goes to the end of the list; the count rises by one, but not above 64."
-abbrev pub entered : Ledger → ℕ → Record → Ledger
-entered l p r = record { edits = record { place = p; puts = r } ∷ l .edits; count = min (l .count + 1) historySize }
+abbrev pub appended : Ledger → ℕ → Record → Ledger
+appended l p r = record { edits = record { place = p; puts = r } ∷ l .edits; count = min (l .count + 1) historySize }
 
 abbrev pub rest : List StandingEdit → List StandingEdit
 rest [] = []
@@ -45,7 +45,7 @@ rest (e ∷ l) = l
 
 -- "An accepted undo takes the last edit off the list; the count falls by one."
 unfoldable pub accepted : Ledger → Call → Ledger
-accepted l (call.Edit p c) = entered l (placeOf p) (puts c)
+accepted l (call.Edit p c) = appended l (placeOf p) (puts c)
 accepted l call.Undo = record { edits = rest (l .edits); count = l .count - 1 }
 
 -- "A call that the table below … refuses, judged on the ledger, with the history empty at count 0, is answered with that number and changes nothing.

@@ -15,7 +15,7 @@ use Rattle.normals.specs.Blank.{blankNormals, blank-is}
 use Rattle.book.specs.Journal.{journalSize, free, entriesBefore, isFree}
 use Rattle.book.specs.Book.{openedBook}
 use Rattle.network.specs.RuleLaws.{fits-empty}
-use Rattle.book.specs.Sound.{Sound}
+use Rattle.book.specs.Sound.{SoundParts}
 use Rattle.book.specs.SoundLaws.{undoable-none}
 
 pub empty-at : (n k : ℕ) → recordAt (replicate n vacant) k ≡ Empty
@@ -28,13 +28,13 @@ pub normals-none : (net : Network) → openedBook net .normals ≡ normalsOf (ne
 unfolding blankNormals
 normals-none net = blank-is (net .stations) (replicate 256 vacant) (λ p h. empty-at 256 p)
 
-pub sound-opened : (net : Network) → networkFits net ≡ true → Sound (openedBook net)
+pub sound-opened : (net : Network) → networkFits net ≡ true → SoundParts (openedBook net)
 unfolding entriesBefore isFree isEmpty observations
 sound-opened net g =
     record {
       network = g;
       records = λ p. subst (λ (r : Record). recordFits net r ≡ true) (sym (empty-at 256 p)) (fits-empty net);
-      journal = record { next = omega arith; held = omega arith; blank = λ slot h q. ap isFree (getD-replicate journalSize slot free free h) };
+      journal = record { next = omega arith; count = omega arith; blank = λ slot h q. ap isFree (getD-replicate journalSize slot free free h) };
       undoes = undoable-none net (recordAt (replicate 256 vacant));
       normals = normals-none net;
       places = length-replicate 256 vacant;

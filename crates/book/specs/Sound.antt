@@ -35,7 +35,7 @@ pub record Sized (b : Book) : Type 0 where
   pub matrix : length (b .normals .matrix) ≡ 2304
   pub right : length (b .normals .right) ≡ 48
 
-pub record Sound (b : Book) : Type 0 where
+pub record SoundParts (b : Book) : Type 0 where
   pub network : networkFits (b .network) ≡ true
   pub records : (p : ℕ) → recordFits (b .network) (recordAt (b .places) p) ≡ true
   pub journal : Tidy (b .journal)
@@ -101,7 +101,7 @@ tested b e =
     let two : n && r ≡ true = and-left _ _ three in
     record { network = and-left n r two; records = and-right n r two; journal = and-right (n && r) j three; undoes = and-right (n && r && j) u four; normals = and-right (n && r && j && u) _ e }
 
-pub sound-parts : (b : Book) → Sized b → sound b ≡ true → Sound b
+pub sound-parts : (b : Book) → Sized b → sound b ≡ true → SoundParts b
 sound-parts b z e =
     let t = tested b e in
     record {
@@ -116,7 +116,7 @@ sound-parts b z e =
       entries = z .entries;
     }
 
-pub parts-sound : (b : Book) → Sound b → sound b ≡ true
+pub parts-sound : (b : Book) → SoundParts b → sound b ≡ true
 unfolding sound recordsFit
 parts-sound b o =
     and-both _ _

@@ -26,8 +26,8 @@ use Rattle.book.specs.Book.{edited, undone, bookAccepts, bookSays, bookN
 use Rattle.network.specs.RuleLaws.{fits-empty, accepted-fits, accepted-filled}
 use Rattle.book.specs.PlaceLaws.{changed-same, changed-ext, changed-each, changed-back, record-set}
 use Rattle.book.specs.JournalLaws.{reversals-push, reversals-pop, tidy-pushed, tidy-popped}
-use Rattle.book.specs.CallLaws.{first-zero, place-inside, empty-is, undo-some, unless-either, call-small}
-use Rattle.book.specs.Sound.{Sound, Undoes, undoable-first, first-undoable}
+use Rattle.book.specs.CallLaws.{first-zero, place-inside, empty-zero, undo-zero, unless-either, call-small}
+use Rattle.book.specs.Sound.{SoundParts, Undoes, undoable-first, first-undoable}
 
 -- ════ an edit that is not refused
 pub record Enters (b : Book) (p : ℕ) (r : Record) : Type 0 where
@@ -47,7 +47,7 @@ module _ (b : Book) (p : ℕ) (inside : p < 256) where
   enters-change (Add r) e = enters-record r _ e
   enters-change (Replace r) e = enters-record r _ e
   enters-change Strike e =
-      record { inside = inside; fits = fits-empty (b .network); real = and-no-right (isEmpty (puts Strike)) _ (empty-is (recordAt (b .places) p) e) }
+      record { inside = inside; fits = fits-empty (b .network); real = and-no-right (isEmpty (puts Strike)) _ (empty-zero (recordAt (b .places) p) e) }
 
 -- an edit that the table does not refuse enters its place: what it puts there, where the code has that as r, and the place as i
 pub enters-edit : (b : Book) (p : ℤ) (c : Change) (i : ℕ) (r : Record) → i ≡ placeOf p → r ≡ puts c → bookSays b (Edit p c) ≡ 0 → Enters b i r
@@ -56,7 +56,7 @@ enters-edit b p c i r at is e = let x = first-zero (placeNo p) _ e in rw (at, is
 
 -- ════ no call on a book is answered with a number above 9
 pub refusal-small : (b : Book) (c : Call) (e : Edited) → e ≡ outcome b c → e .refusal ≤ 9
-refusal-small b c e w = subst (λ (x : Edited). x .refusal ≤ 9) (sym w) (call-small (b .network) (recordAt (b .places)) (b .journal .held) c)
+refusal-small b c e w = subst (λ (x : Edited). x .refusal ≤ 9) (sym w) (call-small (b .network) (recordAt (b .places)) (b .journal .count) c)
 
 -- ════ the journal's reversals over the same records, and fewer of them
 pub undoable-ext : (net : Network) (f g : ℕ → Record) (h : List Reversal) → ((k : ℕ) → f k ≡ g k) → undoable net f h ≡ undoable net g h
@@ -80,7 +80,7 @@ undoable-take net (suc n) at (u ∷ h) e =
     (record { inside = o .inside; fits = o .fits; real = o .real; rest = undoable-take net n (changed at (u .place) (u .prior)) h (o .rest) })
 
 -- the latest reversal of a sound book that has one
-pub latest-undoes : (b : Book) → Sound b → 0 < b .journal .held → Undoes (b .network) (recordAt (b .places)) (latest (b .journal)) (reversals (popped (b .journal)))
+pub latest-undoes : (b : Book) → SoundParts b → 0 < b .journal .count → Undoes (b .network) (recordAt (b .places)) (latest (b .journal)) (reversals (popped (b .journal)))
 latest-undoes b o some =
     undoable-first (b .network) (recordAt (b .places)) (latest (b .journal)) (reversals (popped (b .journal)))
     (subst (λ (h : List Reversal). undoable (b .network) (recordAt (b .places)) h ≡ true) (reversals-pop (b .journal) some (o .journal)) (o .undoes))
@@ -91,8 +91,8 @@ each-set : (net : Network) (l : List Place) (p : ℕ) (r : Record) → p < lengt
 each-set net l p r h new old k =
     subst (λ (x : Record). recordFits net x ≡ true) (record-set l p r k h) (changed-each (λ x. recordFits net x ≡ true) (recordAt l) p r k new (old k))
 
-module _ (b : Book) (o : Sound b) where
-  pub sound-edited : (p : ℕ) (r : Record) → Enters b p r → Sound (edited b p r)
+module _ (b : Book) (o : SoundParts b) where
+  pub sound-edited : (p : ℕ) (r : Record) → Enters b p r → SoundParts (edited b p r)
   sound-edited p r n =
       let net = b .network in
       let l = b .places in
@@ -120,7 +120,7 @@ module _ (b : Book) (o : Sound b) where
         entries = length-set (b .journal .entries) (b .journal .next) _ ∙ o .entries;
       }
 
-  pub sound-undone : 0 < b .journal .held → Sound (undone b)
+  pub sound-undone : 0 < b .journal .count → SoundParts (undone b)
   sound-undone some =
       let net = b .network in
       let l = b .places in
@@ -139,7 +139,7 @@ module _ (b : Book) (o : Sound b) where
         entries = length-set (b .journal .entries) _ _ ∙ o .entries;
       }
 
-  pub sound-next : (c : Call) → Sound (bookNext b c)
+  pub sound-next : (c : Call) → SoundParts (bookNext b c)
   unfolding bookAccepts callNo
-  sound-next (Edit p c) = unless-either Sound (bookSays b (Edit p c)) b _ o (λ e. sound-edited (placeOf p) (puts c) (enters-edit b p c _ _ refl refl e))
-  sound-next Undo = unless-either Sound (bookSays b Undo) b _ o (λ e. sound-undone (undo-some (b .journal .held) e))
+  sound-next (Edit p c) = unless-either SoundParts (bookSays b (Edit p c)) b _ o (λ e. sound-edited (placeOf p) (puts c) (enters-edit b p c _ _ refl refl e))
+  sound-next Undo = unless-either SoundParts (bookSays b Undo) b _ o (λ e. sound-undone (undo-zero (b .journal .count) e))

@@ -17,7 +17,7 @@ ghost use Rattle.network.specs.Stations.{opens};
 ghost use Rattle.network.specs.Records.{recordAt};
 ghost use Rattle.network.specs.Rules.{recordFits};
 ghost use Rattle.book.specs.Book.{openedBook, opening, withEntry, edited, settled, outcome, sound};
-ghost use Rattle.book.specs.Sound.{Sound};
+ghost use Rattle.book.specs.Sound.{SoundParts};
 ghost use Rattle.book.specs.SoundLaws.{Enters};
 
 impl Book {
@@ -38,7 +38,7 @@ impl Book {
             journal: Journal {
                 entries: [free; Journal::SIZE],
                 next: 0,
-                held: 0,
+                count: 0,
             },
             normals,
         }
@@ -71,7 +71,7 @@ impl Book {
 
     // The one core edit: r at place i, its share of N and u in, that of what the place held out, and the journal given.
     fn put(mut self, i: usize, r: Record, journal: Journal) -> Book
-        requires { ⌜ (i < 256) × (recordFits (self .network) r ≡ true) × Sound self ⌝ }
+        requires { ⌜ (i < 256) × (recordFits (self .network) r ≡ true) × SoundParts self ⌝ }
         ensures { λ b. ⌜ b ≡ withEntry self i r journal ⌝ }
     {
         let network = self.network;
@@ -87,7 +87,7 @@ impl Book {
 
     // The edit, unless it is refused.
     fn settle(self, n: u64, i: usize, r: Record) -> Edited
-        requires { ⌜ Sound self × (n ≡ 0 → Enters self i r) ⌝ }
+        requires { ⌜ SoundParts self × (n ≡ 0 → Enters self i r) ⌝ }
         ensures { λ e. ⌜ e ≡ settled n self (edited self i r) ⌝ }
     {
         if n == 0 {
@@ -113,8 +113,8 @@ impl Book {
     {
         let net = self.network;
         let i = words::index_in(place, 256);
-        let held = self.record_at(i);
-        let n = refusals::edit_no(net, place, change, held);
+        let current = self.record_at(i);
+        let n = refusals::edit_no(net, place, change, current);
         let r = refusals::puts_of(change);
         self.settle(n, i, r)
     }
@@ -125,8 +125,8 @@ impl Book {
         ensures { λ e. ⌜ (e ≡ outcome self Call.Undo) × (sound (e .book) ≡ true) ⌝ }
     {
         let journal = self.journal;
-        let held = journal.held;
-        if held == 0 {
+        let count = journal.count;
+        if count == 0 {
             return Edited {
                 refusal: 8,
                 book: self,

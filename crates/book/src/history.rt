@@ -28,11 +28,11 @@ pub(crate) fn slot_age(next: usize, slot: usize) -> usize
 }
 
 // One edit more, but not above the size.
-pub fn one_more(held: usize) -> usize
-    ensures { λ r. ⌜ r ≡ oneMore held ⌝ }
+pub fn one_more(count: usize) -> usize
+    ensures { λ r. ⌜ r ≡ oneMore count ⌝ }
 {
-    if held < Journal::SIZE {
-        held + 1
+    if count < Journal::SIZE {
+        count + 1
     } else {
         Journal::SIZE
     }
@@ -48,25 +48,25 @@ impl Journal {
         ensures { λ r. ⌜ r ≡ pushed self e ⌝ }
     {
         let i = self.next;
-        let held = self.held;
+        let count = self.count;
         let mut a = self.entries;
         a[i] = e;
         let next = slot_after(i);
-        let more = one_more(held);
+        let more = one_more(count);
         Journal {
             entries: a,
             next,
-            held: more,
+            count: more,
         }
     }
 
     // The latest comes off, and its slot is blank again.
     pub fn pop(self) -> Journal
-        requires { ⌜ (0 < self .held) × (self .next < journalSize) ⌝ }
+        requires { ⌜ (0 < self .count) × (self .next < journalSize) ⌝ }
         ensures { λ r. ⌜ r ≡ popped self ⌝ }
     {
         let next = self.next;
-        let n = self.held;
+        let n = self.count;
         let i = slot_before(next);
         let mut a = self.entries;
         let none = super::Record::Empty;
@@ -77,7 +77,7 @@ impl Journal {
         Journal {
             entries: a,
             next: i,
-            held: n - 1,
+            count: n - 1,
         }
     }
 

@@ -47,7 +47,7 @@ pub struct Reversal {
 pub struct Journal {
     pub entries: [Reversal; Journal::SIZE],
     pub next: usize,
-    pub held: usize,
+    pub count: usize,
 }
 
 // Document 01's record book.

@@ -8,7 +8,7 @@ ghost use Prim.Native.Nat.{_≤_};
 ghost use Rattle.network.specs.Stations.{coordinatesFit};
 ghost use Rattle.network.specs.Rules.{recordNo};
 ghost use Rattle.book.specs.Calls.{first, placeNo, filledNo, emptyNo, puts};
-ghost use Rattle.book.specs.Numbers.{heldNo};
+ghost use Rattle.book.specs.Numbers.{changeNoOf};
 
 fn first_no(a: u64, b: u64) -> u64
     ensures { λ n. ⌜ n ≡ first a b ⌝ }
@@ -44,12 +44,12 @@ fn entry_no(net: Network, r: Record, holds: u64) -> u64
 }
 
 // Of a change to a place that holds this.
-fn change_no(net: Network, change: Change, held: Record) -> u64
+fn change_no(net: Network, change: Change, current: Record) -> u64
     requires { ⌜ (net .count ≤ 32) × (coordinatesFit (net .stations) ≡ true) ⌝ }
-    ensures { λ n. ⌜ n ≡ heldNo net held change ⌝ }
+    ensures { λ n. ⌜ n ≡ changeNoOf net current change ⌝ }
 {
-    let filled = filled_no(held);
-    let empty = empty_no(held);
+    let filled = filled_no(current);
+    let empty = empty_no(current);
     match change {
         Change::Add(r) => entry_no(net, r, filled),
         Change::Replace(r) => entry_no(net, r, empty),
@@ -58,11 +58,11 @@ fn change_no(net: Network, change: Change, held: Record) -> u64
 }
 
 // Of an edit whose place holds this.
-pub fn edit_no(net: Network, place: i64, change: Change, held: Record) -> u64
+pub fn edit_no(net: Network, place: i64, change: Change, current: Record) -> u64
     requires { ⌜ (net .count ≤ 32) × (coordinatesFit (net .stations) ≡ true) ⌝ }
-    ensures { λ n. ⌜ n ≡ first (placeNo place) (heldNo net held change) ⌝ }
+    ensures { λ n. ⌜ n ≡ first (placeNo place) (changeNoOf net current change) ⌝ }
 {
-    let n = change_no(net, change, held);
+    let n = change_no(net, change, current);
     let p = place_no(place);
     first_no(p, n)
 }

@@ -18,7 +18,7 @@ ghost use Rattle.network.specs.Stations.{coordinates, networkFits};
 ghost use Rattle.network.specs.Records.{recordAt, isEmpty};
 ghost use Rattle.network.specs.Rules.{recordFits};
 ghost use Rattle.network.specs.Places.{placesLength, placesIn};
-ghost use Rattle.book.specs.Journal.{journalSize, age, free, isFree, isHeld, journalFits, reversals};
+ghost use Rattle.book.specs.Journal.{journalSize, age, free, isFree, inUse, journalFits, reversals};
 ghost use Rattle.book.specs.Book.{undoable, sound};
 ghost use Rattle.book.specs.Empties.{empties, undoableBy};
 
@@ -30,13 +30,13 @@ fn is_free(u: Reversal) -> bool
     (place == 0) & network::is_empty(prior)
 }
 
-// A slot is held, or it is free.
-fn slot_fits(next: usize, held: usize, slot: usize, u: Reversal) -> bool
+// A slot is in use, or it is free.
+fn slot_fits(next: usize, count: usize, slot: usize, u: Reversal) -> bool
     requires { ⌜ (next < journalSize) × (slot < journalSize) ⌝ }
-    ensures { λ t. ⌜ t ≡ (ltb (age next slot) held || isFree u) ⌝ }
+    ensures { λ t. ⌜ t ≡ (ltb (age next slot) count || isFree u) ⌝ }
 {
     let age = slot_age(next, slot);
-    if age < held {
+    if age < count {
         return true;
     }
     is_free(u)
@@ -44,15 +44,15 @@ fn slot_fits(next: usize, held: usize, slot: usize, u: Reversal) -> bool
 
 fn slots_fit(journal: Journal) -> bool
     requires { ⌜ journal .next < journalSize ⌝ }
-    ensures { λ t. ⌜ t ≡ allBelow journalSize (λ slot. isHeld journal slot || isFree (getD (journal .entries) slot free)) ⌝ }
+    ensures { λ t. ⌜ t ≡ allBelow journalSize (λ slot. inUse journal slot || isFree (getD (journal .entries) slot free)) ⌝ }
 {
     let entries = journal.entries;
     let next = journal.next;
-    let held = journal.held;
+    let count = journal.count;
     let mut slot = 0;
     while slot < Journal::SIZE {
         let u = entries[slot];
-        if !slot_fits(next, held, slot, u) {
+        if !slot_fits(next, count, slot, u) {
             return false;
         }
         slot = slot + 1;
@@ -64,11 +64,11 @@ fn journal_fits(journal: Journal) -> bool
     ensures { λ t. ⌜ t ≡ journalFits journal ⌝ }
 {
     let next = journal.next;
-    let held = journal.held;
+    let count = journal.count;
     if next >= Journal::SIZE {
         return false;
     }
-    if held > Journal::SIZE {
+    if count > Journal::SIZE {
         return false;
     }
     slots_fit(journal)
@@ -137,7 +137,7 @@ fn walks_back(
     let entries = journal.entries;
     let mut state = empty;
     let mut slot = journal.next;
-    let mut left = journal.held;
+    let mut left = journal.count;
     while left > 0 {
         slot = slot_before(slot);
         let u = entries[slot];
@@ -146,8 +146,8 @@ fn walks_back(
         if p >= Unit::PLACES {
             return false;
         }
-        let held = state[p];
-        if !restores(net, coordinate, held, prior) {
+        let current = state[p];
+        if !restores(net, coordinate, current, prior) {
             return false;
         }
         let none = network::is_empty(prior);
@@ -204,8 +204,8 @@ pub fn is_sound(book: Book) -> bool
     ensures { λ t. ⌜ t ≡ sound book ⌝ }
 {
     let network = book.network;
-    let held = book.places;
-    let places = network::place_words(held);
+    let records = book.places;
+    let places = network::place_words(records);
     let journal = book.journal;
     let normals = book.normals;
     let matrix = normals.matrix;

@@ -13,18 +13,18 @@ use Rattle.book.specs.Rows.{rowNext, rowSays}
 use Rattle.book.specs.Book.{openedBook, bookNext, bookSays}
 use Rattle.checks.specs.Checks.{checked, hasRoom, sheetAfter}
 use Rattle.cases.specs.Table.{Case, stationList}
-use Rattle.cases.specs.Cases.{rowsOf, bookOf, xOf, mOf, enough, Holds, CallsMade, Ran}
+use Rattle.cases.specs.Cases.{rowsOf, caseBook, xOf, mOf, enough, CaseHolds, CallsMade, CaseRan}
 
 -- as many answers as rows
-answers-long : (c : Case) → Holds c → length (rowsOf c) ≡ length (c .answers)
+answers-long : (c : Case) → CaseHolds c → length (rowsOf c) ≡ length (c .answers)
 answers-long c g =
     sym (length-answers (rowNext bookNext) (rowSays bookSays) (openedBook (networkOf stationList)) (rowsOf c))
     ∙ ap length (g .answered)
     ∙ length-map (c .answers) pos
 
-module _ (c : Case) (g : Holds c) (start : Book) (rows : List Row) (before after : List ℤ) (left : Book) (made : CallsMade start rows before after left)
+module _ (c : Case) (g : CaseHolds c) (start : Book) (rows : List Row) (before after : List ℤ) (left : Book) (made : CallsMade start rows before after left)
     (opened : start ≡ openedBook (networkOf stationList)) (same : rows ≡ rowsOf c) where
-  left-is : left ≡ bookOf c
+  left-is : left ≡ caseBook c
   left-is = made .left ∙ ap₂ (Rattle.book.specs.Run.final (rowNext bookNext)) opened same
 
   answered-is : after ≡ map pos (c .answers) ++ drop (length (c .answers)) before
@@ -34,7 +34,7 @@ module _ (c : Case) (g : Holds c) (start : Book) (rows : List Row) (before after
       ∙ ap₂ (λ (w : List ℤ) (n : ℕ). w ++ drop n before) (g .answered) (answers-long c g)
 
   pub ran : (x m lent words : List ℤ) (answer : Answer) → x ≡ xOf c → m ≡ mOf c → enough ≤ length lent
-      → answer ≡ checked left x m (hasRoom left lent) → words ≡ sheetAfter left x m lent → Ran c before after lent words answer
+      → answer ≡ checked left x m (hasRoom left lent) → words ≡ sheetAfter left x m lent → CaseRan c before after lent words answer
   ran x m lent words answer p q h a w =
       record {
         answered = answered-is;

@@ -14,7 +14,7 @@ use Rattle.network.specs.declared.Record.{Record}
 use Rattle.network.specs.declared.Place.{Place}
 use Rattle.acceptance.specs.declared.Answer.{Answer}
 use Rattle.acceptance.specs.Tests.{at, refinement}
-use Rattle.acceptance.specs.Judge.{numberOf, unknownOf}
+use Rattle.acceptance.specs.Judge.{answerNumber, answerUnknown}
 use Rattle.acceptance.specs.Exactly.{n, N, u, rows}
 use Rattle.book.specs.declared.Book.{Book}
 use Rattle.book.specs.Book as spec
@@ -25,14 +25,14 @@ use Rattle.book.specs.Rows.{rowNext, rowSays}
 use Rattle.book.specs.Book.{bookNext, bookSays}
 use Rattle.book.specs.Demand3.{bookAnswers, bookAfter}
 use Rattle.checks.specs.Checks.{checked, hasRoom, sheetAfter}
-use Rattle.cases.specs.Table.{Case, stationList, printed, asPrinted, table}
+use Rattle.cases.specs.Table.{Case, stationList, printedCalls, asPrinted, table}
 
 -- the calls as rows of a run, and the book that they leave
 abbrev pub rowsOf : Case → List Row
 rowsOf c = map Names (c .calls)
 
-abbrev pub bookOf : Case → Book
-bookOf c = bookAfter (networkOf stationList) (rowsOf c)
+abbrev pub caseBook : Case → Book
+caseBook c = bookAfter (networkOf stationList) (rowsOf c)
 
 -- X and M as lent
 abbrev pub xOf : Case → List ℤ
@@ -46,8 +46,8 @@ abbrev pub refinedAt : Network → List Place → List ℤ → List ℤ → ℕ 
 refinedAt net places x m i = refinement (n net) (N net places) (rows net m) (u net places) (at x) i
 
 -- the 256 places that hold these records from the first on, and nothing beyond
-unfoldable pub filled : List Record → List Place
-filled records = map (λ r. record { entry = r }) records ++ replicate (256 - length records) vacant
+unfoldable pub filledPlaces : List Record → List Place
+filledPlaces records = map (λ r. record { entry = r }) records ++ replicate (256 - length records) vacant
 
 -- no case's sheet takes more words
 abbrev pub enough : ℕ
@@ -55,29 +55,29 @@ enough = 32
 
 -- an answer to a check by its number and unknown
 pub record AnswersAs (c : Case) (answer : Answer) : Type 0 where
-  pub number : numberOf answer ≡ c .number
-  pub unknown : unknownOf answer ≡ c .unknown
+  pub number : answerNumber answer ≡ c .number
+  pub unknown : answerUnknown answer ≡ c .unknown
 
-pub record Holds (c : Case) : Type 0 where
+pub record CaseHolds (c : Case) : Type 0 where
   pub opened : opens stationList ≡ true
   pub answered : bookAnswers (networkOf stationList) (rowsOf c) ≡ map pos (c .answers)
-  pub records : bookOf c .places ≡ filled (c .records)
-  pub refined : refinedAt (bookOf c .network) (bookOf c .places) (xOf c) (mOf c) 0 ≡ c .refined
+  pub records : caseBook c .places ≡ filledPlaces (c .records)
+  pub refined : refinedAt (caseBook c .network) (caseBook c .places) (xOf c) (mOf c) 0 ≡ c .refined
   -- without a sheet, and with one of any words that are enough: words beyond stay
-  pub check : AnswersAs c (checked (bookOf c) (xOf c) (mOf c) true)
-  pub checkSheet : (lent : List ℤ) → enough ≤ length lent → AnswersAs c (checked (bookOf c) (xOf c) (mOf c) (hasRoom (bookOf c) lent))
-  pub written : (lent : List ℤ) → enough ≤ length lent → sheetAfter (bookOf c) (xOf c) (mOf c) lent ≡ c .sheet ++ drop (length (c .sheet)) lent
+  pub check : AnswersAs c (checked (caseBook c) (xOf c) (mOf c) true)
+  pub checkSheet : (lent : List ℤ) → enough ≤ length lent → AnswersAs c (checked (caseBook c) (xOf c) (mOf c) (hasRoom (caseBook c) lent))
+  pub written : (lent : List ℤ) → enough ≤ length lent → sheetAfter (caseBook c) (xOf c) (mOf c) lent ≡ c .sheet ++ drop (length (c .sheet)) lent
 
 -- case k of the table, counted from 0; beyond its last it is the first again
-abbrev pub first : Case
-first = asPrinted (printed 1100) (0 ∷ 0 ∷ [])
+abbrev pub firstCase : Case
+firstCase = asPrinted (printedCalls 1100) (0 ∷ 0 ∷ [])
 
 abbrev pub caseAt : ℕ → Case
-caseAt k = getD table k first
+caseAt k = getD table k firstCase
 
 -- the one statement
 abbrev pub CasesHold : Type 0
-CasesHold = (k : ℕ) → k < length table → Holds (caseAt k)
+CasesHold = (k : ℕ) → k < length table → CaseHolds (caseAt k)
 
 -- ════ what a run of a case gives
 -- rows answered in turn, at the front of a lent list, and the book that they leave
@@ -87,7 +87,7 @@ pub record CallsMade (b : Book) (rows : List Row) (before after : List ℤ) (las
   pub sound : spec.sound last ≡ true
 
 -- the calls answered and the check: the answers and the sheet at the front of the lent words
-pub record Ran (c : Case) (answers answers′ sheet sheet′ : List ℤ) (answer : Answer) : Type 0 where
+pub record CaseRan (c : Case) (answers answers′ sheet sheet′ : List ℤ) (answer : Answer) : Type 0 where
   pub answered : answers′ ≡ map pos (c .answers) ++ drop (length (c .answers)) answers
   pub checked : AnswersAs c answer
   pub written : sheet′ ≡ c .sheet ++ drop (length (c .sheet)) sheet

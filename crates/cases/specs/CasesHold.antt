@@ -16,17 +16,17 @@ use Rattle.acceptance.specs.declared.Answer.{Answer}
 use Rattle.acceptance.specs.declared.Answer.the-variants.{Accepted, Refused}
 use Rattle.acceptance.specs.Exactly.{answer}
 use Rattle.book.specs.declared.Book.{Book}
-use Rattle.book.specs.Sound.{Sound, parts-sound}
+use Rattle.book.specs.Sound.{SoundParts, parts-sound}
 use Rattle.sheet.specs.Sheet.{sheetWords, room}
 use Rattle.sheet.specs.SheetLaws.{sheet-length}
 use Rattle.checks.specs.Checks.{checked, hasRoom, onAcceptance, sheetAfter}
 use Rattle.checks.specs.CheckLaws.{checked-is}
 use Rattle.cases.specs.Table.{Case, stationList, table}
-use Rattle.cases.specs.Cases.{filled, rowsOf, bookOf, xOf, mOf, refinedAt, enough, AnswersAs, Holds, caseAt, CasesHold}
+use Rattle.cases.specs.Cases.{filledPlaces, rowsOf, caseBook, xOf, mOf, refinedAt, enough, AnswersAs, CaseHolds, caseAt, CasesHold}
 use Rattle.cases.specs.Brief.{briefAfter, briefAnswers, brief-answers, brief-follows, brief-places}
 use native.Mathlib.Nat.{le-of-suc-le-suc, not-suc-le-zero}
 use Rattle.book.specs.Follows.{Follows}
-use Rattle.cases.specs.Worked.{Outcome, placesIn, workedOn, expected, network, network-is, list-opens, all-places, all-worked}
+use Rattle.cases.specs.Worked.{WorkedCase, casePlaces, workedOn, expected, network, network-is, list-opens, all-places, all-worked}
 
 -- ════ what is worked out is what the calls and the check give
 module _ (net : Network) (places : List Place) (x m lent : List ℤ) where
@@ -37,7 +37,7 @@ module _ (net : Network) (places : List Place) (x m lent : List ℤ) where
   written-as (Refused refusal) w e = rw (← e)
 
 -- a check of a book with these stations and records
-module _ (b : Book) (g : Sound b) (net : Network) (places : List Place) (p : b .network ≡ net) (q : b .places ≡ places) (x m : List ℤ) where
+module _ (b : Book) (g : SoundParts b) (net : Network) (places : List Place) (p : b .network ≡ net) (q : b .places ≡ places) (x m : List ℤ) where
   checked-on : (r : Bool) → checked b x m r ≡ answer net places x m r
   checked-on r = checked-is b (parts-sound b g) x m r ∙ ap (λ (n : Network). answer n (b .places) x m r) p ∙ ap (λ (l : List Place). answer net l x m r) q
 
@@ -64,38 +64,38 @@ module _ (b : Book) (g : Sound b) (net : Network) (places : List Place) (p : b .
         ∙ written-as net places x m lent a w e
 
 -- a case whose records and outcome are worked out as expected holds
-module _ (c : Case) (k : placesIn network c ≡ filled (c .records)) (e : workedOn network (filled (c .records)) c ≡ expected c) where
+module _ (c : Case) (k : casePlaces network c ≡ filledPlaces (c .records)) (e : workedOn network (filledPlaces (c .records)) c ≡ expected c) where
   fits : networkFits (networkOf stationList) ≡ true
   fits = opened-fits stationList list-opens
 
-  follows : Follows (networkOf stationList) (bookOf c) (briefAfter (networkOf stationList) (rowsOf c))
+  follows : Follows (networkOf stationList) (caseBook c) (briefAfter (networkOf stationList) (rowsOf c))
   follows = brief-follows (networkOf stationList) fits (rowsOf c)
 
-  stations : bookOf c .network ≡ network
+  stations : caseBook c .network ≡ network
   stations = follows .network ∙ network-is
 
-  places : bookOf c .places ≡ filled (c .records)
-  places = brief-places (networkOf stationList) fits (rowsOf c) ∙ ap (λ (n : Network). placesIn n c) network-is ∙ k
+  places : caseBook c .places ≡ filledPlaces (c .records)
+  places = brief-places (networkOf stationList) fits (rowsOf c) ∙ ap (λ (n : Network). casePlaces n c) network-is ∙ k
 
-  answers-as : AnswersAs c (answer network (filled (c .records)) (xOf c) (mOf c) true)
+  answers-as : AnswersAs c (answer network (filledPlaces (c .records)) (xOf c) (mOf c) true)
   unfolding workedOn expected
-  answers-as = record { number = ap (λ (w : Outcome). w .number) e; unknown = ap (λ (w : Outcome). w .unknown) e }
+  answers-as = record { number = ap (λ (w : WorkedCase). w .number) e; unknown = ap (λ (w : WorkedCase). w .unknown) e }
 
-  few : leb (room network (filled (c .records))) enough ≡ true
+  few : leb (room network (filledPlaces (c .records))) enough ≡ true
   unfolding workedOn expected
-  few = ap (λ (w : Outcome). w .fits) e
+  few = ap (λ (w : WorkedCase). w .fits) e
 
-  by-working : Holds c
+  by-working : CaseHolds c
   unfolding workedOn expected
   by-working =
       record {
         opened = list-opens;
-        answered = brief-answers (networkOf stationList) fits (rowsOf c) ∙ ap (λ (n : Network). briefAnswers n (rowsOf c)) network-is ∙ ap (λ (w : Outcome). w .answered) e;
+        answered = brief-answers (networkOf stationList) fits (rowsOf c) ∙ ap (λ (n : Network). briefAnswers n (rowsOf c)) network-is ∙ ap (λ (w : WorkedCase). w .answered) e;
         records = places;
-        refined = refined-on (bookOf c) (follows .sound) network (filled (c .records)) stations places (xOf c) (mOf c) ∙ ap (λ (w : Outcome). w .refined) e;
-        check = rw (checked-on (bookOf c) (follows .sound) network (filled (c .records)) stations places (xOf c) (mOf c) true) answers-as;
-        checkSheet = λ lent h. rw (lent-on (bookOf c) (follows .sound) network (filled (c .records)) stations places (xOf c) (mOf c) lent few h) answers-as;
-        written = λ lent h. written-on (bookOf c) (follows .sound) network (filled (c .records)) stations places (xOf c) (mOf c) lent few h (c .sheet) (ap (λ (w : Outcome). w .sheet) e);
+        refined = refined-on (caseBook c) (follows .sound) network (filledPlaces (c .records)) stations places (xOf c) (mOf c) ∙ ap (λ (w : WorkedCase). w .refined) e;
+        check = rw (checked-on (caseBook c) (follows .sound) network (filledPlaces (c .records)) stations places (xOf c) (mOf c) true) answers-as;
+        checkSheet = λ lent h. rw (lent-on (caseBook c) (follows .sound) network (filledPlaces (c .records)) stations places (xOf c) (mOf c) lent few h) answers-as;
+        written = λ lent h. written-on (caseBook c) (follows .sound) network (filledPlaces (c .records)) stations places (xOf c) (mOf c) lent few h (c .sheet) (ap (λ (w : WorkedCase). w .sheet) e);
       }
 
 -- ════ every case of the table

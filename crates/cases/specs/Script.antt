@@ -16,7 +16,7 @@ use Rattle.book.specs.declared.Change.the-variants.{Add, Replace}
 use Rattle.book.specs.declared.Call.{Call}
 use Rattle.book.specs.declared.Call.the-variants.{Edit, Undo}
 use Rattle.cases.specs.Table.{Case, level, baselineWith, table}
-use Rattle.cases.specs.Cases.{rowsOf, first, caseAt}
+use Rattle.cases.specs.Cases.{rowsOf, firstCase, caseAt}
 
 unfoldable pub calls : List Call
 calls =
@@ -36,18 +36,18 @@ abbrev pub callAt : ℕ → Call
 callAt c = getD calls c (Edit (pos 3) (Add (baselineWith 99)))
 
 -- the numbers of the cases' calls, and where those of each case start and how many there are
-unfoldable pub numbers : List ℕ
-numbers = 0 ∷ 1 ∷ 2 ∷ 3 ∷ 0 ∷ 4 ∷ 0 ∷ 5 ∷ 0 ∷ 1 ∷ 6 ∷ 0 ∷ 1 ∷ 7 ∷ 0 ∷ 1 ∷ 8 ∷ 0 ∷ 1 ∷ 9 ∷ []
+unfoldable pub callNumbers : List ℕ
+callNumbers = 0 ∷ 1 ∷ 2 ∷ 3 ∷ 0 ∷ 4 ∷ 0 ∷ 5 ∷ 0 ∷ 1 ∷ 6 ∷ 0 ∷ 1 ∷ 7 ∷ 0 ∷ 1 ∷ 8 ∷ 0 ∷ 1 ∷ 9 ∷ []
 
-unfoldable pub starts : List ℕ
-starts = 0 ∷ 0 ∷ 0 ∷ 0 ∷ 0 ∷ 0 ∷ 0 ∷ 3 ∷ 4 ∷ 6 ∷ 8 ∷ 11 ∷ 14 ∷ 17 ∷ []
+unfoldable pub callStarts : List ℕ
+callStarts = 0 ∷ 0 ∷ 0 ∷ 0 ∷ 0 ∷ 0 ∷ 0 ∷ 3 ∷ 4 ∷ 6 ∷ 8 ∷ 11 ∷ 14 ∷ 17 ∷ []
 
-unfoldable pub counts : List ℕ
-counts = 2 ∷ 2 ∷ 2 ∷ 0 ∷ 3 ∷ 3 ∷ 4 ∷ 1 ∷ 2 ∷ 2 ∷ 3 ∷ 3 ∷ 3 ∷ 3 ∷ []
+unfoldable pub callCounts : List ℕ
+callCounts = 2 ∷ 2 ∷ 2 ∷ 0 ∷ 3 ∷ 3 ∷ 4 ∷ 1 ∷ 2 ∷ 2 ∷ 3 ∷ 3 ∷ 3 ∷ 3 ∷ []
 
 -- `count` calls from `start` on
 unfoldable pub rowsFrom : ℕ → ℕ → List Row
-rowsFrom start count = tabulate count (λ i. Names (callAt (getD numbers (start + i) 0)))
+rowsFrom start count = tabulate count (λ i. Names (callAt (getD callNumbers (start + i) 0)))
 
 -- X and M of each case
 unfoldable pub xs : List ℤ
@@ -72,11 +72,11 @@ table-length = refl
 module _ (k : ℕ) (h : k < 14) where
   -- what is given by the number is the case's where it is so throughout the table
   at-case : {A : Type 0} (f : ℕ → A) (g : Case → A) → tabulate 14 f ≡ map g table → f k ≡ g (caseAt k)
-  at-case {A} f g e = sym (getD-tabulate 14 f k (g first) h) ∙ ap (λ (l : List A). getD l k (g first)) e ∙ List·getD-map g table k first
+  at-case {A} f g e = sym (getD-tabulate 14 f k (g firstCase) h) ∙ ap (λ (l : List A). getD l k (g firstCase)) e ∙ List·getD-map g table k firstCase
 
-  pub rows-are : rowsFrom (getD starts k 0) (getD counts k 0) ≡ rowsOf (caseAt k)
-  unfolding table tabulate rowsFrom calls numbers starts counts
-  rows-are = at-case (λ j. rowsFrom (getD starts j 0) (getD counts j 0)) rowsOf refl
+  pub rows-are : rowsFrom (getD callStarts k 0) (getD callCounts k 0) ≡ rowsOf (caseAt k)
+  unfolding table tabulate rowsFrom calls callNumbers callStarts callCounts
+  rows-are = at-case (λ j. rowsFrom (getD callStarts j 0) (getD callCounts j 0)) rowsOf refl
 
   pub x-is : getD xs k (pos 0) ≡ caseAt k .x
   unfolding table tabulate xs
@@ -87,8 +87,8 @@ module _ (k : ℕ) (h : k < 14) where
   m-is = at-case (λ j. getD ms j (pos 0)) (λ c. c .m) refl
 
   -- no case has more than four calls, and all calls are listed
-  pub few-calls : (getD starts k 0 + getD counts k 0 ≤ 20) × (getD counts k 0 ≤ 4)
-  unfolding allBelow starts counts
+  pub few-calls : (getD callStarts k 0 + getD callCounts k 0 ≤ 20) × (getD callCounts k 0 ≤ 4)
+  unfolding allBelow callStarts callCounts
   few-calls =
-      let e : leb (getD starts k 0 + getD counts k 0) 20 && leb (getD counts k 0) 4 ≡ true = all-at 14 (λ j. leb (getD starts j 0 + getD counts j 0) 20 && leb (getD counts j 0) 4) k refl h in
-      (leb-true _ _ (and-left _ _ e), leb-true _ _ (and-right (leb (getD starts k 0 + getD counts k 0) 20) _ e))
+      let e : leb (getD callStarts k 0 + getD callCounts k 0) 20 && leb (getD callCounts k 0) 4 ≡ true = all-at 14 (λ j. leb (getD callStarts j 0 + getD callCounts j 0) 20 && leb (getD callCounts j 0) 4) k refl h in
+      (leb-true _ _ (and-left _ _ e), leb-true _ _ (and-right (leb (getD callStarts k 0 + getD callCounts k 0) 20) _ e))

@@ -28,8 +28,8 @@ abbrev pub baselineWith : ℕ → Record
 baselineWith en = baselineBy (pos en)
 
 -- its two H lines, the second with a difference of the case's own
-abbrev pub printed : ℕ → List Call
-printed difference = Edit (pos 1) (Add (level 1000)) ∷ Edit (pos 2) (Add (level difference)) ∷ []
+abbrev pub printedCalls : ℕ → List Call
+printedCalls difference = Edit (pos 1) (Add (level 1000)) ∷ Edit (pos 2) (Add (level difference)) ∷ []
 
 -- ════ a case: what is called and checked, and what is expected of it
 pub record Case : Type 0 where
@@ -50,24 +50,24 @@ pub record Case : Type 0 where
 
 -- ════ the words of the sheets, line by line as the night print has them
 -- both stations: the height of 2 and its variance
-abbrev pub stationLines : ℕ → ℕ → List ℤ
-stationLines up variance =
+abbrev pub caseStationWords : ℕ → ℕ → List ℤ
+caseStationWords up variance =
     pos 1 ∷ pos 0 ∷ pos 0 ∷ pos 100000 ∷ pos 0 ∷ pos 0 ∷ pos 0
     ∷ pos 2 ∷ pos 0 ∷ pos 0 ∷ pos up ∷ pos 0 ∷ pos 0 ∷ pos variance
     ∷ []
 
 -- a height difference: place, residual, verdict (0 PASS, 1 FAIL)
-abbrev pub levelLine : ℕ → ℤ → ℕ → List ℤ
-levelLine place residual verdict = pos place ∷ residual ∷ pos verdict ∷ []
+abbrev pub caseLevelWords : ℕ → ℤ → ℕ → List ℤ
+caseLevelWords place residual verdict = pos place ∷ residual ∷ pos verdict ∷ []
 
 -- T, D, verdict (0 PASS, 4 HIGH)
-abbrev pub globalLine : ℕ → ℕ → ℕ → List ℤ
-globalLine t d verdict = pos t ∷ pos d ∷ pos verdict ∷ []
+abbrev pub caseGlobalWords : ℕ → ℕ → ℕ → List ℤ
+caseGlobalWords t d verdict = pos t ∷ pos d ∷ pos verdict ∷ []
 
 -- ════ the table
 -- the night print with X, its second difference, the verdict of both residuals and T as the case has them: accepted, and the sheet that is printed
-abbrev pub accepted : List Call → List ℕ → ℕ → ℕ → ℕ → ℕ → Case
-accepted calls answers second x verdict t =
+abbrev pub acceptedCase : List Call → List ℕ → ℕ → ℕ → ℕ → ℕ → Case
+acceptedCase calls answers second x verdict t =
     record {
       calls = calls;
       x = pos x;
@@ -77,42 +77,42 @@ accepted calls answers second x verdict t =
       number = 0;
       unknown = 0;
       refined = pos 0;
-      sheet = (pos 2 ∷ pos 1 ∷ []) ++ stationLines (101000 + x) 5368709 ++ levelLine 1 (negℤ (pos x)) verdict ++ levelLine 2 (pos x) verdict ++ globalLine t 1 0;
+      sheet = (pos 2 ∷ pos 1 ∷ []) ++ caseStationWords (101000 + x) 5368709 ++ caseLevelWords 1 (negℤ (pos x)) verdict ++ caseLevelWords 2 (pos x) verdict ++ caseGlobalWords t 1 0;
     }
 
 -- as it stands
 abbrev pub asPrinted : List Call → List ℕ → Case
-asPrinted calls answers = accepted calls answers 1100 50 0 500000
+asPrinted calls answers = acceptedCase calls answers 1100 50 0 500000
 
 -- one that is refused leaves the sheet
-abbrev pub refused : List Call → ℤ → ℤ → List ℕ → List Record → ℕ → ℕ → ℤ → Case
-refused calls x m answers records number unknown refined =
+abbrev pub refusedCase : List Call → ℤ → ℤ → List ℕ → List Record → ℕ → ℕ → ℤ → Case
+refusedCase calls x m answers records number unknown refined =
     record { calls = calls; x = x; m = m; answers = answers; records = records; number = number; unknown = unknown; refined = refined; sheet = [] }
 
 unfoldable pub table : List Case
 table =
     -- "As printed, accepted."
-    asPrinted (printed 1100) (0 ∷ 0 ∷ [])
+    asPrinted (printedCalls 1100) (0 ∷ 0 ∷ [])
     -- "X 51: Mr is −1073741800, refused 16."
-    ∷ refused (printed 1100) (pos 51) (pos 5368709) (0 ∷ 0 ∷ []) (level 1000 ∷ level 1100 ∷ []) 16 0 (negℤ (pos 1073741800))
+    ∷ refusedCase (printedCalls 1100) (pos 51) (pos 5368709) (0 ∷ 0 ∷ []) (level 1000 ∷ level 1100 ∷ []) 16 0 (negℤ (pos 1073741800))
     -- "M 0: 14."
-    ∷ refused (printed 1100) (pos 50) (pos 0) (0 ∷ 0 ∷ []) (level 1000 ∷ level 1100 ∷ []) 14 0 (pos 0)
+    ∷ refusedCase (printedCalls 1100) (pos 50) (pos 0) (0 ∷ 0 ∷ []) (level 1000 ∷ level 1100 ∷ []) 14 0 (pos 0)
     -- "No records: 11, unknown 1."
-    ∷ refused [] (pos 50) (pos 5368709) [] [] 11 1 (pos 0)
+    ∷ refusedCase [] (pos 50) (pos 5368709) [] [] 11 1 (pos 0)
     -- "Record 2 replaced by 1200: X 50 is refused 16, X 100 accepted with T 2000000."
-    ∷ refused (printed 1100 ++ Edit (pos 2) (Replace (level 1200)) ∷ []) (pos 50) (pos 5368709) (0 ∷ 0 ∷ 0 ∷ []) (level 1000 ∷ level 1200 ∷ []) 16 0 (pos 53687090000)
-    ∷ accepted (printed 1100 ++ Edit (pos 2) (Replace (level 1200)) ∷ []) (0 ∷ 0 ∷ 0 ∷ []) 1200 100 0 2000000
+    ∷ refusedCase (printedCalls 1100 ++ Edit (pos 2) (Replace (level 1200)) ∷ []) (pos 50) (pos 5368709) (0 ∷ 0 ∷ 0 ∷ []) (level 1000 ∷ level 1200 ∷ []) 16 0 (pos 53687090000)
+    ∷ acceptedCase (printedCalls 1100 ++ Edit (pos 2) (Replace (level 1200)) ∷ []) (0 ∷ 0 ∷ 0 ∷ []) 1200 100 0 2000000
     -- "Undo then: X 50 accepted again."
-    ∷ asPrinted (printed 1100 ++ Edit (pos 2) (Replace (level 1200)) ∷ Undo ∷ []) (0 ∷ 0 ∷ 0 ∷ 0 ∷ [])
+    ∷ asPrinted (printedCalls 1100 ++ Edit (pos 2) (Replace (level 1200)) ∷ Undo ∷ []) (0 ∷ 0 ∷ 0 ∷ 0 ∷ [])
     -- "Undo on a new book: 8."
-    ∷ refused (Undo ∷ []) (pos 50) (pos 5368709) (8 ∷ []) [] 11 1 (pos 0)
+    ∷ refusedCase (Undo ∷ []) (pos 50) (pos 5368709) (8 ∷ []) [] 11 1 (pos 0)
     -- "Record 2 as 1276, X 138: both PASS."
-    ∷ accepted (printed 1276) (0 ∷ 0 ∷ []) 1276 138 0 3808800
+    ∷ acceptedCase (printedCalls 1276) (0 ∷ 0 ∷ []) 1276 138 0 3808800
     -- "As 1278, X 139: both FAIL, T 3864200, global PASS."
-    ∷ accepted (printed 1278) (0 ∷ 0 ∷ []) 1278 139 1 3864200
+    ∷ acceptedCase (printedCalls 1278) (0 ∷ 0 ∷ []) 1278 139 1 3864200
     -- "Difference 101000 enters": as a third record, with the solution and the inverse of the three, rounded
     ∷ record {
-      calls = printed 1100 ++ Edit (pos 3) (Add (level 101000)) ∷ [];
+      calls = printedCalls 1100 ++ Edit (pos 3) (Add (level 101000)) ∷ [];
       x = pos 33367;
       m = pos 3579139;
       answers = 0 ∷ 0 ∷ 0 ∷ [];
@@ -121,17 +121,17 @@ table =
       unknown = 0;
       refined = negℤ (pos 357913900);
       sheet =
-          (pos 3 ∷ pos 1 ∷ []) ++ stationLines 134367 3579139
-          ++ levelLine 1 (negℤ (pos 33367)) 1 ++ levelLine 2 (negℤ (pos 33267)) 1 ++ levelLine 3 (pos 66633) 1
-          ++ globalLine 666000666700 2 4;
+          (pos 3 ∷ pos 1 ∷ []) ++ caseStationWords 134367 3579139
+          ++ caseLevelWords 1 (negℤ (pos 33367)) 1 ++ caseLevelWords 2 (negℤ (pos 33267)) 1 ++ caseLevelWords 3 (pos 66633) 1
+          ++ caseGlobalWords 666000666700 2 4;
     }
     -- "101001 is refused 6", and changes nothing
-    ∷ asPrinted (printed 1100 ++ Edit (pos 3) (Add (level 101001)) ∷ []) (0 ∷ 0 ∷ 6 ∷ [])
+    ∷ asPrinted (printedCalls 1100 ++ Edit (pos 3) (Add (level 101001)) ∷ []) (0 ∷ 0 ∷ 6 ∷ [])
     -- "Weights 100, 100, 100 with EN 100: 5"
-    ∷ asPrinted (printed 1100 ++ Edit (pos 3) (Add (baselineWith 100)) ∷ []) (0 ∷ 0 ∷ 5 ∷ [])
+    ∷ asPrinted (printedCalls 1100 ++ Edit (pos 3) (Add (baselineWith 100)) ∷ []) (0 ∷ 0 ∷ 5 ∷ [])
     -- "with EN 99: entered."
     ∷ record {
-      calls = printed 1100 ++ Edit (pos 3) (Add (baselineWith 99)) ∷ [];
+      calls = printedCalls 1100 ++ Edit (pos 3) (Add (baselineWith 99)) ∷ [];
       x = pos 33;
       m = pos 3579139;
       answers = 0 ∷ 0 ∷ 0 ∷ [];
@@ -140,9 +140,9 @@ table =
       unknown = 0;
       refined = pos 357913900;
       sheet =
-          (pos 3 ∷ pos 1 ∷ []) ++ stationLines 101033 3579139
-          ++ levelLine 1 (negℤ (pos 33)) 0 ++ levelLine 2 (pos 67) 0
+          (pos 3 ∷ pos 1 ∷ []) ++ caseStationWords 101033 3579139
+          ++ caseLevelWords 1 (negℤ (pos 33)) 0 ++ caseLevelWords 2 (pos 67) 0
           ++ (pos 3 ∷ pos 0 ∷ pos 0 ∷ negℤ (pos 33) ∷ pos 0 ∷ pos 0 ∷ pos 0 ∷ [])
-          ++ globalLine 666700 4 0;
+          ++ caseGlobalWords 666700 4 0;
     }
     ∷ []

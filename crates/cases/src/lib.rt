@@ -12,7 +12,7 @@ ghost use lib.ListN.{length};
 ghost use Rattle.network.specs.Stations.{networkOf};
 ghost use Rattle.book.specs.Book.{openedBook, sound};
 ghost use Rattle.cases.specs.Table.{stationList, levelBy, baselineBy, table};
-ghost use Rattle.cases.specs.Cases.{CallsMade, Ran, caseAt, enough};
+ghost use Rattle.cases.specs.Cases.{CallsMade, CaseRan, caseAt, enough};
 ghost use Rattle.cases.specs.Script.{callAt, rowsFrom};
 
 // The stations: kind, E, N, U.
@@ -112,7 +112,7 @@ fn make_calls(book: Book, start: usize, count: usize, answers: &mut [i64]) -> Bo
 // Case k of the table, from 0: its calls are answered at the front of `answers`, and its check writes the front of `sheet`.
 pub fn run_case(k: usize, answers: &mut [i64], sheet: &mut [i64]) -> Answer
     requires { ⌜ (k < length table) × (4 ≤ length (now answers)) × (enough ≤ length (now sheet)) ⌝ }
-    ensures { λ r. ⌜ Ran (caseAt k) (now (answers .entry)) (now (answers .exit)) (now (sheet .entry)) (now (sheet .exit)) r ⌝ }
+    ensures { λ r. ⌜ CaseRan (caseAt k) (now (answers .entry)) (now (answers .exit)) (now (sheet .entry)) (now (sheet .exit)) r ⌝ }
 {
     let start = STARTS[k];
     let count = COUNTS[k];

@@ -13,14 +13,14 @@ use Rattle.integers.specs.Tables.{getD-tabulate, length-tabulate}
 use Rattle.words.specs.Bools.{clash, true-or-false, same-test}
 use Rattle.lists.specs.All.{allBelow, all-at, all-by}
 use Rattle.network.specs.Stations.{unknown, number}
-use Rattle.network.specs.StationLaws.{bit-cases, number-mono}
+use Rattle.network.specs.StationLaws.{unknown-cases, number-mono}
 use Rattle.network.specs.Records.{recordAt, acts, fromOf, toOf}
 use Rattle.network.specs.declared.Station.{Station}
 use Rattle.network.specs.declared.Network.{Network}
 use Rattle.network.specs.declared.Record.{Record}
 use Rattle.network.specs.declared.Place.{Place}
 use Rattle.chains.specs.Bits.{bit, setOf-sound, setOf-whole, setOf-fits}
-use Rattle.chains.specs.Scans.{firstFailing, first-fails, first-none}
+use Rattle.chains.specs.Scans.{firstFailing, first-fails, first-failing-none}
 use Rattle.chains.specs.Search.{Joined, start, along as forth, back as return, Found, search-finds}
 use Rattle.chains.specs.Chains.{Tied, held, along, back, EachTied, FirstWithoutChain, edge, edges, fromEnd, toEnd, isHeld, heldSet, tiedSet, isTied, allTied, firstUntied}
 
@@ -29,7 +29,7 @@ pub record EndsLow (places : List Place) : Type 0 where
   pub from : (p : ℕ) → p < 256 → fromOf (recordAt places p) < 32
   pub to : (p : ℕ) → p < 256 → toOf (recordAt places p) < 32
 
-pub record Ends (net : Network) (places : List Place) : Type 0 where
+pub record EndsInRange (net : Network) (places : List Place) : Type 0 where
   pub few : net .count ≤ 32
   pub ends : EndsLow places
 
@@ -59,7 +59,7 @@ edge-no c r e = rw e
 pub edge-small : (c : ℕ) (r : Record) → fromOf r < 32 → toOf r < 32 → edge c r < 1024
 edge-small c r h k = ⊎-elim (λ e. rw (edge-yes c r e) (omega arith)) (λ e. rw (edge-no c r e) (omega arith)) (true-or-false (acts c r))
 
-module _ (net : Network) (places : List Place) (c : ℕ) (g : Ends net places) where
+module _ (net : Network) (places : List Place) (c : ℕ) (g : EndsInRange net places) where
   abbrev f : ℕ → ℕ
   f = fromEnd (edges places c)
 
@@ -128,7 +128,7 @@ module _ (net : Network) (places : List Place) (c : ℕ) (g : Ends net places) w
   found-same w r =
       record { same = λ s. same-test (bit w s) (bit (tiedSet net places c) s) (λ e. finds .whole s (r .sound s e)) (λ e. r .whole s (finds .sound s e)) }
 
-module _ (net : Network) (places : List Place) (g : Ends net places) where
+module _ (net : Network) (places : List Place) (g : EndsInRange net places) where
   -- component q is tied
   abbrev pub TiedAt : ℕ → Type 0
   TiedAt q = Tied net places (q % 3) (q / 3)
@@ -156,12 +156,12 @@ module _ (net : Network) (places : List Place) (g : Ends net places) where
       let i : q / 3 * 3 + q % 3 ≡ q = omega arith in
       ⊎-elim (λ e. rw (eq-eqb _ 0 e))
       (λ e. is-tied q e ∙ tied-whole net places (q % 3) g (q / 3) (h (q % 3) (q / 3) (omega arith) (omega arith) (ap (unknown (net .stations)) i ∙ e)))
-      (bit-cases (net .stations) q))
+      (unknown-cases (net .stations) q))
 
   -- where it fails, `firstUntied` is the first unknown without a chain
   pub first-untied : allTied net places ≡ false → FirstWithoutChain net places (firstUntied net places)
   unfolding allTied firstUntied isTied
-  first-untied e = go (first-fails (isTied net places) 96 e) (bit-cases (net .stations) (firstFailing 96 (isTied net places)))
+  first-untied e = go (first-fails (isTied net places) 96 e) (unknown-cases (net .stations) (firstFailing 96 (isTied net places)))
     where
       q : ℕ
       q = firstFailing 96 (isTied net places)
@@ -201,7 +201,7 @@ module _ {net : Network} {places : List Place} {east north up : ℕ} (a : SameSe
 module _ (net : Network) (places : List Place) {q : ℕ} (e : q ≡ firstFailing 96 (isTied net places)) where
   pub untied-by : q < 96 → allTied net places ≡ false
   unfolding allTied
-  untied-by l = ⊎-elim (λ a. absurd (let n = first-none (isTied net places) 96 a in omega arith)) (λ a. a) (true-or-false (allBelow 96 (isTied net places)))
+  untied-by l = ⊎-elim (λ a. absurd (let n = first-failing-none (isTied net places) 96 a in omega arith)) (λ a. a) (true-or-false (allBelow 96 (isTied net places)))
 
   pub tied-by : 96 ≤ q → allTied net places ≡ true
   unfolding allTied

@@ -25,10 +25,10 @@ module _ (p : ℕ → Bool) where
       go ih (no l) = let q : n ≡ k = omega arith in rw (q, a, f)
 
   -- where none fails
-  pub first-none : (n : ℕ) → allBelow n p ≡ true → firstFailing n p ≡ n
+  pub first-failing-none : (n : ℕ) → allBelow n p ≡ true → firstFailing n p ≡ n
   unfolding firstFailing
-  first-none zero e = refl
-  first-none (suc n) e =
+  first-failing-none zero e = refl
+  first-failing-none (suc n) e =
       let a : allBelow n p && p n ≡ true = sym (all-suc n p) ∙ e in rw (and-left (allBelow n p) (p n) a, and-right (allBelow n p) (p n) a)
 
   -- where some number fails, the least fails and all below it pass

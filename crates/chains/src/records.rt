@@ -18,7 +18,7 @@ ghost use Rattle.network.specs.Places.{placesLength, placesIn};
 ghost use Rattle.chains.specs.Bits.{bit, setBit, setOf};
 ghost use Rattle.chains.specs.Scans.{firstFailing};
 ghost use Rattle.chains.specs.Chains.{edge, edges, isHeld, isTied};
-ghost use Rattle.chains.specs.ChainLaws.{EndsLow, Ends, SameSet, heldOrIn};
+ghost use Rattle.chains.specs.ChainLaws.{EndsLow, EndsInRange, SameSet, heldOrIn};
 
 // A record's ends in one number, those of station 0 twice where it does not act.
 fn edge_of(r: Record, c: usize) -> usize
@@ -76,7 +76,7 @@ fn held_in(n: usize, stations: [Station; Unit::STATIONS], c: usize) -> u32
 
 // The stations that are tied in component c.
 fn tied_in(net: Network, places: &[i64], c: usize) -> u32
-    requires { ⌜ (placesLength ≤ length (now places)) × Ends net (placesIn (now places)) × (c < 3) ⌝ }
+    requires { ⌜ (placesLength ≤ length (now places)) × EndsInRange net (placesIn (now places)) × (c < 3) ⌝ }
     ensures { λ r. ⌜ SameSet net (placesIn (now (places .entry))) c r ⌝ }
 {
     let e = edges_in(places, c);
@@ -116,7 +116,7 @@ fn first_missing(stations: [Station; Unit::STATIONS], found: [u32; 3]) -> usize
 
 // The first component, by station and then E, N, U, that is neither held nor tied; 96 where there is none.
 pub fn first_untied(net: Network, places: &[i64]) -> usize
-    requires { ⌜ (placesLength ≤ length (now places)) × Ends net (placesIn (now places)) ⌝ }
+    requires { ⌜ (placesLength ≤ length (now places)) × EndsInRange net (placesIn (now places)) ⌝ }
     ensures { λ r. ⌜ r ≡ firstFailing 96 (isTied net (placesIn (now (places .entry)))) ⌝ }
 {
     let east = tied_in(net, places, 0);

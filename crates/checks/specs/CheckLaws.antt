@@ -12,13 +12,13 @@ use Rattle.words.specs.Bools.{and-both, and-right}
 use Rattle.lists.specs.All.{all-at}
 use Rattle.network.specs.Records.{recordAt}
 use Rattle.network.specs.Rules.{recordFits}
-use Rattle.normals.specs.Sound.{Sound}
+use Rattle.normals.specs.ByRules.{ByRules}
 use Rattle.normals.specs.Sizes.{never-9}
 use Rattle.normals.specs.Formulas.{matrixOf, rightOf}
 use Rattle.acceptance.specs.Tests.{at, byRows, lengthsFit}
-use Rattle.acceptance.specs.JudgeLaws.{Fit, lengths-of, corrections-small, inverse-small}
+use Rattle.acceptance.specs.JudgeLaws.{BookInRange, lengths-of, corrections-small, inverse-small}
 use Rattle.acceptance.specs.Judge.{judge}
-use Rattle.acceptance.specs.Exactly.{n, answer, fit-of, kept-answer}
+use Rattle.acceptance.specs.Exactly.{n, answer, book-in-range, kept-answer}
 use Rattle.acceptance.specs.InTurn.{computed, accepted-tests}
 use Rattle.acceptance.specs.declared.Answer.{Answer}
 use Rattle.acceptance.specs.declared.Answer.the-variants.{Accepted, Refused}
@@ -37,10 +37,10 @@ unfolding lengthsFit
 room-of-test n x m r e = and-right (eqb (length x) n && eqb (length m) (n * n)) r e
 
 -- the rules of stations and records, from what 25 tests
-pub rules : (b : Book) → sound b ≡ true → Sound (b .network) (b .places)
+pub rules : (b : Book) → sound b ≡ true → ByRules (b .network) (b .places)
 rules b e = let t = tested b e in record { network = t .network; each = λ p h. all-at 256 (λ k. recordFits (b .network) (recordAt (b .places) k)) p (t .records) h }
 
-module _ (b : Book) (g : Parts.Sound b) where
+module _ (b : Book) (g : Parts.SoundParts b) where
   -- N and u are those of the records
   pub matrix-is : b .normals .matrix ≡ matrixOf (b .network .stations) (b .places)
   matrix-is = ap (λ (n : Rattle.normals.specs.declared.Normals.Normals). n .matrix) (g .normals)
@@ -48,8 +48,8 @@ module _ (b : Book) (g : Parts.Sound b) where
   pub right-is : b .normals .right ≡ rightOf (b .network .stations) (b .places)
   right-is = ap (λ (n : Rattle.normals.specs.declared.Normals.Normals). n .right) (g .normals)
 
-  pub fit : Fit (b .network) (b .places) (b .normals .matrix) (b .normals .right)
-  fit = rw (matrix-is, right-is) (fit-of (b .network) (b .places) (rules b (parts-sound b g)))
+  pub sound-in-range : BookInRange (b .network) (b .places) (b .normals .matrix) (b .normals .right)
+  sound-in-range = rw (matrix-is, right-is) (book-in-range (b .network) (b .places) (rules b (parts-sound b g)))
 
   -- the answer of `accept` on the book's own N and u
   pub judge-is : (x m : List ℤ) (r : Bool)

@@ -2,7 +2,7 @@
 -- one unit of the exact least squares answer; with all that document 01 promises of it in "Accepting a solution" and "What a sheet says". For every sound book, every x, every M and every
 -- lent sheet. Assumes nothing.
 --   checked, sheetAfter                     specs/Checks.antt: what the contracts of `check` and `check_sheet` promise, the answer and the lent words afterwards
---   numberOf, unknownOf                     acceptance, specs/Judge.antt: the number of an answer, and the unknown of 11
+--   answerNumber, answerUnknown             acceptance, specs/Judge.antt: the number of an answer, and the unknown of 11
 --   lengthsFit to refinementSmall           acceptance, specs/Tests.antt: tests 1 and 3 to 7 on n, N, u, x, M
 --   EachTied, FirstWithoutChain             chains, specs/Chains.antt: test 2, and the first unknown without a chain
 --   Solves, RoundedAnswer, RoundedInverse   acceptance, specs/Follows.antt: Ny = db with d > 0; the exact answer, and S times the exact inverse, rounded to nearest
@@ -23,7 +23,7 @@ use Rattle.network.specs.Records.{recordAt, acts}
 use Rattle.normals.specs.Formulas.{entryN, entryU}
 use Rattle.chains.specs.Chains.{EachTied, FirstWithoutChain}
 use Rattle.acceptance.specs.Tests.{S, at, byRows, lengthsFit, correctionsSmall, inverseSmall, defectSmall, residualSmall, refinementSmall}
-use Rattle.acceptance.specs.Judge.{numberOf, unknownOf}
+use Rattle.acceptance.specs.Judge.{answerNumber, answerUnknown}
 use Rattle.acceptance.specs.Follows.{Solves, largest, RoundedAnswer, RoundedInverse}
 use Rattle.acceptance.specs.Exact.{Solution}
 use Rattle.acceptance.specs.declared.Answer.{Answer}
@@ -100,8 +100,8 @@ pub record Demand (b : Book) (x m : List ℤ) (fits : Bool) (number unknown : �
   -- "where M is S times the exact inverse, rounded, q is less than 3 from S times the exact residual variance": at each place, in each component in which its record acts
   pub variances : (g : RoundedInverse (n b) (N b) (M b m)) (p : ℕ) → p < 256 → (Q : ℕ → ℕ → ℤ) (d : ℕ) → InverseWeights (recordAt (b .places) p) Q d
       → (a : ℕ) → a < 3 → acts a (recordAt (b .places) p) ≡ true
-      → natAbs (pos d *ℤ pos (g .D) *ℤ residualVariance (b .network .stations) m (recordAt (b .places) p) a
-      -ℤ S *ℤ exactResidualVariance (b .network .stations) (recordAt (b .places) p) Q d (g .Z) (g .D) a) < 3 * (d * g .D)
+      → natAbs (pos d *ℤ pos (g .divisor) *ℤ residualVariance (b .network .stations) m (recordAt (b .places) p) a
+      -ℤ S *ℤ exactResidualVariance (b .network .stations) (recordAt (b .places) p) Q d (g .Z) (g .divisor) a) < 3 * (d * g .divisor)
 
 -- ════ the lent words `before`, and as the call leaves them
 pub record SheetDemand (b : Book) (x m before after : List ℤ) (number : ℕ) : Type 0 where
@@ -114,10 +114,10 @@ pub record SheetDemand (b : Book) (x m before after : List ℤ) (number : ℕ) :
 
 -- ════ the demand: of the answer, with and without a sheet (`fits` is true where none is lent), and of the lent sheet
 abbrev pub DemandOf : Book → List ℤ → List ℤ → Bool → Answer → Type 0
-DemandOf b x m fits a = Demand b x m fits (numberOf a) (unknownOf a)
+DemandOf b x m fits a = Demand b x m fits (answerNumber a) (answerUnknown a)
 
 abbrev pub Demand2 : Type 0
 Demand2 =
     (b : Book) → sound b ≡ true → (x m : List ℤ)
     → ((fits : Bool) → DemandOf b x m fits (checked b x m fits))
-    × ((sheet : List ℤ) → SheetDemand b x m sheet (sheetAfter b x m sheet) (numberOf (checked b x m (hasRoom b sheet))))
+    × ((sheet : List ℤ) → SheetDemand b x m sheet (sheetAfter b x m sheet) (answerNumber (checked b x m (hasRoom b sheet))))

@@ -11,18 +11,18 @@ use lib.IntN.{ℤ, pos, natAbs, _-ℤ_, _*ℤ_}
 use Rattle.integers.specs.Sums.{δ}
 use Rattle.words.specs.Bools.{clash}
 use Rattle.network.specs.Records.{recordAt, acts}
-use Rattle.normals.specs.Sound.{Sound}
+use Rattle.normals.specs.ByRules.{ByRules}
 use Rattle.normals.specs.Sizes.{N-row, N-all}
 use Rattle.normals.specs.Symmetry.{N-sym}
 use Rattle.chains.specs.Chains.{FirstWithoutChain}
-use Rattle.chains.specs.ChainLaws.{Ends, all-tied, tied-all, first-untied}
+use Rattle.chains.specs.ChainLaws.{EndsInRange, all-tied, tied-all, first-untied}
 use Rattle.acceptance.specs.Tests.{S, at, defectSmall, refinementSmall}
-use Rattle.acceptance.specs.Judge.{refusalNumber, refusalUnknown, numberOf}
+use Rattle.acceptance.specs.Judge.{refusalNumber, refusalUnknown, answerNumber}
 use Rattle.acceptance.specs.JudgeLaws.{refusal-least}
-use Rattle.acceptance.specs.Follows.{RoundedAnswer, RoundedInverse, Moderate, correction, column, rounded-defect, rounded-residual, rounded-refinement}
+use Rattle.acceptance.specs.Follows.{RoundedAnswer, RoundedInverse, Moderate, correction-bound, column-bound, rounded-defect, rounded-residual, rounded-refinement}
 use Rattle.acceptance.specs.Exact.{exists, unique}
-use Rattle.acceptance.specs.Exactly.{answer, fit-of}
-use Rattle.acceptance.specs.InTurn.{Outcome, passes, fails, computed, refusal, settled, number-is}
+use Rattle.acceptance.specs.Exactly.{answer, book-in-range}
+use Rattle.acceptance.specs.InTurn.{TestsAnswer, passes, fails, computed, refusal, answer-tested, number-is}
 use Rattle.acceptance.specs.declared.Answer.{Answer}
 use Rattle.acceptance.specs.declared.Answer.the-variants.{Accepted, Refused}
 use Rattle.acceptance.specs.declared.Refusal.{Refusal}
@@ -47,9 +47,9 @@ module _ (b : Book) (x m : List ℤ) (fits : Bool) where
   reason = refusal (b .network) (b .places) x m fits
 
   -- ════ the computed tests are document 01's
-  module _ (g : Sound (b .network) (b .places)) where
-    ends : Ends (b .network) (b .places)
-    ends = fit-of (b .network) (b .places) g .ends
+  module _ (g : ByRules (b .network) (b .places)) where
+    ends : EndsInRange (b .network) (b .places)
+    ends = book-in-range (b .network) (b .places) g .ends
 
     holds : (k : ℕ) → test k ≡ true → Test b x m fits k
     unfolding computed Test
@@ -78,10 +78,10 @@ module _ (b : Book) (x m : List ℤ) (fits : Bool) where
         let five : defectSmall (n b) (N b) (M b m) ≡ true = h 4 (omega arith) in
         let seven : refinementSmall (n b) (N b) (M b m) (u b) (at x) ≡ true = h 6 (omega arith) in
         record {
-          corrections = correction (n b) (N b) (M b m) (u b) (at x) five seven;
+          corrections = correction-bound (n b) (N b) (M b m) (u b) (at x) five seven;
           answer = exists (n b) (N b) (u b) (M b m) five;
           one = unique (n b) (N b) (M b m) (u b) five;
-          columns = column (n b) (N b) (M b m) (u b) (at x) five;
+          columns = column-bound (n b) (N b) (M b m) (u b) (at x) five;
           inverse = λ j l. exists (n b) (N b) (λ k. δ k j) (M b m) five;
           held = λ q e. (held-stays (b .network .stations) q e x, held-exact (b .network .stations) q e m);
           freedom = freedom-nonnegative (b .network .stations) (b .places) (M b m) five;
@@ -110,8 +110,8 @@ module _ (b : Book) (x m : List ℤ) (fits : Bool) where
 
     variances : (i : RoundedInverse (n b) (N b) (M b m)) (p : ℕ) → p < 256 → (Q : ℕ → ℕ → ℤ) (d : ℕ) → InverseWeights (recordAt (b .places) p) Q d
         → (a : ℕ) → a < 3 → acts a (recordAt (b .places) p) ≡ true
-        → natAbs (pos d *ℤ pos (i .D) *ℤ residualVariance (b .network .stations) m (recordAt (b .places) p) a
-        -ℤ S *ℤ exactResidualVariance (b .network .stations) (recordAt (b .places) p) Q d (i .Z) (i .D) a) < 3 * (d * i .D)
+        → natAbs (pos d *ℤ pos (i .divisor) *ℤ residualVariance (b .network .stations) m (recordAt (b .places) p) a
+        -ℤ S *ℤ exactResidualVariance (b .network .stations) (recordAt (b .places) p) Q d (i .Z) (i .divisor) a) < 3 * (d * i .divisor)
     variances i p h = variance-near (b .network) (g .network) (b .places) m i (recordAt (b .places) p) (g .each p h)
 
     -- ════ the answer
@@ -131,7 +131,7 @@ module _ (b : Book) (x m : List ℤ) (fits : Bool) where
     otherwise (suc (suc (suc (suc (suc zero))))) e = refl
     otherwise (suc (suc (suc (suc (suc (suc k)))))) e = refl
 
-    judged : (a : Answer) → Outcome test reason 7 a → DemandOf b x m fits a
+    judged : (a : Answer) → TestsAnswer test reason 7 a → DemandOf b x m fits a
     judged a (passes h) =
         record {
           accepted = ((λ e j l. holds j (h j l)), (λ f. refl));
@@ -165,9 +165,9 @@ module _ (b : Book) (x m : List ℤ) (fits : Bool) where
 -- ════ a sound book
 module _ (b : Book) (sure : sound b ≡ true) (x m : List ℤ) where
   judged-by : (fits : Bool) → DemandOf b x m fits (checked b x m fits)
-  judged-by fits = subst (DemandOf b x m fits) (sym (checked-is b sure x m fits)) (judged b x m fits (rules b sure) (answer (b .network) (b .places) x m fits) (settled (b .network) (b .places) x m fits))
+  judged-by fits = subst (DemandOf b x m fits) (sym (checked-is b sure x m fits)) (judged b x m fits (rules b sure) (answer (b .network) (b .places) x m fits) (answer-tested (b .network) (b .places) x m fits))
 
-  written : (sheet : List ℤ) (a : Answer) → checked b x m (hasRoom b sheet) ≡ a → SheetDemand b x m sheet (sheetAfter b x m sheet) (numberOf a)
+  written : (sheet : List ℤ) (a : Answer) → checked b x m (hasRoom b sheet) ≡ a → SheetDemand b x m sheet (sheetAfter b x m sheet) (answerNumber a)
   unfolding sheetAfter onAcceptance
   written sheet Accepted e = record { written = λ z. rw e; long = sheet-length (b .network) (b .places) x m; kept = λ z. absurd (z refl) }
   written sheet (Refused r) e = record { written = λ z. absurd (omega (arith, refusal-least r)); long = sheet-length (b .network) (b .places) x m; kept = λ z. rw e }

@@ -16,7 +16,7 @@ use Rattle.integers.specs.Order.{zarith, pos-abs, ≤ℤ-sub}
 use Rattle.integers.specs.Sums.{sum, sum-ext, sum-*l}
 use Rattle.integers.specs.Division.{floorDiv, floorDiv-≤, floorDiv->}
 use Rattle.network.specs.Stations.{unknown, number, unknownCount, networkFits}
-use Rattle.network.specs.StationLaws.{bit-cases, number-below}
+use Rattle.network.specs.StationLaws.{unknown-cases, number-below}
 use Rattle.network.specs.Records.{acts, fromOf, toOf, joins, joins-one}
 use Rattle.network.specs.Rules.{recordFits}
 use Rattle.network.specs.RuleLaws.{sound-record}
@@ -154,7 +154,7 @@ module _ (stations : List Station) (m : List ℤ) (Z : ℕ → ℕ → ℤ) (D :
   covariance-near q k hq hk =
       let i = number stations q in let j = number stations k in
       rw (together (pos (unknown stations q)) (pos (unknown stations k)) (pos D) (Z i j) (getD m (i * unknownCount stations + j) (pos 0)))
-      (scaled (unknown stations q) (unknown stations k) (S *ℤ Z i j -ℤ pos D *ℤ getD m (i * unknownCount stations + j) (pos 0)) D (bit-cases stations q) (bit-cases stations k)
+      (scaled (unknown stations q) (unknown stations k) (S *ℤ Z i j -ℤ pos D *ℤ getD m (i * unknownCount stations + j) (pos 0)) D (unknown-cases stations q) (unknown-cases stations k)
       (λ e f. nearest i j (number-below stations q 96 hq e) (number-below stations k 96 hk f)))
 
   difference-near : (r : Record) (a : ℕ) → fromOf r < 32 → toOf r < 32 → a < 3
@@ -173,7 +173,7 @@ module _ (stations : List Station) (m : List ℤ) (Z : ℕ → ℕ → ℤ) (D :
 pub variance-near : (net : Network) → networkFits net ≡ true → (places : List Place) (m : List ℤ)
     (g : RoundedInverse (unknownCount (net .stations)) (entryN (net .stations) places) (byRows (unknownCount (net .stations)) m))
     (r : Record) → recordFits net r ≡ true → (Q : ℕ → ℕ → ℤ) (p : ℕ) → InverseWeights r Q p → (a : ℕ) → a < 3 → acts a r ≡ true
-    → natAbs (pos p *ℤ pos (g .D) *ℤ residualVariance (net .stations) m r a -ℤ S *ℤ exactResidualVariance (net .stations) r Q p (g .Z) (g .D) a) < 3 * (p * g .D)
+    → natAbs (pos p *ℤ pos (g .divisor) *ℤ residualVariance (net .stations) m r a -ℤ S *ℤ exactResidualVariance (net .stations) r Q p (g .Z) (g .divisor) a) < 3 * (p * g .divisor)
 unfolding residualVariance exactResidualVariance
 variance-near net fits places m g r e Q p w a h k =
     let s = sound-record net r fits e in let hf = s .from in let ht = s .to in
@@ -182,6 +182,6 @@ variance-near net fits places m g r e Q p w a h k =
     let d = weightDeterminant r in let adj = weightAdjugate r a a in let f = floorDiv (S *ℤ adj) d in
     let off = gap (S *ℤ adj) f d (floorDiv-≤ (S *ℤ adj) d (own .positive)) (floorDiv-> (S *ℤ adj) d (own .positive)) in
     rw (observation-quotient r a h k, four-entries st (g .Z) r a k (omega arith) (omega arith))
-    (near (Q a a) f (differenceVariance st m r a) (exactDifference st (g .Z) r a) p (g .D) (g .positive)
+    (near (Q a a) f (differenceVariance st m r a) (exactDifference st (g .Z) r a) p (g .divisor) (g .positive)
     (same-gap adj (Q a a) f d p (proportional r own w a h k) (w .positive) off)
-    (difference-near st m (g .Z) (g .D) (g .nearest) r a hf ht h))
+    (difference-near st m (g .Z) (g .divisor) (g .nearest) r a hf ht h))

@@ -14,18 +14,18 @@ use Rattle.words.specs.Bools.{clash, same-test}
 use Rattle.network.specs.Stations.{unknown, unknownCount}
 use Rattle.network.specs.Records.{acts, fromOf, toOf, recordAt, observations, actsOf}
 use Rattle.network.specs.Rules.{recordFits}
-use Rattle.network.specs.RuleLaws.{network-few, in-list, ends, baseline-fits, height-fits}
+use Rattle.network.specs.RuleLaws.{network-few, in-list, ends-each, baseline-fits, height-fits}
 use Rattle.network.specs.declared.Network.{Network}
 use Rattle.network.specs.declared.Place.{Place}
 use Rattle.network.specs.declared.Record.{Record}
 use Rattle.network.specs.declared.Record.the-variants.{Empty, Baseline as baseline, Height as height}
 use Rattle.normals.specs.Formulas.{shareN, shareU, entryN, entryU, entriesFit}
-use Rattle.normals.specs.Sound.{Sound}
+use Rattle.normals.specs.ByRules.{ByRules}
 use Rattle.chains.specs.Bits.{bit}
 use Rattle.chains.specs.Chains.{Tied, held, along, back, tiedSet, isTied, allTied, firstUntied}
 use Rattle.chains.specs.ChainLaws.{tied-sound, tied-whole}
 use Rattle.acceptance.specs.Judge.{judge}
-use Rattle.acceptance.specs.Exactly.{answer, fit-of}
+use Rattle.acceptance.specs.Exactly.{answer, book-in-range}
 use Rattle.book.specs.declared.Book.{Book}
 use Rattle.book.specs.Book.{sound}
 use Rattle.residuals.specs.Residuals.{inAdjustment, shareT, T, shareD, D}
@@ -51,12 +51,12 @@ ends-listed : (net : Network) (few : net .count ≤ 32) (r : Record) (c : ℕ) �
 unfolding acts fromOf toOf observations actsOf
 ends-listed net few Empty c e a = clash a refl
 ends-listed net few (baseline b) c e a =
-    let i = ends (net .count) (b .from) (b .to) few (baseline-fits net b e .ends) in (in-list (net .count) (b .from) few (i .0), in-list (net .count) (b .to) few (i .1 .0))
+    let i = ends-each (net .count) (b .from) (b .to) few (baseline-fits net b e .ends) in (in-list (net .count) (b .from) few (i .0), in-list (net .count) (b .to) few (i .1 .0))
 ends-listed net few (height h) c e a =
-    let i = ends (net .count) (h .from) (h .to) few (height-fits net h e .ends) in (in-list (net .count) (h .from) few (i .0), in-list (net .count) (h .to) few (i .1 .0))
+    let i = ends-each (net .count) (h .from) (h .to) few (height-fits net h e .ends) in (in-list (net .count) (h .from) few (i .0), in-list (net .count) (h .to) few (i .1 .0))
 
 -- ════ a chain over one list is one over the other: where it goes along a check only, it has met a held station already
-module _ (net : Network) (places others : List Place) (g : Sound net places) (same : SameAdjustment net places others) (c : ℕ) (low : c < 3) where
+module _ (net : Network) (places others : List Place) (g : ByRules net places) (same : SameAdjustment net places others) (c : ℕ) (low : c < 3) where
   ends-tied : (p : ℕ) → p < 256 → acts c (recordAt places p) ≡ true → inAdjustment (net .stations) (recordAt places p) ≡ false
       → Tied net others c (fromOf (recordAt places p)) × Tied net others c (toOf (recordAt places p))
   ends-tied p h a out =
@@ -77,12 +77,12 @@ module _ (net : Network) (places others : List Place) (g : Sound net places) (sa
       go i (inl q) = back h (ap (acts c) (sym q) ∙ a) (ap fromOf (sym q) ∙ f) (ap toOf (sym q) ∙ e) i
       go i (inr o) = rw f at (ends-tied p h a (o .0) .0)
 
-module _ (net : Network) (places others : List Place) (g : Sound net places) (k : Sound net others) (same : SameAdjustment net places others) where
+module _ (net : Network) (places others : List Place) (g : ByRules net places) (k : ByRules net others) (same : SameAdjustment net places others) where
   same-set : (c s : ℕ) → c < 3 → bit (tiedSet net places c) s ≡ bit (tiedSet net others c) s
   same-set c s h =
       same-test _ _
-      (λ e. tied-whole net others c (fit-of net others k .ends) s (tied-too net places others g same c h (tied-sound net places c (fit-of net places g .ends) s e)))
-      (λ e. tied-whole net places c (fit-of net places g .ends) s (tied-too net others places k (λ p l. flipped net (same p l)) c h (tied-sound net others c (fit-of net others k .ends) s e)))
+      (λ e. tied-whole net others c (book-in-range net others k .ends) s (tied-too net places others g same c h (tied-sound net places c (book-in-range net places g .ends) s e)))
+      (λ e. tied-whole net places c (book-in-range net places g .ends) s (tied-too net others places k (λ p l. flipped net (same p l)) c h (tied-sound net others c (book-in-range net others k .ends) s e)))
 
   same-tied : isTied net places ≡ isTied net others
   unfolding isTied
@@ -162,8 +162,8 @@ same-solutions b c p q e same =
     net : Network
     net = b .network
 
-    g : Sound net (b .places)
+    g : ByRules net (b .places)
     g = rules b p
 
-    k : Sound net (c .places)
-    k = subst (λ (n : Network). Sound n (c .places)) (sym e) (rules c q)
+    k : ByRules net (c .places)
+    k = subst (λ (n : Network). ByRules n (c .places)) (sym e) (rules c q)

@@ -10,7 +10,7 @@ use Rattle.words.specs.Signed.{indexIn}
 use Rattle.words.specs.Concat.{concatBelow, concatBelow-between}
 use Rattle.network.specs.Stations.{unknownCount}
 use Rattle.network.specs.Rules.{inList, endsFit}
-use Rattle.network.specs.RuleLaws.{network-few, in-list, ends}
+use Rattle.network.specs.RuleLaws.{network-few, in-list, ends-each}
 use Rattle.network.specs.declared.Network.{Network}
 use Rattle.network.specs.declared.Station.{Station}
 use Rattle.network.specs.declared.Place.{Place}
@@ -19,7 +19,7 @@ use Rattle.acceptance.specs.Exactly.{answer}
 use Rattle.acceptance.specs.declared.Answer.the-variants.{Accepted}
 use Rattle.book.specs.declared.Book.{Book}
 use Rattle.book.specs.Book.{sound}
-use Rattle.sheet.specs.Sheet.{stationWords, stationLines, recordLines, globalWords, sheetWords, room}
+use Rattle.sheet.specs.Sheet.{stationLineWords, stationLinesWords, recordLinesWords, globalWords, sheetWords, room}
 use Rattle.sheet.specs.Lines.{station-lines}
 use Rattle.sheet.specs.SheetLaws.{sheet-length}
 use Rattle.checks.specs.Checks.{checked, hasRoom, sheetAfter}
@@ -34,13 +34,13 @@ abbrev pub coordinateWord : ℕ → ℕ → ℕ
 coordinateWord s c = 2 + s * 7 + (1 + c)
 
 module _ (stations : List Station) (x m : List ℤ) where
-  line-long : (s : ℕ) → length (stationWords stations x m s) ≡ 7
-  unfolding stationWords
+  line-long : (s : ℕ) → length (stationLineWords stations x m s) ≡ 7
+  unfolding stationLineWords
   line-long s = refl
 
   -- the coordinates in a station's line
-  coordinate-at : (s c : ℕ) → c < 3 → getD (stationWords stations x m s) (1 + c) (pos 0) ≡ adjusted stations x (s * 3 + c)
-  unfolding stationWords
+  coordinate-at : (s c : ℕ) → c < 3 → getD (stationLineWords stations x m s) (1 + c) (pos 0) ≡ adjusted stations x (s * 3 + c)
+  unfolding stationLineWords
   coordinate-at s zero h = ap (adjusted stations x) (let e : s * 3 ≡ s * 3 + 0 = omega arith in e)
   coordinate-at s (suc zero) h = refl
   coordinate-at s (suc (suc zero)) h = refl
@@ -52,22 +52,22 @@ module _ (net : Network) (places : List Place) (x m : List ℤ) where
   unfolding sheetWords
   sheet-coordinate s c h l =
       ap (λ (w : List ℤ). getD w (coordinateWord s c) (pos 0)) parted
-      ∙ concatBelow-between H (R ++ G) 7 (net .count) s (1 + c) 2 (stationWords (net .stations) x m) (pos 0) (line-long (net .stations) x m) refl h (omega arith)
+      ∙ concatBelow-between H (R ++ G) 7 (net .count) s (1 + c) 2 (stationLineWords (net .stations) x m) (pos 0) (line-long (net .stations) x m) refl h (omega arith)
       ∙ coordinate-at (net .stations) x m s c l
     where
       H : List ℤ
       H = pos (recordCount places) ∷ pos (unknownCount (net .stations)) ∷ []
 
       R : List ℤ
-      R = recordLines (net .stations) x m places 256
+      R = recordLinesWords (net .stations) x m places 256
 
       G : List ℤ
       G = globalWords (net .stations) places x
 
       L : List ℤ
-      L = stationLines (net .stations) x m (net .count)
+      L = stationLinesWords (net .stations) x m (net .count)
 
-      parted : H ++ L ++ R ++ G ≡ H ++ (concatBelow (net .count) (stationWords (net .stations) x m) ++ (R ++ G))
+      parted : H ++ L ++ R ++ G ≡ H ++ (concatBelow (net .count) (stationLineWords (net .stations) x m) ++ (R ++ G))
       parted =
           append-assoc (H ++ L) R G ∙ append-assoc H L (R ++ G)
           ∙ ap (λ (w : List ℤ). H ++ (w ++ (R ++ G))) (station-lines (net .stations) x m (net .count))
@@ -92,7 +92,7 @@ module _ (net : Network) (places : List Place) (x m : List ℤ) (few : net .coun
   pub agrees-sheet : (d : CheckDistance) → endsFit (net .count) (d .from) (d .to) ≡ true
       → agreesAt (net .stations) x d ≡ agrees d (markIn (sheetWords net places x m) (d .from)) (markIn (sheetWords net places x m) (d .to))
   agrees-sheet d e =
-      let t = ends (net .count) (d .from) (d .to) few e in
+      let t = ends-each (net .count) (d .from) (d .to) few e in
       agrees-as d _ _ _ _ (sheet-mark (d .from) (t .0)) (sheet-mark (d .to) (t .1 .0))
 
 -- ════ the call and the sheet: where `check_sheet` accepts the pair, the answer to a distance in range is that of the words which it left for the two stations
@@ -123,7 +123,7 @@ module _ (b : Book) (sure : sound b ≡ true) (x m sheet : List ℤ) (accepted :
       → agreement b x m d ≡ cond (agrees d (markIn (sheetAfter b x m sheet) (d .from)) (markIn (sheetAfter b x m sheet) (d .to))) Agrees Disagrees
   unfolding agreement
   agreement-sheet d e f =
-      let t = ends (b .network .count) (d .from) (d .to) few e in
+      let t = ends-each (b .network .count) (d .from) (d .to) few e in
       pair-answer (b .network) d e _ _ pair-accepted f
       ∙ ap (λ (g : Bool). cond g Agrees Disagrees)
       (agrees-sheet (b .network) (b .places) x m few d e ∙ agrees-as d _ _ _ _ (front-mark (d .from) (t .0)) (front-mark (d .to) (t .1 .0)))

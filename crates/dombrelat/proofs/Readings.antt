@@ -25,7 +25,7 @@ use Rattle.layout.specs.Layout.{stationsStart, stationPart}
 use Rattle.layout.specs.BookWords.{length-station, stations-part}
 use Rattle.layout.specs.Bytes.{wordsOf, bookOf, bytesFit}
 use Rattle.layout.specs.CodecLaws.{read-sized, fits-words, fits-sound}
-use Rattle.dombrelat.specs.Calls.{Returned, refused}
+use Rattle.dombrelat.specs.Calls.{Returned, refusedWith}
 use Rattle.dombrelat.specs.Reading.{numbered, gives, listWords, unknownsCall, sheetBytesCall, stationsCall, recordCall}
 
 -- ════ calls that give a number alone
@@ -48,7 +48,7 @@ module _ (s : List ℕ) where
 
 -- ════ words at the front of a slice
 module _ (number : ℕ) (w : List ℤ) (out : List ℕ) where
-  pub gives-none : length out / 8 < length w → refused 10 out ≡ gives number w out
+  pub gives-none : length out / 8 < length w → refusedWith 10 out ≡ gives number w out
   unfolding gives
   gives-none h = rw (lt-leb (8 * length w) (length out) (omega arith))
 
@@ -72,7 +72,7 @@ list-front net few =
     ∙ concatBelow-ext n (stationPart net) (λ k. stationWords (stationAt (net .stations) k)) (λ k h. rw (lt-ltb k n h))
 
 module _ (s list : List ℕ) where
-  pub stations-unfit : bytesFit s ≡ false → refused 25 list ≡ stationsCall s list
+  pub stations-unfit : bytesFit s ≡ false → refusedWith 25 list ≡ stationsCall s list
   unfolding stationsCall
   stations-unfit e = rw e
 
@@ -89,11 +89,11 @@ module _ (s list : List ℕ) where
 
 -- ════ a record
 module _ (s : List ℕ) (place : ℤ) (out : List ℕ) where
-  pub record-unfit : bytesFit s ≡ false → refused 25 out ≡ recordCall s place out
+  pub record-unfit : bytesFit s ≡ false → refusedWith 25 out ≡ recordCall s place out
   unfolding recordCall
   record-unfit e = rw e
 
-  pub record-beyond : (i : ℕ) → bytesFit s ≡ true → i ≡ indexIn place 256 → 256 ≤ i → refused 2 out ≡ recordCall s place out
+  pub record-beyond : (i : ℕ) → bytesFit s ≡ true → i ≡ indexIn place 256 → 256 ≤ i → refusedWith 2 out ≡ recordCall s place out
   unfolding recordCall
   record-beyond i e p q = rw (e, ← index-test place 256, ← p, le-ltb i 256 q)
 

@@ -20,22 +20,22 @@ pub record Returned : Type 0 where
   pub bytes : List ℕ
 
 -- "A refusal returns its number", and writes nothing
-abbrev pub refused : ℕ → List ℕ → Returned
-refused n s = record { answer = pos n; bytes = s }
+abbrev pub refusedWith : ℕ → List ℕ → Returned
+refusedWith n s = record { answer = pos n; bytes = s }
 
 -- an answer with the book that is left: it is written where the call is not refused
-abbrev pub settled : List ℕ → Edited → Returned
-settled s e = record { answer = pos (e .refusal); bytes = bytesLeft s e }
+abbrev pub answeredWith : List ℕ → Edited → Returned
+answeredWith s e = record { answer = pos (e .refusal); bytes = bytesLeft s e }
 
 -- a call on the book that the bytes hold; 25 before all others
 unfoldable pub through : List ℕ → (Book → Edited) → Returned
-through s f = cond (bytesFit s) (settled s (f (bookOf s))) (refused 25 s)
+through s f = cond (bytesFit s) (answeredWith s (f (bookOf s))) (refusedWith 25 s)
 
 -- an edit or an undo
-abbrev pub edit : List ℕ → Call → Returned
-edit s c = through s (λ b. outcome b c)
+abbrev pub editCall : List ℕ → Call → Returned
+editCall s c = through s (λ b. outcome b c)
 
 -- an opening, on the bytes of a station list: 25 where the book bytes are too short; a list that is not of whole stations, 32 bytes each, is refused with 1
-unfoldable pub opens : List ℕ → List ℕ → Returned
-opens list s =
-    cond (leb bookBytes (length s)) (cond (eqb (length list % 32) 0) (settled s (opening (wordsAt list 0 (length list / 8)))) (refused 1 s)) (refused 25 s)
+unfoldable pub openCall : List ℕ → List ℕ → Returned
+openCall list s =
+    cond (leb bookBytes (length s)) (cond (eqb (length list % 32) 0) (answeredWith s (opening (wordsAt list 0 (length list / 8)))) (refusedWith 1 s)) (refusedWith 25 s)

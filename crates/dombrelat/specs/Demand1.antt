@@ -1,6 +1,6 @@
 -- Demand 1 over the C calls, the statement alone (specs/Demand1Holds.antt proves it): every call answers on every input; a refusal gives its number and changes nothing. Document 01: "It
 -- changes neither book, history nor sheet. A refused opening makes no book and writes nothing on lent bytes." The crate engine states it over the calls in the language. Assumes nothing.
---   opens, edit            specs/Calls.antt       what the contracts of the C calls promise: the answer, and the lent bytes afterwards
+--   openCall, editCall     specs/Calls.antt       what the contracts of the C calls promise: the answer, and the lent bytes afterwards
 --   checkCall, sheetCall, distanceCall   specs/CheckCalls.antt
 --   Proposes               specs/Proposal.antt
 --   unknownsCall, sheetBytesCall, stationsCall, recordCall   specs/Reading.antt; numbered: 256 · the number that a call gives
@@ -15,7 +15,7 @@ use Rattle.network.specs.Stations.{unknownCount}
 use Rattle.sheet.specs.Sheet.{room}
 use Rattle.distances.specs.declared.CheckDistance.{CheckDistance}
 use Rattle.layout.specs.Bytes.{bookOf, bytesFit}
-use Rattle.dombrelat.specs.Calls.{edit, opens}
+use Rattle.dombrelat.specs.Calls.{editCall, openCall}
 use Rattle.dombrelat.specs.CheckCalls.{checkCall, sheetCall, distanceCall}
 use Rattle.dombrelat.specs.Proposal.{Proposes}
 use Rattle.dombrelat.specs.Reading.{numbered, unknownsCall, sheetBytesCall, stationsCall, recordCall}
@@ -34,12 +34,12 @@ pub data Asked : Type 0 where
   toReadRecord : (book : List ℕ) → (place : ℤ) → (out : List ℕ) → Asked
 
 -- the book bytes that it is lent to write on, if it is, and every other slice that it may write on. Slices that are lent to read cannot change
-pub record Lent : Type 0 where
+pub record Left : Type 0 where
   pub books : List (List ℕ)
   pub others : List (List ℕ)
 
 -- as they came
-unfoldable pub given : Asked → Lent
+unfoldable pub given : Asked → Left
 given (toOpen list book) = record { books = book ∷ []; others = [] }
 given (toEdit book c) = record { books = book ∷ []; others = [] }
 given (toCheck book x m) = record { books = []; others = [] }
@@ -52,9 +52,9 @@ given (toReadStations book list) = record { books = []; others = list ∷ [] }
 given (toReadRecord book place out) = record { books = []; others = out ∷ [] }
 
 -- the answer r, and the slices afterwards: as the contracts have it
-unfoldable pub Returns : Asked → ℤ → Lent → Type 0
-Returns (toOpen list book) r left = (r ≡ opens list book .answer) × (left ≡ record { books = opens list book .bytes ∷ []; others = [] })
-Returns (toEdit book c) r left = (r ≡ edit book c .answer) × (left ≡ record { books = edit book c .bytes ∷ []; others = [] })
+unfoldable pub Returns : Asked → ℤ → Left → Type 0
+Returns (toOpen list book) r left = (r ≡ openCall list book .answer) × (left ≡ record { books = openCall list book .bytes ∷ []; others = [] })
+Returns (toEdit book c) r left = (r ≡ editCall book c .answer) × (left ≡ record { books = editCall book c .bytes ∷ []; others = [] })
 Returns (toCheck book x m) r left = (r ≡ checkCall book x m) × (left ≡ record { books = []; others = [] })
 Returns (toCheckSheet book x m sheet) r left =
     (r ≡ sheetCall book x m sheet .answer) × (left ≡ record { books = []; others = sheetCall book x m sheet .sheet ∷ [] })
@@ -89,13 +89,13 @@ numberGiven (toReadRecord book place out) = 0
 -- ════ the demand
 pub record Demand (asked : Asked) : Type 0 where
   -- every call answers on every input
-  pub answers : (r : ℤ) × (left : Lent) × Returns asked r left
+  pub answers : (r : ℤ) × (left : Left) × Returns asked r left
   -- an answer without a refusal is just the number that the call gives
-  pub told : (r : ℤ) (left : Lent) → Returns asked r left → refusalIn r ≡ pos 0 → r ≡ numbered (numberGiven asked)
+  pub told : (r : ℤ) (left : Left) → Returns asked r left → refusalIn r ≡ pos 0 → r ≡ numbered (numberGiven asked)
   -- whatever answer has a refusal leaves the book's bytes, its history among them, and every other slice as they came
-  pub refused : (r : ℤ) (left : Lent) → Returns asked r left → (refusalIn r ≡ pos 0 → ⊥) → left ≡ given asked
+  pub refused : (r : ℤ) (left : Left) → Returns asked r left → (refusalIn r ≡ pos 0 → ⊥) → left ≡ given asked
   -- an accepted opening or edit leaves bytes that the next call takes
-  pub accepted : (left : Lent) (book : List ℕ) → Returns asked (pos 0) left → left .books ≡ book ∷ [] → bytesFit book ≡ true
+  pub accepted : (left : Left) (book : List ℕ) → Returns asked (pos 0) left → left .books ≡ book ∷ [] → bytesFit book ≡ true
 
 abbrev pub Demand1 : Type 0
 Demand1 = (asked : Asked) → Demand asked

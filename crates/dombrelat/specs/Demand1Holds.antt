@@ -36,12 +36,12 @@ use Rattle.lent_checks.specs.Offers.{Offers, OffersLent, lentLengths}
 use Rattle.network.specs.RecordWords.{recordWords}
 use Rattle.layout.specs.Bytes.{bookOf, bytesFit}
 use Rattle.layout.specs.Layout.{bookBytes}
-use Rattle.dombrelat.specs.Calls.{Returned, refused, settled, through, edit, opens}
+use Rattle.dombrelat.specs.Calls.{Returned, refusedWith, answeredWith, through, editCall, openCall}
 use Rattle.dombrelat.specs.CheckCalls.{Judged, judgedLent, checkCall, sheetCall, distanceCall}
 use Rattle.dombrelat.specs.Proposal.{Proposes}
 use Rattle.dombrelat.specs.Reading.{numbered, gives, listWords, unknownsCall, sheetBytesCall, stationsCall, recordCall}
 use Rattle.dombrelat.specs.Demand3Holds.{opened-fits-next, edited-next}
-use Rattle.dombrelat.specs.Demand1.{Asked, toOpen, toEdit, toCheck, toCheckSheet, toCheckDistance, toPropose, toReadUnknowns, toReadSheetBytes, toReadStations, toReadRecord, Lent, given, Returns, refusalIn, numberGiven, Demand1}
+use Rattle.dombrelat.specs.Demand1.{Asked, toOpen, toEdit, toCheck, toCheckSheet, toCheckDistance, toPropose, toReadUnknowns, toReadSheetBytes, toReadStations, toReadRecord, Left, given, Returns, refusalIn, numberGiven, Demand1}
 
 -- ════ answers taken apart
 Told : ℕ → ℤ → Type 0
@@ -85,13 +85,13 @@ either : (k : ℕ) (s : List ℕ) (t : Bool) (p q : Returned) → Right k s p �
 either k s true p q a b = a
 either k s false p q a b = b
 
-refused-right : (k : ℕ) (s : List ℕ) (n : ℕ) → 0 < n → n < 256 → Right k s (refused n s)
+refused-right : (k : ℕ) (s : List ℕ) (n : ℕ) → 0 < n → n < 256 → Right k s (refusedWith n s)
 refused-right k s n h l = record { told = told-refusal k n h l; stays = λ z. refl }
 
-unfit-right : (k : ℕ) (s : List ℕ) → Right k s (refused 25 s)
+unfit-right : (k : ℕ) (s : List ℕ) → Right k s (refusedWith 25 s)
 unfit-right k s = refused-right k s 25 (omega arith) (omega arith)
 
-settled-right : (s : List ℕ) (e : Edited) → e .refusal < 256 → Right 0 s (settled s e)
+settled-right : (s : List ℕ) (e : Edited) → e .refusal < 256 → Right 0 s (answeredWith s e)
 unfolding unless
 settled-right s e l = record { told = told-small (e .refusal) l; stays = go (e .refusal) _ }
   where
@@ -108,20 +108,20 @@ opening-small w = go (stations.opens w) (openedBook (stations.networkOf w)) (ope
     go true a b = let h : 0 ≤ 9 = omega arith in h
     go false a b = let h : 1 ≤ 9 = omega arith in h
 
-opens-right : (list s : List ℕ) → Right 0 s (opens list s)
-unfolding opens
+opens-right : (list s : List ℕ) → Right 0 s (openCall list s)
+unfolding openCall
 opens-right list s =
     let e = opening (wordsAt list 0 (length list / 8)) in
-    either 0 s (leb bookBytes (length s)) (cond (eqb (length list % 32) 0) (settled s e) (refused 1 s)) (refused 25 s)
-    (either 0 s (eqb (length list % 32) 0) (settled s e) (refused 1 s) (settled-right s e (let h = opening-small (wordsAt list 0 (length list / 8)) in omega arith)) (refused-right 0 s 1 (omega arith) (omega arith)))
+    either 0 s (leb bookBytes (length s)) (cond (eqb (length list % 32) 0) (answeredWith s e) (refusedWith 1 s)) (refusedWith 25 s)
+    (either 0 s (eqb (length list % 32) 0) (answeredWith s e) (refusedWith 1 s) (settled-right s e (let h = opening-small (wordsAt list 0 (length list / 8)) in omega arith)) (refused-right 0 s 1 (omega arith) (omega arith)))
     (unfit-right 0 s)
 
-edit-right : (s : List ℕ) (c : Call) → Right 0 s (edit s c)
+edit-right : (s : List ℕ) (c : Call) → Right 0 s (editCall s c)
 unfolding through
 edit-right s c =
     let b = bookOf s in
-    either 0 s (bytesFit s) (settled s (outcome b c)) (refused 25 s)
-    (settled-right s (outcome b c) (let h = call-small (b .network) (recordAt (b .places)) (b .journal .held) c in omega arith))
+    either 0 s (bytesFit s) (answeredWith s (outcome b c)) (refusedWith 25 s)
+    (settled-right s (outcome b c) (let h = call-small (b .network) (recordAt (b .places)) (b .journal .count) c in omega arith))
     (unfit-right 0 s)
 
 -- ════ checks
@@ -218,27 +218,27 @@ sheet-bytes-told s =
 gives-right : (k : ℕ) (w : List ℤ) (out : List ℕ) → Right k out (gives k w out)
 unfolding gives
 gives-right k w out =
-    either k out (leb (8 * length w) (length out)) (record { answer = numbered k; bytes = putWords out 0 w }) (refused 10 out)
+    either k out (leb (8 * length w) (length out)) (record { answer = numbered k; bytes = putWords out 0 w }) (refusedWith 10 out)
     (record { told = told-number k; stays = λ h. absurd (h (given-none k)) }) (refused-right k out 10 (omega arith) (omega arith))
 
 stations-right : (s list : List ℕ) → Right (bookOf s .network .count) list (stationsCall s list)
 unfolding stationsCall
 stations-right s list =
     let k = bookOf s .network .count in
-    either k list (bytesFit s) (gives k (listWords (bookOf s .network)) list) (refused 25 list) (gives-right k _ list) (unfit-right k list)
+    either k list (bytesFit s) (gives k (listWords (bookOf s .network)) list) (refusedWith 25 list) (gives-right k _ list) (unfit-right k list)
 
 record-right : (s : List ℕ) (place : ℤ) (out : List ℕ) → Right 0 out (recordCall s place out)
 unfolding recordCall
 record-right s place out =
     let g = gives 0 (recordWords (recordAt (bookOf s .places) (placeOf place))) out in
-    either 0 out (bytesFit s) (cond (inList 256 place) g (refused 2 out)) (refused 25 out)
-    (either 0 out (inList 256 place) g (refused 2 out) (gives-right 0 _ out) (refused-right 0 out 2 (omega arith) (omega arith))) (unfit-right 0 out)
+    either 0 out (bytesFit s) (cond (inList 256 place) g (refusedWith 2 out)) (refusedWith 25 out)
+    (either 0 out (inList 256 place) g (refusedWith 2 out) (gives-right 0 _ out) (refused-right 0 out 2 (omega arith) (omega arith))) (unfit-right 0 out)
 
 -- ════ all calls
 told-as : (k : ℕ) (r n : ℤ) → r ≡ n → Told k n → Told k r
 told-as k r n e t = subst (Told k) (sym e) t
 
-told-all : (asked : Asked) (r : ℤ) (left : Lent) → Returns asked r left → Told (numberGiven asked) r
+told-all : (asked : Asked) (r : ℤ) (left : Left) → Returns asked r left → Told (numberGiven asked) r
 unfolding Returns numberGiven
 told-all (toOpen list book) r left (e, q) = told-as 0 r _ e (opens-right list book .told)
 told-all (toEdit book c) r left (e, q) = told-as 0 r _ e (edit-right book c .told)
@@ -255,7 +255,7 @@ told-all (toReadRecord book place out) r left (e, q) = told-as 0 r _ e (record-r
 refused-as : (r n : ℤ) → r ≡ n → (refusalIn r ≡ pos 0 → ⊥) → refusalIn n ≡ pos 0 → ⊥
 refused-as r n e h z = h (ap refusalIn e ∙ z)
 
-refused-all : (asked : Asked) (r : ℤ) (left : Lent) → Returns asked r left → (refusalIn r ≡ pos 0 → ⊥) → left ≡ given asked
+refused-all : (asked : Asked) (r : ℤ) (left : Left) → Returns asked r left → (refusalIn r ≡ pos 0 → ⊥) → left ≡ given asked
 unfolding Returns given
 refused-all (toOpen list book) r left (e, q) h = q ∙ ap (λ (s : List ℕ). record { books = s ∷ []; others = [] }) (opens-right list book .stays (refused-as r _ e h))
 refused-all (toEdit book c) r left (e, q) h = q ∙ ap (λ (s : List ℕ). record { books = s ∷ []; others = [] }) (edit-right book c .stays (refused-as r _ e h))
@@ -270,7 +270,7 @@ refused-all (toReadSheetBytes book) r left (e, q) h = q
 refused-all (toReadStations book list) r left (e, q) h = q ∙ ap (λ (s : List ℕ). record { books = []; others = s ∷ [] }) (stations-right book list .stays (refused-as r _ e h))
 refused-all (toReadRecord book place out) r left (e, q) h = q ∙ ap (λ (s : List ℕ). record { books = []; others = s ∷ [] }) (record-right book place out .stays (refused-as r _ e h))
 
-answers : (asked : Asked) → (r : ℤ) × (left : Lent) × Returns asked r left
+answers : (asked : Asked) → (r : ℤ) × (left : Left) × Returns asked r left
 unfolding Returns
 answers (toOpen list book) = (_, _, (refl, refl))
 answers (toEdit book c) = (_, _, (refl, refl))
@@ -289,20 +289,20 @@ only x y l p q = cc
 none : (s : List ℕ) (l : List (List ℕ)) {X : Type 0} → l ≡ [] → l ≡ s ∷ [] → X
 none s l p q = absurd (let z : _≡_ {A = ℕ} 0 1 = ap length (sym p ∙ q) in omega arith)
 
-accepted : (asked : Asked) (left : Lent) (book : List ℕ) → Returns asked (pos 0) left → left .books ≡ book ∷ [] → bytesFit book ≡ true
+accepted : (asked : Asked) (left : Left) (book : List ℕ) → Returns asked (pos 0) left → left .books ≡ book ∷ [] → bytesFit book ≡ true
 unfolding Returns
 accepted (toOpen list s) left book (e, q) h =
-    subst (λ (k : List ℕ). bytesFit k ≡ true) (only (opens list s .bytes) book (left .books) (ap (λ (y : Lent). y .books) q) h) (opened-fits-next list s (sym e))
+    subst (λ (k : List ℕ). bytesFit k ≡ true) (only (openCall list s .bytes) book (left .books) (ap (λ (y : Left). y .books) q) h) (opened-fits-next list s (sym e))
 accepted (toEdit s c) left book (e, q) h =
-    subst (λ (k : List ℕ). bytesFit k ≡ true) (only (edit s c .bytes) book (left .books) (ap (λ (y : Lent). y .books) q) h) (edited-next s c (sym e) .fits)
-accepted (toCheck s x m) left book (e, q) h = none book (left .books) (ap (λ (y : Lent). y .books) q) h
-accepted (toCheckSheet s x m sheet) left book (e, q) h = none book (left .books) (ap (λ (y : Lent). y .books) q) h
-accepted (toCheckDistance s x m d) left book (e, q) h = none book (left .books) (ap (λ (y : Lent). y .books) q) h
-accepted (toPropose s x m) left book (x′, m′, p, q) h = none book (left .books) (ap (λ (y : Lent). y .books) q) h
-accepted (toReadUnknowns s) left book (e, q) h = none book (left .books) (ap (λ (y : Lent). y .books) q) h
-accepted (toReadSheetBytes s) left book (e, q) h = none book (left .books) (ap (λ (y : Lent). y .books) q) h
-accepted (toReadStations s list) left book (e, q) h = none book (left .books) (ap (λ (y : Lent). y .books) q) h
-accepted (toReadRecord s place out) left book (e, q) h = none book (left .books) (ap (λ (y : Lent). y .books) q) h
+    subst (λ (k : List ℕ). bytesFit k ≡ true) (only (editCall s c .bytes) book (left .books) (ap (λ (y : Left). y .books) q) h) (edited-next s c (sym e) .fits)
+accepted (toCheck s x m) left book (e, q) h = none book (left .books) (ap (λ (y : Left). y .books) q) h
+accepted (toCheckSheet s x m sheet) left book (e, q) h = none book (left .books) (ap (λ (y : Left). y .books) q) h
+accepted (toCheckDistance s x m d) left book (e, q) h = none book (left .books) (ap (λ (y : Left). y .books) q) h
+accepted (toPropose s x m) left book (x′, m′, p, q) h = none book (left .books) (ap (λ (y : Left). y .books) q) h
+accepted (toReadUnknowns s) left book (e, q) h = none book (left .books) (ap (λ (y : Left). y .books) q) h
+accepted (toReadSheetBytes s) left book (e, q) h = none book (left .books) (ap (λ (y : Left). y .books) q) h
+accepted (toReadStations s list) left book (e, q) h = none book (left .books) (ap (λ (y : Left). y .books) q) h
+accepted (toReadRecord s place out) left book (e, q) h = none book (left .books) (ap (λ (y : Left). y .books) q) h
 
 pub demand-1 : Demand1
 unfolding Told

@@ -9,7 +9,7 @@ use lib.ListN.{getD}
 use lib.IntN.{ℤ, pos, natAbs}
 use Rattle.words.specs.Runs.{putWords}
 use Rattle.words.specs.RunLaws.{run-out}
-use Rattle.acceptance.specs.Judge.{refusalUnknown, numberOf, unknownOf}
+use Rattle.acceptance.specs.Judge.{refusalUnknown, answerNumber, answerUnknown}
 use Rattle.acceptance.specs.JudgeLaws.{refusal-least, number-most}
 use Rattle.acceptance.specs.declared.Answer.{Answer}
 use Rattle.acceptance.specs.declared.Answer.the-variants.{Accepted, Refused}
@@ -31,8 +31,8 @@ module _ (s x m : List ℕ) where
     answers fits r q =
         let a = checkedLent (bookOf s) x m fits in
         record {
-          number = numberOf a;
-          unknown = unknownOf a;
+          number = answerNumber a;
+          unknown = answerUnknown a;
           below = omega (arith, number-most a);
           word = q;
           judged = demand-2-of-words (bookOf s) (fits-tested s e) (allWords x) (allWords m) .0 (isWhole x && isWhole m && fits);
@@ -57,7 +57,7 @@ module _ (s x m : List ℕ) where
       written-by : (a : Answer) → answerWord a ≡ pos 0 → onAccepted a (putWords sheet 0 words) sheet ≡ putWords sheet 0 words
       unfolding answerWord onAccepted
       written-by Accepted z = refl
-      written-by (Refused r) z = absurd (let q : numberOf (Refused r) + 256 * refusalUnknown r ≡ 0 = ap natAbs z in omega (arith, refusal-least r))
+      written-by (Refused r) z = absurd (let q : answerNumber (Refused r) + 256 * refusalUnknown r ≡ 0 = ap natAbs z in omega (arith, refusal-least r))
 
       beyond-by : (a : Answer) (j : ℕ) → 8 * room (bookOf s .network) (bookOf s .places) ≤ j → getD (onAccepted a (putWords sheet 0 words) sheet) j 0 ≡ getD sheet j 0
       unfolding onAccepted words

@@ -1,6 +1,6 @@
 -- Demand 3 once more, over bytes, the statement alone (specs/Demand3Holds.antt proves it): any run of C edit calls, each given the bytes that
 -- the call before it left, from an accepted opening on, answers as the ledger, and leaves bytes that hold the ledger's records, N and u. Assumes nothing.
---   edit, opens        specs/Calls.antt          what the C calls' contracts promise
+--   editCall, openCall  specs/Calls.antt          what the C calls' contracts promise
 --   bookOf, bytesFit   specs/Bytes.antt          the book that bytes hold, and what 25 tests
 --   Demand             book, specs/Demand3.antt  answers and a book measured by the ledger
 --   final, answers     book, specs/Run.antt      the state after a run, and the answers along it
@@ -18,20 +18,20 @@ use Rattle.book.specs.Run.{final, answers}
 use Rattle.book.specs.Demand3 as ledger
 use Rattle.layout.specs.Bytes.{bookOf, bytesFit}
 use Rattle.layout.specs.Layout.{bookBytes}
-use Rattle.dombrelat.specs.Calls.{edit, opens}
+use Rattle.dombrelat.specs.Calls.{editCall, openCall}
 
 abbrev pub bytesNext : List ℕ → Call → List ℕ
-bytesNext s c = edit s c .bytes
+bytesNext s c = editCall s c .bytes
 
 abbrev pub bytesSays : List ℕ → Call → ℤ
-bytesSays s c = edit s c .answer
+bytesSays s c = editCall s c .answer
 
 -- the bytes after a run, and its answers
 abbrev pub bytesAfter : List ℕ → List ℕ → List Call → List ℕ
-bytesAfter list s calls = final bytesNext (opens list s .bytes) calls
+bytesAfter list s calls = final bytesNext (openCall list s .bytes) calls
 
 abbrev pub bytesAnswers : List ℕ → List ℕ → List Call → List ℤ
-bytesAnswers list s calls = answers bytesNext bytesSays (opens list s .bytes) calls
+bytesAnswers list s calls = answers bytesNext bytesSays (openCall list s .bytes) calls
 
 -- of the bytes of a station list, the bytes lent for a book, and the calls
 pub record Demand (list s : List ℕ) (calls : List Call) : Type 0 where
@@ -45,4 +45,4 @@ pub record Demand (list s : List ℕ) (calls : List Call) : Type 0 where
   pub beyond : (j : ℕ) → bookBytes ≤ j → getD (bytesAfter list s calls) j 0 ≡ getD s j 0
 
 abbrev pub Demand3 : Type 0
-Demand3 = (list s : List ℕ) → opens list s .answer ≡ pos 0 → (calls : List Call) → Demand list s calls
+Demand3 = (list s : List ℕ) → openCall list s .answer ≡ pos 0 → (calls : List Call) → Demand list s calls

@@ -27,8 +27,8 @@ use Rattle.book.specs.Run.{final, answers, Alike, run-answers, run-final}
 use Rattle.book.specs.Demand3Holds.{demanded}
 use Rattle.layout.specs.Bytes.{bookOf, putBook, bytesFit}
 use Rattle.layout.specs.Layout.{bookBytes}
-use Rattle.lent_edits.specs.LeavesBook.{Holds, next-network, call-leaves, opened-holds}
-use Rattle.dombrelat.specs.Calls.{Returned, refused, settled, through, opens}
+use Rattle.lent_edits.specs.LeavesBook.{HoldsBook, next-network, call-leaves, opened-holds}
+use Rattle.dombrelat.specs.Calls.{Returned, refusedWith, answeredWith, through, openCall}
 use Rattle.dombrelat.specs.Demand3.{bytesNext, bytesSays, bytesAfter, bytesAnswers, Demand3}
 
 -- ════ rows that are calls
@@ -48,40 +48,40 @@ rows-take (suc k) [] = refl
 rows-take (suc k) (c ∷ cs) = ap (λ (l : List Row). Names c ∷ l) (rows-take k cs)
 
 -- ════ a call through the book
-through-fits : (s : List ℕ) (f : Book → Edited) → bytesFit s ≡ true → through s f ≡ settled s (f (bookOf s))
+through-fits : (s : List ℕ) (f : Book → Edited) → bytesFit s ≡ true → through s f ≡ answeredWith s (f (bookOf s))
 unfolding through
-through-fits s f e = ap (λ (t : Bool). cond t (settled s (f (bookOf s))) (refused 25 s)) e
+through-fits s f e = ap (λ (t : Bool). cond t (answeredWith s (f (bookOf s))) (refusedWith 25 s)) e
 
-through-unfit : (s : List ℕ) (f : Book → Edited) → bytesFit s ≡ false → through s f ≡ refused 25 s
+through-unfit : (s : List ℕ) (f : Book → Edited) → bytesFit s ≡ false → through s f ≡ refusedWith 25 s
 unfolding through
-through-unfit s f e = ap (λ (t : Bool). cond t (settled s (f (bookOf s))) (refused 25 s)) e
+through-unfit s f e = ap (λ (t : Bool). cond t (answeredWith s (f (bookOf s))) (refusedWith 25 s)) e
 
 -- ════ bytes hold a book, and are those of s₀ beyond it
 module _ (s₀ : List ℕ) where
-  says-same : (s : List ℕ) (b : Book) (c : Call) → Holds s₀ s b → bytesSays s c ≡ pos (bookSays b c)
+  says-same : (s : List ℕ) (b : Book) (c : Call) → HoldsBook s₀ s b → bytesSays s c ≡ pos (bookSays b c)
   says-same s b c h =
       ap (λ (r : Returned). r .answer) (through-fits s (λ x. outcome x c) (h .fits)) ∙ ap (λ (x : Book). pos (bookSays x c)) (h .reads)
 
-  stays : (s : List ℕ) (b : Book) (c : Call) → Holds s₀ s b → Holds s₀ (bytesNext s c) (bookNext b c)
+  stays : (s : List ℕ) (b : Book) (c : Call) → HoldsBook s₀ s b → HoldsBook s₀ (bytesNext s c) (bookNext b c)
   stays s b c h =
-      subst (λ (y : Book). Holds s₀ (bytesNext s c) (bookNext y c)) (h .reads)
-      (subst (λ (t : List ℕ). Holds s₀ t (bookNext (bookOf s) c)) (sym (ap (λ (r : Returned). r .bytes) (through-fits s (λ y. outcome y c) (h .fits)))) (call-leaves s₀ s (h .fits) (h .beyond) c))
+      subst (λ (y : Book). HoldsBook s₀ (bytesNext s c) (bookNext y c)) (h .reads)
+      (subst (λ (t : List ℕ). HoldsBook s₀ t (bookNext (bookOf s) c)) (sym (ap (λ (r : Returned). r .bytes) (through-fits s (λ y. outcome y c) (h .fits)))) (call-leaves s₀ s (h .fits) (h .beyond) c))
 
-  alike : Alike bytesNext bytesSays bookNext (λ b c. pos (bookSays b c)) (Holds s₀)
+  alike : Alike bytesNext bytesSays bookNext (λ b c. pos (bookSays b c)) (HoldsBook s₀)
   alike = record { says-same = says-same; stays = stays }
 
 -- ════ an accepted opening
 record Opened (list s : List ℕ) : Type 0 where
   room : bookBytes ≤ length s
   accepts : stations.opens (wordsAt list 0 (length list / 8)) ≡ true
-  written : opens list s .bytes ≡ putBook s (openedBook (networkOf (wordsAt list 0 (length list / 8))))
+  written : openCall list s .bytes ≡ putBook s (openedBook (networkOf (wordsAt list 0 (length list / 8))))
 
 not-zero : (n : ℕ) {X : Type 0} → pos (suc n) ≡ pos 0 → X
 not-zero n e = absurd (let z : suc n ≡ 0 = ap natAbs e in omega arith)
 
 -- the three tests of an opening
 abbrev tested : Bool → Bool → Bool → List ℕ → Book → Book → Returned
-tested t u v s b b′ = cond t (cond u (settled s (cond v (record { refusal = 0; book = b }) (record { refusal = 1; book = b′ }))) (refused 1 s)) (refused 25 s)
+tested t u v s b b′ = cond t (cond u (answeredWith s (cond v (record { refusal = 0; book = b }) (record { refusal = 1; book = b′ }))) (refusedWith 1 s)) (refusedWith 25 s)
 
 tests-pass : (t u v : Bool) (s : List ℕ) (b b′ : Book) → tested t u v s b b′ .answer ≡ pos 0 → (t ≡ true) × (v ≡ true) × (tested t u v s b b′ .bytes ≡ putBook s b)
 unfolding unless
@@ -90,33 +90,33 @@ tests-pass true true false s b b′ e = not-zero 0 e
 tests-pass true false v s b b′ e = not-zero 0 e
 tests-pass false u v s b b′ e = not-zero 24 e
 
-accepted : (list s : List ℕ) → opens list s .answer ≡ pos 0 → Opened list s
-unfolding opens
+accepted : (list s : List ℕ) → openCall list s .answer ≡ pos 0 → Opened list s
+unfolding openCall
 accepted list s a =
     let words = wordsAt list 0 (length list / 8) in
     let w = tests-pass (leb bookBytes (length s)) (eqb (length list % 32) 0) (stations.opens words) s (openedBook (networkOf words)) (openedBook (networkOf [])) a in
     record { room = leb-true _ _ (w .0); accepts = w .1; written = w .2 }
 
 -- ════ the statement
-holds-opened : (list s : List ℕ) → Opened list s → Holds s (opens list s .bytes) (openedBook (networkOf (wordsAt list 0 (length list / 8))))
+holds-opened : (list s : List ℕ) → Opened list s → HoldsBook s (openCall list s .bytes) (openedBook (networkOf (wordsAt list 0 (length list / 8))))
 holds-opened list s o =
     let words = wordsAt list 0 (length list / 8) in
-    subst (λ (t : List ℕ). Holds s t (openedBook (networkOf words))) (sym (o .written)) (opened-holds s (o .room) words (o .accepts))
+    subst (λ (t : List ℕ). HoldsBook s t (openedBook (networkOf words))) (sym (o .written)) (opened-holds s (o .room) words (o .accepts))
 
 module _ (list s : List ℕ) (o : Opened list s) where
   net : Network
   net = networkOf (wordsAt list 0 (length list / 8))
 
-  left : (calls : List Call) → Holds s (bytesAfter list s calls) (final bookNext (openedBook net) calls)
+  left : (calls : List Call) → HoldsBook s (bytesAfter list s calls) (final bookNext (openedBook net) calls)
   unfolding net
-  left calls = run-final bytesNext bytesSays bookNext (λ b c. pos (bookSays b c)) (Holds s) (alike s) (opens list s .bytes) (openedBook net) calls (holds-opened list s o)
+  left calls = run-final bytesNext bytesSays bookNext (λ b c. pos (bookSays b c)) (HoldsBook s) (alike s) (openCall list s .bytes) (openedBook net) calls (holds-opened list s o)
 
   said : (calls : List Call) → bytesAnswers list s calls ≡ answers bookNext (λ b c. pos (bookSays b c)) (openedBook net) calls
   unfolding net
-  said calls = run-answers bytesNext bytesSays bookNext (λ b c. pos (bookSays b c)) (Holds s) (alike s) (opens list s .bytes) (openedBook net) calls (holds-opened list s o)
+  said calls = run-answers bytesNext bytesSays bookNext (λ b c. pos (bookSays b c)) (HoldsBook s) (alike s) (openCall list s .bytes) (openedBook net) calls (holds-opened list s o)
 
 -- ════ what an accepted opening or edit leaves is a book that the next call takes
-pub opened-fits-next : (list s : List ℕ) → opens list s .answer ≡ pos 0 → bytesFit (opens list s .bytes) ≡ true
+pub opened-fits-next : (list s : List ℕ) → openCall list s .answer ≡ pos 0 → bytesFit (openCall list s .bytes) ≡ true
 opened-fits-next list s a = holds-opened list s (accepted list s a) .fits
 
 -- what an accepted edit has shown of the bytes, and what it leaves
@@ -130,7 +130,7 @@ edited-next s c a = go (true-or-false (bytesFit s))
   where
     go : (bytesFit s ≡ true) ⊎ (bytesFit s ≡ false) → Next s c
     go (inl e) =
-        let h : Holds s s (bookOf s) = record { reads = refl; fits = e; beyond = λ j q. refl } in
+        let h : HoldsBook s s (bookOf s) = record { reads = refl; fits = e; beyond = λ j q. refl } in
         let next = stays s s (bookOf s) c h in
         record { says = ap natAbs (sym (says-same s s (bookOf s) c h) ∙ a); fits = next .fits; reads = next .reads }
     go (inr e) = not-zero 24 (sym (ap (λ (r : Returned). r .answer) (through-unfit s (λ b. outcome b c) e)) ∙ a)
@@ -147,7 +147,7 @@ pub record After (list s : List ℕ) (calls : List Call) : Type 0 where
   pub fits : bytesFit (bytesAfter list s calls) ≡ true
   pub network : bookOf (bytesAfter list s calls) .network ≡ networkOf (wordsAt list 0 (length list / 8))
 
-pub opened-after : (list s : List ℕ) → opens list s .answer ≡ pos 0 → (calls : List Call) → After list s calls
+pub opened-after : (list s : List ℕ) → openCall list s .answer ≡ pos 0 → (calls : List Call) → After list s calls
 unfolding net
 opened-after list s a calls =
     let o = accepted list s a in

@@ -18,7 +18,7 @@ use Rattle.words.specs.Words.{wordAt}
 use Rattle.words.specs.Runs.{putWords}
 use Rattle.words.specs.RunLaws.{run-at}
 use Rattle.network.specs.Rules.{inList, endsFit}
-use Rattle.network.specs.RuleLaws.{network-few, in-list, ends}
+use Rattle.network.specs.RuleLaws.{network-few, in-list, ends-each}
 use Rattle.lists.specs.Stored.{fits-by}
 use Rattle.acceptance.specs.Exactly.{answer}
 use Rattle.acceptance.specs.JudgeLaws.{refusal-least}
@@ -108,7 +108,7 @@ module _ (s x m sheet : List ℕ) (fit : bytesFit s ≡ true) (done : sheetCall 
       → distanceCall s x m d ≡ cond (agrees d (markAt (sheetCall s x m sheet .sheet) (d .from)) (markAt (sheetCall s x m sheet .sheet) (d .to))) (pos 0) (negsuc 1)
   unfolding distanceCall agreementLent agreementWord
   said d e f =
-      let t = ends (b .network .count) (d .from) (d .to) few e in
+      let t = ends-each (b .network .count) (d .from) (d .to) few e in
       let is : agreementLent b x m d ≡ cond (agreesAt (b .network .stations) (allWords x) d) Agrees Disagrees =
       pair-answer (b .network) d e _ _ pair-accepted f in
       rw fit (ap agreementWord is ∙ word (agreesAt (b .network .stations) (allWords x) d)

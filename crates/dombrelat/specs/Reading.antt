@@ -16,7 +16,7 @@ use Rattle.sheet.specs.Sheet.{room}
 use Rattle.words.specs.Concat.{concatBelow}
 use Rattle.network.specs.RecordWords.{recordWords}
 use Rattle.layout.specs.Bytes.{bookOf, bytesFit}
-use Rattle.dombrelat.specs.Calls.{Returned, refused}
+use Rattle.dombrelat.specs.Calls.{Returned, refusedWith}
 
 -- a result is refusal + 256 · number: that of a call which is not refused, and gives a number
 abbrev pub numbered : ℕ → ℤ
@@ -36,7 +36,7 @@ sheetBytesCall s = cond (bytesFit s) (numbered (8 * room (bookOf s .network) (bo
 
 -- ════ words at the front of a lent slice: bytes beyond stay. 10 where it has no room for them
 unfoldable pub gives : ℕ → List ℤ → List ℕ → Returned
-gives number words out = cond (leb (8 * length words) (length out)) (record { answer = numbered number; bytes = putWords out 0 words }) (refused 10 out)
+gives number words out = cond (leb (8 * length words) (length out)) (record { answer = numbered number; bytes = putWords out 0 words }) (refusedWith 10 out)
 
 -- the station list, four words a station, as an opening takes it
 unfoldable pub listWords : Network → List ℤ
@@ -44,9 +44,9 @@ listWords net = concatBelow (net .count) (λ k. stationWords (stationAt (net .st
 
 -- the station list, and the number of stations
 unfoldable pub stationsCall : List ℕ → List ℕ → Returned
-stationsCall s list = cond (bytesFit s) (gives (bookOf s .network .count) (listWords (bookOf s .network)) list) (refused 25 list)
+stationsCall s list = cond (bytesFit s) (gives (bookOf s .network .count) (listWords (bookOf s .network)) list) (refusedWith 25 list)
 
 -- the 14 words of what a place holds, all 0 where it is empty. "2 | … | place not 1 to 256"
 unfoldable pub recordCall : List ℕ → ℤ → List ℕ → Returned
 recordCall s place out =
-    cond (bytesFit s) (cond (inList 256 place) (gives 0 (recordWords (recordAt (bookOf s .places) (placeOf place))) out) (refused 2 out)) (refused 25 out)
+    cond (bytesFit s) (cond (inList 256 place) (gives 0 (recordWords (recordAt (bookOf s .places) (placeOf place))) out) (refusedWith 2 out)) (refusedWith 25 out)

@@ -20,7 +20,7 @@ use Rattle.words.specs.SignedLaws.{index-test, index-number}
 use Rattle.words.specs.Runs.{wordsAt, putWords}
 use Rattle.words.specs.RunLaws.{length-words, length-run, run-back}
 use Rattle.lists.specs.All.{Each, each, each-by, all-at, all-by}
-use Rattle.network.specs.Stations.{blank, stationAt, kindAt, kindOf, isKind, stationIn, networkOf, countFits, coordinatesFit, unknownsFit, kindsFit, wholeStations, blankBeyond, networkFits}
+use Rattle.network.specs.Stations.{blankStation, stationAt, kindAt, kindOf, isKind, stationIn, networkOf, countFits, coordinatesFit, unknownsFit, kindsFit, wholeStations, blankBeyond, networkFits}
 use Rattle.network.specs.Stations as stations
 use Rattle.network.specs.StationWords.{kindWord, stationWords}
 use Rattle.network.specs.Records.{vacant, recordAt}
@@ -45,12 +45,12 @@ use Rattle.network.specs.RecordWords.{recordWords}
 use Rattle.layout.specs.Layout.{stationPart, bookBytes}
 use Rattle.network.specs.RecordWordLaws.{length-record}
 use Rattle.layout.specs.BookWords.{station-word}
-use Rattle.layout.specs.WordSizes.{words-fit}
+use Rattle.layout.specs.WordSizes.{book-words-fit}
 use Rattle.layout.specs.ReadBack.{station-back}
 use Rattle.layout.specs.Bytes.{bookOf, putBook, bytesFit}
 use Rattle.layout.specs.CodecLaws.{read-sized, read-stations, fits-sound}
 use Rattle.lent_checks.specs.LentChecks.{allWords}
-use Rattle.dombrelat.specs.Calls.{Returned, settled, edit, opens}
+use Rattle.dombrelat.specs.Calls.{Returned, answeredWith, editCall, openCall}
 use Rattle.dombrelat.specs.Reading.{numbered, gives, listWords, stationsCall, recordCall}
 use Rattle.dombrelat.specs.Demand3.{bytesNext, bytesAfter}
 use Rattle.dombrelat.specs.Demand3Holds.{edited-next, opened-after}
@@ -94,9 +94,9 @@ module _ (w : List ℤ) (e : stations.opens w ≡ true) where
   unfolding stations.opens
   tests = each (wholeStations w ∷ countFits (length w / 4) ∷ kindsFit w ∷ coordinatesFit (networkOf w .stations) ∷ unknownsFit (networkOf w .stations) ∷ []) e
 
-  pub list-same : listWords (networkOf w) ≡ w
+  pub list-words-same : listWords (networkOf w) ≡ w
   unfolding networkOf wholeStations kindsFit
-  list-same =
+  list-words-same =
       let n = length w / 4 in
       let whole : length w % 4 ≡ 0 = eqb-true _ _ (tests .0) in
       let few : n ≤ 32 = leb-true _ _ (and-right (leb 1 n) (leb n 32) (tests .1 .0)) in
@@ -110,7 +110,7 @@ module _ (w : List ℤ) (e : stations.opens w ≡ true) where
       let at : i ≡ k * 4 + j = omega arith in
       ap (λ (q : ℕ). getD (listWords (networkOf w)) q (pos 0)) at
       ∙ list-at (networkOf w) k j inside below
-      ∙ ap (λ (s : Station). getD (stationWords s) j (pos 0)) (getD-tabulate 32 (stationIn w) k blank (omega arith))
+      ∙ ap (λ (s : Station). getD (stationWords s) j (pos 0)) (getD-tabulate 32 (stationIn w) k blankStation (omega arith))
       ∙ word-same w k j below (all-at n _ k (tests .1 .1 .0) inside)
       ∙ ap (λ (q : ℕ). getD w q (pos 0)) (sym at))
 
@@ -139,7 +139,7 @@ list-back net e long =
     let w = listWords net in
     let count : length w / 4 ≡ net .count = let q = list-length net in omega arith in
     let same : tabulate 32 (stationIn w) ≡ net .stations =
-    sym (is-tabulate 32 (stationIn w) (net .stations) blank long (λ s h. sym (station-back net w s e h (λ j l. part-at net s j l)))) in
+    sym (is-tabulate 32 (stationIn w) (net .stations) blankStation long (λ s h. sym (station-back net w s e h (λ j l. part-at net s j l)))) in
     λ i. record { count = count i; stations = same i }
 
 is-kind : (k : Kind) → isKind (kindWord k) ≡ true
@@ -173,7 +173,7 @@ list-fits s e i = go (decLt i 128)
         let at : k * 4 + j ≡ i = omega arith in
         subst (λ (z : ℤ). SFits w64 z)
         (station-word (bookOf s) (read-sized s) k j (omega arith) below ∙ sym (part-at (bookOf s .network) k j below) ∙ ap (λ (q : ℕ). getD (listWords (bookOf s .network)) q (pos 0)) at)
-        (words-fit (bookOf s) (fits-sound s e) (2 + k * 4 + j))
+        (book-words-fit (bookOf s) (fits-sound s e) (2 + k * 4 + j))
     go (no h) =
         let few : bookOf s .network .count ≤ 32 = network-few (bookOf s .network) (fits-sound s e .network) in
         let beyond : length (listWords (bookOf s .network)) ≤ i = omega (arith, list-length (bookOf s .network)) in
@@ -189,7 +189,7 @@ stations-fit : (s out : List ℕ) → bytesFit s ≡ true → 8 * length (listWo
 unfolding stationsCall
 stations-fit s out e room = rw e (gives-room (bookOf s .network .count) (listWords (bookOf s .network)) out room)
 
-pub stations-opened : (list s : List ℕ) → opens list s .answer ≡ pos 0 → (calls : List Call) (out : List ℕ) → length list ≤ length out
+pub stations-opened : (list s : List ℕ) → openCall list s .answer ≡ pos 0 → (calls : List Call) (out : List ℕ) → length list ≤ length out
     → stationsCall (bytesAfter list s calls) out ≡ record { answer = numbered (length list / 32); bytes = putWords out 0 (allWords list) }
 unfolding stationsCall networkOf
 stations-opened list s a calls out room =
@@ -199,13 +199,13 @@ stations-opened list s a calls out room =
     let count : length w / 4 ≡ length list / 32 = omega arith in
     rw (h .fits)
     (ap (λ (net : Network). gives (net .count) (listWords net) out) (h .network)
-    ∙ ap₂ (λ (n : ℕ) (l : List ℤ). gives n l out) count (list-same w (h .accepts))
+    ∙ ap₂ (λ (n : ℕ) (l : List ℤ). gives n l out) count (list-words-same w (h .accepts))
     ∙ gives-room (length list / 32) w out (omega arith))
 
 -- ════ of any bytes that hold a book: an opening on the list that is written gives a book of the same stations
 pub opens-again : (s out t : List ℕ) → bytesFit s ≡ true → length out ≡ 32 * bookOf s .network .count → bookBytes ≤ length t
-    → opens (stationsCall s out .bytes) t ≡ record { answer = pos 0; bytes = putBook t (openedBook (bookOf s .network)) }
-unfolding opens unless
+    → openCall (stationsCall s out .bytes) t ≡ record { answer = pos 0; bytes = putBook t (openedBook (bookOf s .network)) }
+unfolding openCall unless
 opens-again s out t e long room =
     let net = bookOf s .network in
     let w = listWords net in
@@ -218,12 +218,12 @@ opens-again s out t e long room =
     let read : wordsAt list 0 (length list / 8) ≡ w = ap (wordsAt list 0) count ∙ run-back out 0 w (let z : 0 + 8 * length w ≤ length out = omega arith in z) (list-fits s e) in
     let o = fits-sound s e .network in
     let opened : opening w ≡ record { refusal = 0; book = openedBook net } = rw (list-opens net o (read-stations s), list-back net o (read-stations s)) in
-    ap (λ (l : List ℕ). opens l t) is
-    ∙ rw (le-leb bookBytes (length t) room, even) (ap (λ (x : Edited). settled t x) (ap opening read ∙ opened))
+    ap (λ (l : List ℕ). openCall l t) is
+    ∙ rw (le-leb bookBytes (length t) room, even) (ap (λ (x : Edited). answeredWith t x) (ap opening read ∙ opened))
 
 -- ════ what an accepted edit put at its place
 module _ (s : List ℕ) (p : ℤ) (c : Change) (out : List ℕ) (room : 112 ≤ length out) where
-  pub record-edited : edit s (call.Edit p c) .answer ≡ pos 0 → recordCall (edit s (call.Edit p c) .bytes) p out ≡ record { answer = pos 0; bytes = putWords out 0 (recordWords (puts c)) }
+  pub record-edited : editCall s (call.Edit p c) .answer ≡ pos 0 → recordCall (editCall s (call.Edit p c) .bytes) p out ≡ record { answer = pos 0; bytes = putWords out 0 (recordWords (puts c)) }
   unfolding recordCall unless bookAccepts callNo
   record-edited a =
       let e = call.Edit p c in

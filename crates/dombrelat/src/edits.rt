@@ -4,11 +4,11 @@ use book::Change;
 ghost use mathlib.Core.Path.{_≡_};
 ghost use mathlib.Core.List.{[], _∷_};
 ghost use Rattle.network.specs.Records.{baselineOf, heightOf};
-ghost use Rattle.dombrelat.specs.Calls.{edit};
+ghost use Rattle.dombrelat.specs.Calls.{editCall};
 
 // The book that the bytes hold, edited: 25 before all others.
 fn edit_bytes(book: &mut [u8], call: Call) -> i64
-    ensures { λ r. ⌜ (r ≡ edit (now (book .entry)) call .answer) × (now (book .exit) ≡ edit (now (book .entry)) call .bytes) ⌝ }
+    ensures { λ r. ⌜ (r ≡ editCall (now (book .entry)) call .answer) × (now (book .exit) ≡ editCall (now (book .entry)) call .bytes) ⌝ }
 {
     if !layout::holds_book(book) {
         return 25;
@@ -34,8 +34,8 @@ pub extern "C" fn dombrelat_add_baseline(
     nu: i64,
     uu: i64,
 ) -> i64
-    ensures { λ r. ⌜ r ≡ edit (now (book .entry)) (Call.Edit place (Change.Add (baselineOf from to (east ∷ north ∷ up ∷ []) (ee ∷ en ∷ eu ∷ nn ∷ nu ∷ uu ∷ [])))) .answer ⌝ }
-    ensures { λ _. ⌜ now (book .exit) ≡ edit (now (book .entry)) (Call.Edit place (Change.Add (baselineOf from to (east ∷ north ∷ up ∷ []) (ee ∷ en ∷ eu ∷ nn ∷ nu ∷ uu ∷ [])))) .bytes ⌝ }
+    ensures { λ r. ⌜ r ≡ editCall (now (book .entry)) (Call.Edit place (Change.Add (baselineOf from to (east ∷ north ∷ up ∷ []) (ee ∷ en ∷ eu ∷ nn ∷ nu ∷ uu ∷ [])))) .answer ⌝ }
+    ensures { λ _. ⌜ now (book .exit) ≡ editCall (now (book .entry)) (Call.Edit place (Change.Add (baselineOf from to (east ∷ north ∷ up ∷ []) (ee ∷ en ∷ eu ∷ nn ∷ nu ∷ uu ∷ [])))) .bytes ⌝ }
 {
     let r = network::baseline_of(from, to, [east, north, up], [ee, en, eu, nn, nu, uu]);
     edit_bytes(book, Call::Edit(place, Change::Add(r)))
@@ -51,8 +51,8 @@ pub extern "C" fn dombrelat_add_height(
     up: i64,
     weight: i64,
 ) -> i64
-    ensures { λ r. ⌜ r ≡ edit (now (book .entry)) (Call.Edit place (Change.Add (heightOf from to up weight))) .answer ⌝ }
-    ensures { λ _. ⌜ now (book .exit) ≡ edit (now (book .entry)) (Call.Edit place (Change.Add (heightOf from to up weight))) .bytes ⌝ }
+    ensures { λ r. ⌜ r ≡ editCall (now (book .entry)) (Call.Edit place (Change.Add (heightOf from to up weight))) .answer ⌝ }
+    ensures { λ _. ⌜ now (book .exit) ≡ editCall (now (book .entry)) (Call.Edit place (Change.Add (heightOf from to up weight))) .bytes ⌝ }
 {
     let r = network::height_of(from, to, up, weight);
     edit_bytes(book, Call::Edit(place, Change::Add(r)))
@@ -75,8 +75,8 @@ pub extern "C" fn dombrelat_replace_baseline(
     nu: i64,
     uu: i64,
 ) -> i64
-    ensures { λ r. ⌜ r ≡ edit (now (book .entry)) (Call.Edit place (Change.Replace (baselineOf from to (east ∷ north ∷ up ∷ []) (ee ∷ en ∷ eu ∷ nn ∷ nu ∷ uu ∷ [])))) .answer ⌝ }
-    ensures { λ _. ⌜ now (book .exit) ≡ edit (now (book .entry)) (Call.Edit place (Change.Replace (baselineOf from to (east ∷ north ∷ up ∷ []) (ee ∷ en ∷ eu ∷ nn ∷ nu ∷ uu ∷ [])))) .bytes ⌝ }
+    ensures { λ r. ⌜ r ≡ editCall (now (book .entry)) (Call.Edit place (Change.Replace (baselineOf from to (east ∷ north ∷ up ∷ []) (ee ∷ en ∷ eu ∷ nn ∷ nu ∷ uu ∷ [])))) .answer ⌝ }
+    ensures { λ _. ⌜ now (book .exit) ≡ editCall (now (book .entry)) (Call.Edit place (Change.Replace (baselineOf from to (east ∷ north ∷ up ∷ []) (ee ∷ en ∷ eu ∷ nn ∷ nu ∷ uu ∷ [])))) .bytes ⌝ }
 {
     let r = network::baseline_of(from, to, [east, north, up], [ee, en, eu, nn, nu, uu]);
     edit_bytes(book, Call::Edit(place, Change::Replace(r)))
@@ -92,8 +92,8 @@ pub extern "C" fn dombrelat_replace_height(
     up: i64,
     weight: i64,
 ) -> i64
-    ensures { λ r. ⌜ r ≡ edit (now (book .entry)) (Call.Edit place (Change.Replace (heightOf from to up weight))) .answer ⌝ }
-    ensures { λ _. ⌜ now (book .exit) ≡ edit (now (book .entry)) (Call.Edit place (Change.Replace (heightOf from to up weight))) .bytes ⌝ }
+    ensures { λ r. ⌜ r ≡ editCall (now (book .entry)) (Call.Edit place (Change.Replace (heightOf from to up weight))) .answer ⌝ }
+    ensures { λ _. ⌜ now (book .exit) ≡ editCall (now (book .entry)) (Call.Edit place (Change.Replace (heightOf from to up weight))) .bytes ⌝ }
 {
     let r = network::height_of(from, to, up, weight);
     edit_bytes(book, Call::Edit(place, Change::Replace(r)))
@@ -102,8 +102,8 @@ pub extern "C" fn dombrelat_replace_height(
 // Empties a filled place.
 #[no_mangle]
 pub extern "C" fn dombrelat_strike(book: &mut [u8], place: i64) -> i64
-    ensures { λ r. ⌜ r ≡ edit (now (book .entry)) (Call.Edit place Change.Strike) .answer ⌝ }
-    ensures { λ _. ⌜ now (book .exit) ≡ edit (now (book .entry)) (Call.Edit place Change.Strike) .bytes ⌝ }
+    ensures { λ r. ⌜ r ≡ editCall (now (book .entry)) (Call.Edit place Change.Strike) .answer ⌝ }
+    ensures { λ _. ⌜ now (book .exit) ≡ editCall (now (book .entry)) (Call.Edit place Change.Strike) .bytes ⌝ }
 {
     edit_bytes(book, Call::Edit(place, Change::Strike))
 }
@@ -111,8 +111,8 @@ pub extern "C" fn dombrelat_strike(book: &mut [u8], place: i64) -> i64
 // Takes the latest edit back.
 #[no_mangle]
 pub extern "C" fn dombrelat_undo(book: &mut [u8]) -> i64
-    ensures { λ r. ⌜ r ≡ edit (now (book .entry)) Call.Undo .answer ⌝ }
-    ensures { λ _. ⌜ now (book .exit) ≡ edit (now (book .entry)) Call.Undo .bytes ⌝ }
+    ensures { λ r. ⌜ r ≡ editCall (now (book .entry)) Call.Undo .answer ⌝ }
+    ensures { λ _. ⌜ now (book .exit) ≡ editCall (now (book .entry)) Call.Undo .bytes ⌝ }
 {
     edit_bytes(book, Call::Undo)
 }

@@ -107,20 +107,20 @@ abbrev pub has² : {ρ : List ℤ} {a b : ℤ} → HasShape ρ a → HasShape ρ
 has² x y = record { l = x; r = y }
 
 -- what it adds (true) and what it takes off (false), two naturals
-abbrev pub part : List ℤ → Shape → Bool → ℕ
-part ρ (var i) true = plusPart (look ρ i)
-part ρ (var i) false = minusPart (look ρ i)
-part ρ (num k) true = plusPart k
-part ρ (num k) false = minusPart k
-part ρ (shape+ x y) c = part ρ x c + part ρ y c
-part ρ (shape- x y) true = part ρ x true + part ρ y false
-part ρ (shape- x y) false = part ρ x false + part ρ y true
-part ρ (shape* x y) true = part ρ x true * part ρ y true + part ρ x false * part ρ y false
-part ρ (shape* x y) false = part ρ x true * part ρ y false + part ρ x false * part ρ y true
-part ρ (shape¬ x) true = part ρ x false
-part ρ (shape¬ x) false = part ρ x true
+abbrev pub signedPart : List ℤ → Shape → Bool → ℕ
+signedPart ρ (var i) true = plusPart (look ρ i)
+signedPart ρ (var i) false = minusPart (look ρ i)
+signedPart ρ (num k) true = plusPart k
+signedPart ρ (num k) false = minusPart k
+signedPart ρ (shape+ x y) c = signedPart ρ x c + signedPart ρ y c
+signedPart ρ (shape- x y) true = signedPart ρ x true + signedPart ρ y false
+signedPart ρ (shape- x y) false = signedPart ρ x false + signedPart ρ y true
+signedPart ρ (shape* x y) true = signedPart ρ x true * signedPart ρ y true + signedPart ρ x false * signedPart ρ y false
+signedPart ρ (shape* x y) false = signedPart ρ x true * signedPart ρ y false + signedPart ρ x false * signedPart ρ y true
+signedPart ρ (shape¬ x) true = signedPart ρ x false
+signedPart ρ (shape¬ x) false = signedPart ρ x true
 
-parts-of : (ρ : List ℤ) (x : Shape) → Is (value ρ x) (part ρ x true) (part ρ x false)
+parts-of : (ρ : List ℤ) (x : Shape) → Is (value ρ x) (signedPart ρ x true) (signedPart ρ x false)
 parts-of ρ (var i) = is (look ρ i)
 parts-of ρ (num k) = is k
 parts-of ρ (shape+ x y) = parts-of ρ x ⊕ parts-of ρ y
@@ -128,5 +128,5 @@ parts-of ρ (shape- x y) = parts-of ρ x ⊖ parts-of ρ y
 parts-of ρ (shape* x y) = parts-of ρ x ⊗ parts-of ρ y
 parts-of ρ (shape¬ x) = neg (parts-of ρ x)
 
-pub shape-parts : {ρ : List ℤ} {z : ℤ} (f : HasShape ρ z) → Is z (part ρ (f .x) true) (part ρ (f .x) false)
-shape-parts {ρ} f = subst (λ (z : ℤ). Is z (part ρ (f .x) true) (part ρ (f .x) false)) (f .is) (parts-of ρ (f .x))
+pub shape-parts : {ρ : List ℤ} {z : ℤ} (f : HasShape ρ z) → Is z (signedPart ρ (f .x) true) (signedPart ρ (f .x) false)
+shape-parts {ρ} f = subst (λ (z : ℤ). Is z (signedPart ρ (f .x) true) (signedPart ρ (f .x) false)) (f .is) (parts-of ρ (f .x))

@@ -23,7 +23,7 @@ use Rattle.network.specs.declared.Station.{Station}
 use Rattle.network.specs.declared.Record.{Record}
 use Rattle.normals.specs.declared.Equation.{Equation}
 use Rattle.normals.specs.declared.Normals.{Normals}
-use Rattle.normals.specs.Equations.{Fit, blockN, blockU}
+use Rattle.normals.specs.Equations.{EquationInRange, blockN, blockU}
 use Rattle.normals.specs.ShareTerms.{term, terms, shareFrom, term-inside, terms-size, share-N, share-u, share-before}
 use Rattle.normals.specs.Shares.{equation, equation-fits}
 use Rattle.normals.specs.Exchange.{exchangedN, exchangedU, shift-N, shift-u}
@@ -58,7 +58,7 @@ words-read s w B room o small =
     subst (λ (n : ℕ). wordsAt (putWords s 0 w) 0 n ≡ w) long (run-back s 0 w (omega arith) (λ i. fits-by (getD w i (pos 0)) (o .bound i) small))
 
 -- ════ the loop: the first j terms are added to the words of s
-module _ (s : List ℕ) (room : bookBytes ≤ length s) (q : Equation) (f : Fit q) (z : ℤ) (unit : natAbs z ≤ 1) (o : Within bookLength (2 ^ 40) (wordsOf s)) where
+module _ (s : List ℕ) (room : bookBytes ≤ length s) (q : Equation) (f : EquationInRange q) (z : ℤ) (unit : natAbs z ≤ 1) (o : Within bookLength (2 ^ 40) (wordsOf s)) where
   abbrev pub added : ℕ → List ℤ
   added j = plus bookLength (wordsOf s) z (terms matrixStart q j)
 
@@ -88,7 +88,7 @@ module _ (s : List ℕ) (room : bookBytes ≤ length s) (q : Equation) (f : Fit 
         ∙ plus-step bookLength (wordsOf s) z (terms matrixStart q j) (terms matrixStart q (j + 1)) (added j) (matrixStart + term q j .entry) (term q j .amount) _ refl (omega arith) (λ i. sum-+1 j _) refl)
 
 -- ════ a share added to the words of a book is added to its N and u
-module _ (b : Book) (z : Sized b) (q : Equation) (f : Fit q) (x : ℤ) where
+module _ (b : Book) (z : Sized b) (q : Equation) (f : EquationInRange q) (x : ℤ) where
   abbrev pub withShare : Book
   withShare = withNormals b (plus 2304 (b .normals .matrix) x (blockN q)) (plus 48 (b .normals .right) x (blockU q))
 
@@ -158,10 +158,10 @@ module _ (s : List ℕ) (fit : bytesFit s ≡ true) (i : ℕ) (r : Record) (insi
   stations : SoundStations st
   stations = sound-stations (b .network) (fits-sound s fit .network)
 
-  pub off-fits : Fit (equation st old)
+  pub off-fits : EquationInRange (equation st old)
   off-fits = equation-fits st stations old sound-old
 
-  pub on-fits : Fit (equation st r)
+  pub on-fits : EquationInRange (equation st r)
   on-fits = equation-fits st stations r sound-new
 
   pub first-within : Within bookLength (2 ^ 40) (wordsOf s)

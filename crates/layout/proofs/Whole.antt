@@ -14,7 +14,7 @@ use Rattle.book.specs.declared.Book.{Book}
 use Rattle.book.specs.Book.{sound}
 use Rattle.book.specs.Sound.{Sized}
 use Rattle.layout.specs.Layout.{headWords, stationsPart, placesPart, countsPart, entriesPart, bookWords, placesStart, countsStart, entriesStart, matrixStart, rightStart, bookBytes, stationsStart}
-use Rattle.layout.specs.BookWords.{tail, length-stations, length-places, length-entries}
+use Rattle.layout.specs.BookWords.{tail, length-stations, length-places-part, length-entries}
 use Rattle.layout.specs.Bytes.{bookOf, putBook, laidOut, bytesFit}
 use Rattle.layout.specs.RunPatches.{run-append}
 
@@ -45,7 +45,7 @@ joined b z s s₁ s₂ s₃ s₄ s₅ s₆ p₁ p₂ p₃ p₄ p₅ p₆ =
     ∙ ap (λ (k : ℕ). putWords (putWords s₅ (8 * matrixStart) m) k u) (let l = z .matrix in let e : 8 * rightStart ≡ 8 * matrixStart + 8 * length m = omega arith in e)
     ∙ sym (next s s₁ 0 (8 * stationsStart) (headWords b) (stationsPart b ++ (placesPart b ++ tail b z)) (let e : 0 + 8 * 2 ≡ 8 * stationsStart = omega arith in e) p₁
     ∙ next s₁ s₂ (8 * stationsStart) (8 * placesStart) (stationsPart b) (placesPart b ++ tail b z) (let l = length-stations b z in omega arith) p₂
-    ∙ next s₂ s₃ (8 * placesStart) (8 * countsStart) (placesPart b) (tail b z) (let l = length-places b z in omega arith) p₃
+    ∙ next s₂ s₃ (8 * placesStart) (8 * countsStart) (placesPart b) (tail b z) (let l = length-places-part b z in omega arith) p₃
     ∙ next s₃ s₄ (8 * countsStart) (8 * entriesStart) (countsPart b) (entriesPart b ++ (m ++ u)) (let e : 8 * countsStart + 8 * 2 ≡ 8 * entriesStart = omega arith in e) p₄
     ∙ next s₄ s₅ (8 * entriesStart) (8 * matrixStart) (entriesPart b) (m ++ u) (let l = length-entries b z in omega arith) p₅
     ∙ run-append s₅ (8 * matrixStart) m u)

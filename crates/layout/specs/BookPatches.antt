@@ -74,10 +74,10 @@ abbrev pub withPlace : Book → ℕ → Record → Book
 withPlace b i r = record { network = b .network; places = set (b .places) i (record { entry = r }); journal = b .journal; normals = b .normals }
 
 abbrev pub withSlot : Book → ℕ → Reversal → Book
-withSlot b k u = record { network = b .network; places = b .places; journal = record { entries = set (b .journal .entries) k u; next = b .journal .next; held = b .journal .held }; normals = b .normals }
+withSlot b k u = record { network = b .network; places = b .places; journal = record { entries = set (b .journal .entries) k u; next = b .journal .next; count = b .journal .count }; normals = b .normals }
 
 abbrev pub withCounts : Book → ℕ → ℕ → Book
-withCounts b next held = record { network = b .network; places = b .places; journal = record { entries = b .journal .entries; next = next; held = held }; normals = b .normals }
+withCounts b next count = record { network = b .network; places = b .places; journal = record { entries = b .journal .entries; next = next; count = count }; normals = b .normals }
 
 abbrev pub withNormals : Book → List ℤ → List ℤ → Book
 withNormals b m u = record { network = b .network; places = b .places; journal = b .journal; normals = record { matrix = m; right = u } }
@@ -116,23 +116,23 @@ module _ (s : List ℕ) (room : bookBytes ≤ length s) (b : Book) (z : Sized b)
       (λ j d. ap reversalWords (sym (getD-set-other (b .journal .entries) k j u free d))) h (length-toCounts b z) fits
       ∙ ap (putWords s 0) (sym (at-entries b′ z′))
 
-  pub put-counts : (next held : ℕ) → putWords (putBook s b) (8 * countsStart) (signed next ∷ signed held ∷ []) ≡ putBook s (withCounts b next held)
-  put-counts next held =
-      let b′ = withCounts b next held in
+  pub put-counts : (next count : ℕ) → putWords (putBook s b) (8 * countsStart) (signed next ∷ signed count ∷ []) ≡ putBook s (withCounts b next count)
+  put-counts next count =
+      let b′ = withCounts b next count in
       let z′ : Sized b′ = record { places = z .places; entries = z .entries; matrix = z .matrix; right = z .right } in
       let c : List ℤ = entriesPart b ++ (b .normals .matrix ++ b .normals .right) in
       let fits : 8 * (length (toPlaces b z) + 2 + length c) ≤ length s =
       let l = length-book b z in let e = ap length (at-entries b z) ∙ length-append (toCounts b z) c in let p = length-toCounts b z in let q = length-toPlaces b z in omega arith in
-      ap (λ (x : List ℤ). putWords (putWords s 0 x) (8 * countsStart) (signed next ∷ signed held ∷ [])) (at-counts b z)
-      ∙ patch s (toPlaces b z) (countsPart b) (signed next ∷ signed held ∷ []) c (8 * countsStart) refl (let q = length-toPlaces b z in omega arith) fits
+      ap (λ (x : List ℤ). putWords (putWords s 0 x) (8 * countsStart) (signed next ∷ signed count ∷ [])) (at-counts b z)
+      ∙ patch s (toPlaces b z) (countsPart b) (signed next ∷ signed count ∷ []) c (8 * countsStart) refl (let q = length-toPlaces b z in omega arith) fits
       ∙ ap (putWords s 0) (sym (at-counts b′ z′))
 
 -- ════ all of them
-pub put-edit : (s : List ℕ) → bookBytes ≤ length s → (b : Book) → Sized b → (m v : List ℤ) → length m ≡ 2304 → length v ≡ 48 → (i : ℕ) (r : Record) (slot : ℕ) (u : Reversal) (next held : ℕ) → i < 256 → slot < journalSize
+pub put-edit : (s : List ℕ) → bookBytes ≤ length s → (b : Book) → Sized b → (m v : List ℤ) → length m ≡ 2304 → length v ≡ 48 → (i : ℕ) (r : Record) (slot : ℕ) (u : Reversal) (next count : ℕ) → i < 256 → slot < journalSize
     → (s₁ s₂ s₃ s₄ : List ℕ) → s₁ ≡ putBook s (withNormals b m v) → s₂ ≡ putWords s₁ (8 * (placesStart + i * recordLength)) (recordWords r) → s₃ ≡ putWords s₂ (8 * (entriesStart + slot * reversalLength)) (reversalWords u)
-    → s₄ ≡ putWords s₃ (8 * countsStart) (signed next ∷ signed held ∷ [])
-    → s₄ ≡ putBook s (withCounts (withSlot (withPlace (withNormals b m v) i r) slot u) next held)
-put-edit s room b z m v lm lv i r slot u next held h k s₁ s₂ s₃ s₄ p₁ p₂ p₃ p₄ =
+    → s₄ ≡ putWords s₃ (8 * countsStart) (signed next ∷ signed count ∷ [])
+    → s₄ ≡ putBook s (withCounts (withSlot (withPlace (withNormals b m v) i r) slot u) next count)
+put-edit s room b z m v lm lv i r slot u next count h k s₁ s₂ s₃ s₄ p₁ p₂ p₃ p₄ =
     let b₁ = withNormals b m v in
     let z₁ : Sized b₁ = record { places = z .places; entries = z .entries; matrix = lm; right = lv } in
     let b₂ = withPlace b₁ i r in
@@ -141,4 +141,4 @@ put-edit s room b z m v lm lv i r slot u next held h k s₁ s₂ s₃ s₄ p₁ 
     let z₃ : Sized b₃ = record { places = z₂ .places; entries = length-set (b .journal .entries) slot u ∙ z .entries; matrix = lm; right = lv } in
     let q₂ : s₂ ≡ putBook s b₂ = p₂ ∙ ap (λ (x : List ℕ). putWords x (8 * (placesStart + i * recordLength)) (recordWords r)) p₁ ∙ put-place s room b₁ z₁ i r h in
     let q₃ : s₃ ≡ putBook s b₃ = p₃ ∙ ap (λ (x : List ℕ). putWords x (8 * (entriesStart + slot * reversalLength)) (reversalWords u)) q₂ ∙ put-slot s room b₂ z₂ slot u k in
-    p₄ ∙ ap (λ (x : List ℕ). putWords x (8 * countsStart) (signed next ∷ signed held ∷ [])) q₃ ∙ put-counts s room b₃ z₃ next held
+    p₄ ∙ ap (λ (x : List ℕ). putWords x (8 * countsStart) (signed next ∷ signed count ∷ [])) q₃ ∙ put-counts s room b₃ z₃ next count

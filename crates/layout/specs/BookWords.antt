@@ -55,8 +55,8 @@ module _ (b : Book) (z : Sized b) where
   pub length-stations : length (stationsPart b) ≡ 128
   length-stations = length-concatBelow 4 (stationPart (b .network)) (length-station (b .network)) 32
 
-  pub length-places : length (placesPart b) ≡ 256 * recordLength
-  length-places = length-concatBelow recordLength _ (λ p. length-record (recordAt (b .places) p)) 256
+  pub length-places-part : length (placesPart b) ≡ 256 * recordLength
+  length-places-part = length-concatBelow recordLength _ (λ p. length-record (recordAt (b .places) p)) 256
 
   pub length-entries : length (entriesPart b) ≡ journalSize * reversalLength
   length-entries = length-concatBelow reversalLength _ (λ k. length-reversal (getD (b .journal .entries) k free)) journalSize
@@ -78,7 +78,7 @@ module _ (b : Book) (z : Sized b) where
   length-toStations = length-append (headWords b) (stationsPart b) ∙ ap (λ (n : ℕ). stationsStart + n) length-stations
 
   pub length-toPlaces : length toPlaces ≡ countsStart
-  length-toPlaces = length-append toStations (placesPart b) ∙ omega (arith, length-toStations, length-places)
+  length-toPlaces = length-append toStations (placesPart b) ∙ omega (arith, length-toStations, length-places-part)
 
   pub length-toCounts : length toCounts ≡ entriesStart
   length-toCounts = length-append toPlaces (countsPart b) ∙ ap (λ (n : ℕ). n + 2) length-toPlaces
@@ -141,8 +141,8 @@ module _ (b : Book) (z : Sized b) where
   pub next-word : word countsStart ≡ signed (b .journal .next)
   next-word = behind toPlaces tail countsStart 0 at-counts length-toPlaces
 
-  pub held-word : word (countsStart + 1) ≡ signed (b .journal .held)
-  held-word = behind toPlaces tail countsStart 1 at-counts length-toPlaces
+  pub journal-count-word : word (countsStart + 1) ≡ signed (b .journal .count)
+  journal-count-word = behind toPlaces tail countsStart 1 at-counts length-toPlaces
 
   pub slot-word : (k j : ℕ) → k < journalSize → j < reversalLength → word (entriesStart + k * reversalLength + j) ≡ getD (reversalWords (getD (b .journal .entries) k free)) j (pos 0)
   slot-word k j h l =

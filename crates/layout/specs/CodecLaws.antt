@@ -22,13 +22,13 @@ use Rattle.network.specs.RuleLaws.{network-few, network-coordinates}
 use Rattle.network.specs.declared.Network.{Network}
 use Rattle.book.specs.declared.Book.{Book}
 use Rattle.book.specs.Book.{sound}
-use Rattle.book.specs.Sound.{Sound, Sized, sound-parts, parts-sound}
+use Rattle.book.specs.Sound.{SoundParts, Sized, sound-parts, parts-sound}
 use Rattle.integers.specs.Tables.{length-tabulate}
 use Rattle.layout.specs.Layout.{bookWords, bookIn, bookLength, bookBytes}
 use Rattle.layout.specs.BookWords.{length-book}
 use Rattle.layout.specs.ReadBack.{sound-sized, book-back}
 use Rattle.layout.specs.Laid.{sized-in}
-use Rattle.layout.specs.WordSizes.{words-fit}
+use Rattle.layout.specs.WordSizes.{book-words-fit}
 use Rattle.layout.specs.Bytes.{wordsOf, bookOf, putBook, laidOut, bytesFit}
 
 -- ════ a book that was read: the lengths of its arrays, and what 25 has shown of it
@@ -53,7 +53,7 @@ module _ (s : List ℕ) where
     pub fits-tested : sound (bookOf s) ≡ true
     fits-tested = parts .2
 
-    pub fits-sound : Sound (bookOf s)
+    pub fits-sound : SoundParts (bookOf s)
     fits-sound = sound-parts (bookOf s) read-sized (parts .2)
 
     -- of the station list
@@ -72,11 +72,11 @@ module _ (s : List ℕ) where
     writes-same h = ap (putWords s 0) (sym fits-words) ∙ run-kept s 0 bookLength h
 
 -- ════ a sound book written to bytes with room for it
-module _ (s : List ℕ) (b : Book) (o : Sound b) (long : length (b .network .stations) ≡ 32) (room : bookBytes ≤ length s) where
+module _ (s : List ℕ) (b : Book) (o : SoundParts b) (long : length (b .network .stations) ≡ 32) (room : bookBytes ≤ length s) where
   words-back : wordsOf (putBook s b) ≡ bookWords b
   words-back =
       subst (λ (n : ℕ). wordsAt (putWords s 0 (bookWords b)) 0 n ≡ bookWords b) (length-book b (sound-sized b o))
-      (run-back s 0 (bookWords b) (omega (arith, length-book b (sound-sized b o))) (words-fit b o))
+      (run-back s 0 (bookWords b) (omega (arith, length-book b (sound-sized b o))) (book-words-fit b o))
 
   -- it reads back as that book
   pub writes-reads : bookOf (putBook s b) ≡ b

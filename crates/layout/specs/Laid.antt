@@ -24,7 +24,7 @@ use Rattle.book.specs.declared.Reversal.{Reversal}
 use Rattle.book.specs.Journal.{journalSize, free}
 use Rattle.book.specs.Sound.{Sized}
 use Rattle.layout.specs.Layout.{stationPart, reversalWords, bookWords, reversalIn, networkIn, placesAt, bookIn, reversalLength, placesStart, countsStart, entriesStart, matrixStart, rightStart, bookLength, stationsStart}
-use Rattle.layout.specs.BookWords.{record-in, head-word, count-word, station-word, place-word, next-word, held-word, slot-word, matrix-word, right-word}
+use Rattle.layout.specs.BookWords.{record-in, head-word, count-word, station-word, place-word, next-word, journal-count-word, slot-word, matrix-word, right-word}
 
 -- the words from index k on are those of the record that they give
 unfoldable pub recordLaid : List ℤ → ℕ → Bool
@@ -76,9 +76,9 @@ module _ (w : List ℤ) (long : length w ≡ bookLength) where
     unfolding bookIn
     next-kept = sym (next-word (bookIn w) sized-in ∙ kept countsStart)
 
-    held-kept : getD w (countsStart + 1) (pos 0) ≡ new (countsStart + 1)
+    journal-count-kept : getD w (countsStart + 1) (pos 0) ≡ new (countsStart + 1)
     unfolding bookIn
-    held-kept = sym (held-word (bookIn w) sized-in ∙ kept (countsStart + 1))
+    journal-count-kept = sym (journal-count-word (bookIn w) sized-in ∙ kept (countsStart + 1))
 
     station-new : (s j : ℕ) → s < 32 → j < 4 → new (stationsStart + s * 4 + j) ≡ getD (stationPart (networkIn w) s) j (pos 0)
     unfolding bookIn
@@ -163,7 +163,7 @@ module _ (w : List ℤ) (long : length w ≡ bookLength) where
             go (no a) (no b) (yes c) d e f g i = moved (stationsStart + (k - stationsStart) / 4 * 4 + (k - stationsStart) % 4) (omega arith) (station ((k - stationsStart) / 4) ((k - stationsStart) % 4) (omega arith) (omega arith))
             go (no a) (no b) (no c) (yes d) e f g i = moved (placesStart + (k - placesStart) / recordLength * recordLength + (k - placesStart) % recordLength) (omega arith) (place ((k - placesStart) / recordLength) ((k - placesStart) % recordLength) (omega arith) (omega arith))
             go (no a) (no b) (no c) (no d) (yes e) f g i = moved countsStart (omega arith) next-kept
-            go (no a) (no b) (no c) (no d) (no e) (yes f) g i = moved (countsStart + 1) (omega arith) held-kept
+            go (no a) (no b) (no c) (no d) (no e) (yes f) g i = moved (countsStart + 1) (omega arith) journal-count-kept
             go (no a) (no b) (no c) (no d) (no e) (no f) (yes g) i =
                 inSlot ((k - entriesStart) / reversalLength) ((k - entriesStart) % reversalLength) (omega arith) (omega arith) (omega arith) (decLt ((k - entriesStart) % reversalLength) 1)
             go (no a) (no b) (no c) (no d) (no e) (no f) (no g) (yes i) = moved (matrixStart + (k - matrixStart)) (omega arith) (matrix-kept (k - matrixStart) (omega arith))

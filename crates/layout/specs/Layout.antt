@@ -33,7 +33,7 @@ stationsStart = 2
 abbrev pub placesStart : ℕ
 placesStart = stationsStart + 32 * 4
 
--- the journal's counters: next, then held
+-- the journal's counters: next, then count
 abbrev pub countsStart : ℕ
 countsStart = placesStart + placesLength
 
@@ -79,7 +79,7 @@ abbrev pub placesPart : Book → List ℤ
 placesPart b = concatBelow 256 (λ p. recordWords (recordAt (b .places) p))
 
 abbrev pub countsPart : Book → List ℤ
-countsPart b = signed (b .journal .next) ∷ signed (b .journal .held) ∷ []
+countsPart b = signed (b .journal .next) ∷ signed (b .journal .count) ∷ []
 
 abbrev pub entriesPart : Book → List ℤ
 entriesPart b = concatBelow journalSize (λ k. reversalWords (getD (b .journal .entries) k free))
@@ -106,7 +106,7 @@ abbrev pub entriesIn : List ℤ → List Reversal
 entriesIn w = tabulate journalSize (λ k. reversalIn w (entriesStart + k * reversalLength))
 
 abbrev pub journalIn : List ℤ → Journal
-journalIn w = record { entries = entriesIn w; next = countIn w countsStart; held = countIn w (countsStart + 1) }
+journalIn w = record { entries = entriesIn w; next = countIn w countsStart; count = countIn w (countsStart + 1) }
 
 abbrev pub normalsIn : List ℤ → Normals
 normalsIn w = record { matrix = take 2304 (drop matrixStart w); right = take 48 (drop rightStart w) }

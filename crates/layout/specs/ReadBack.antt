@@ -16,7 +16,7 @@ use Rattle.words.specs.Bools.{and-left, and-right}
 use Rattle.words.specs.Signed.{indexIn, signed, unsigned, eqZ}
 use Rattle.words.specs.SignedLaws.{eqZ-true, unsigned-signed}
 use Rattle.lists.specs.All.{all-at}
-use Rattle.network.specs.Stations.{blank, stationAt, kindAt, kindOf, stationIn, countFits, coordinatesFit, unknownsFit, isKnown, isBlank, blankBeyond, networkFits}
+use Rattle.network.specs.Stations.{blankStation, stationAt, kindAt, kindOf, stationIn, countFits, coordinatesFit, unknownsFit, isKnown, isBlank, blankBeyond, networkFits}
 use Rattle.network.specs.Records.{vacant, recordAt, isEmpty}
 use Rattle.network.specs.RecordWords.{recordIn, recordLength}
 use Rattle.network.specs.Places.{placesIn, length-places}
@@ -32,9 +32,9 @@ use Rattle.book.specs.declared.Reversal.{Reversal}
 use Rattle.book.specs.declared.Book.{Book}
 use Rattle.book.specs.Journal.{journalSize, age, free, isFree, slotBefore, entriesBefore}
 use Rattle.book.specs.Book.{undoable}
-use Rattle.book.specs.Sound.{Sized, Sound, Undoes, undoable-first}
+use Rattle.book.specs.Sound.{Sized, SoundParts, Undoes, undoable-first}
 use Rattle.words.specs.Concat.{concatBelow-at}
-use Rattle.layout.specs.BookWords.{record-in, length-station, toEntries, length-toEntries, length-toMatrix, at-matrix, at-right, place-word, next-word, held-word, slot-word, stations-part}
+use Rattle.layout.specs.BookWords.{record-in, length-station, toEntries, length-toEntries, length-toMatrix, at-matrix, at-right, place-word, next-word, journal-count-word, slot-word, stations-part}
 use Rattle.network.specs.StationWords.{stationWords, kind-back}
 use Rattle.network.specs.RecordWordLaws.{record-back}
 use Rattle.layout.specs.Layout.{stationPart, reversalWords, stationsPart, bookWords, reversalIn, networkIn, placesAt, entriesIn, journalIn, normalsIn, bookIn, reversalLength, placesStart, countsStart, entriesStart, matrixStart, rightStart}
@@ -54,13 +54,13 @@ pub record Restores (net : Network) (u : Reversal) : Type 0 where
   pub inside : u .place < 256
   pub fits : recordFits net (u .prior) ≡ true
 
-held-restores : (net : Network) (entries : List Reversal) (n slot t : ℕ) (at : ℕ → Record) → slot < journalSize → t < journalSize → age slot t < n
+in-use-restores : (net : Network) (entries : List Reversal) (n slot t : ℕ) (at : ℕ → Record) → slot < journalSize → t < journalSize → age slot t < n
     → undoable net at (entriesBefore entries slot n) ≡ true → Restores net (getD entries t free)
 unfolding entriesBefore
-held-restores net entries zero slot t at s h l e = absurd (omega arith)
-held-restores net entries (suc n) slot t at s h l e =
+in-use-restores net entries zero slot t at s h l e = absurd (omega arith)
+in-use-restores net entries (suc n) slot t at s h l e =
     let o = undoable-first net at (getD entries (slotBefore slot) free) (entriesBefore entries (slotBefore slot) n) e in
-    go o (λ q. held-restores net entries n (slotBefore slot) t _ (omega arith) h (omega arith) (o .rest)) (ℕ-discrete t (slotBefore slot))
+    go o (λ q. in-use-restores net entries n (slotBefore slot) t _ (omega arith) h (omega arith) (o .rest)) (ℕ-discrete t (slotBefore slot))
   where
     go : Undoes net at (getD entries (slotBefore slot) free) (entriesBefore entries (slotBefore slot) n) → ((t ≡ slotBefore slot → ⊥) → Restores net (getD entries t free)) → Dec (t ≡ slotBefore slot)
         → Restores net (getD entries t free)
@@ -75,11 +75,11 @@ free-restores net u e =
       fits = ap (recordFits net) (empty-is (u .prior) (and-right (eqb (u .place) 0) (isEmpty (u .prior)) e)) ∙ fits-empty net;
     }
 
-pub entry-restores : (b : Book) → Sound b → (k : ℕ) → k < journalSize → Restores (b .network) (getD (b .journal .entries) k free)
-entry-restores b o k h = go (decLt (age (b .journal .next) k) (b .journal .held))
+pub entry-restores : (b : Book) → SoundParts b → (k : ℕ) → k < journalSize → Restores (b .network) (getD (b .journal .entries) k free)
+entry-restores b o k h = go (decLt (age (b .journal .next) k) (b .journal .count))
   where
-    go : Dec (age (b .journal .next) k < b .journal .held) → Restores (b .network) (getD (b .journal .entries) k free)
-    go (yes l) = held-restores (b .network) (b .journal .entries) (b .journal .held) (b .journal .next) k (recordAt (b .places)) (o .journal .next) h l (o .undoes)
+    go : Dec (age (b .journal .next) k < b .journal .count) → Restores (b .network) (getD (b .journal .entries) k free)
+    go (yes l) = in-use-restores (b .network) (b .journal .entries) (b .journal .count) (b .journal .next) k (recordAt (b .places)) (o .journal .next) h l (o .undoes)
     go (no l) = free-restores (b .network) _ (o .journal .blank k h (omega arith))
 
 -- ════ a station
@@ -89,7 +89,7 @@ known-is Known e = refl
 known-is Free e = absurd (let z : _≡_ {A = ℕ} 0 1 = ap (λ (t : Bool). cond t 1 0) e in omega arith)
 known-is Height e = absurd (let z : _≡_ {A = ℕ} 0 1 = ap (λ (t : Bool). cond t 1 0) e in omega arith)
 
-blank-is : (s : Station) → isBlank s ≡ true → s ≡ blank
+blank-is : (s : Station) → isBlank s ≡ true → s ≡ blankStation
 unfolding isBlank
 blank-is s e =
     let k = isKnown (s .kind) in
@@ -101,7 +101,7 @@ blank-is s e =
     let up : s .up ≡ pos 0 = eqZ-true _ _ (and-right (k && eqZ (s .east) (pos 0) && eqZ (s .north) (pos 0)) (eqZ (s .up) (pos 0)) e) in
     λ i. record { kind = kind i; east = east i; north = north i; up = up i }
 
-beyond-blank : (net : Network) → networkFits net ≡ true → (s : ℕ) → s < 32 → ltb s (net .count) ≡ false → stationAt (net .stations) s ≡ blank
+beyond-blank : (net : Network) → networkFits net ≡ true → (s : ℕ) → s < 32 → ltb s (net .count) ≡ false → stationAt (net .stations) s ≡ blankStation
 unfolding networkFits blankBeyond
 beyond-blank net e s h f =
     let two = and-left (countFits (net .count) && blankBeyond net) (coordinatesFit (net .stations)) (and-left _ (unknownsFit (net .stations)) e) in
@@ -119,7 +119,7 @@ station-words x w s at =
 abbrev zeros : List ℤ
 zeros = pos 0 ∷ pos 0 ∷ pos 0 ∷ pos 0 ∷ []
 
-station-zeros : (w : List ℤ) (s : ℕ) → ((j : ℕ) → j < 4 → getD w (s * 4 + j) (pos 0) ≡ getD zeros j (pos 0)) → stationIn w s ≡ blank
+station-zeros : (w : List ℤ) (s : ℕ) → ((j : ℕ) → j < 4 → getD w (s * 4 + j) (pos 0) ≡ getD zeros j (pos 0)) → stationIn w s ≡ blankStation
 unfolding stationIn kindAt indexIn
 station-zeros w s at =
     let kind : kindOf (getD w (s * 4) (pos 0)) ≡ Known =
@@ -140,7 +140,7 @@ station-back net w s e h at = go (ltb s (net .count)) refl
         ∙ sym (beyond-blank net e s h q)
 
 -- ════ a book. What is true of every value, the length of the station list, stands beside Sound
-pub sound-sized : (b : Book) → Sound b → Sized b
+pub sound-sized : (b : Book) → SoundParts b → Sized b
 sound-sized b o =
     record {
       places = o .places;
@@ -149,7 +149,7 @@ sound-sized b o =
       right = ap (λ (n : Normals). length (n .right)) (o .normals) ∙ length-tabulate 48 _;
     }
 
-module _ (b : Book) (o : Sound b) (long : length (b .network .stations) ≡ 32) where
+module _ (b : Book) (o : SoundParts b) (long : length (b .network .stations) ≡ 32) where
   sized : Sized b
   sized = sound-sized b o
 
@@ -164,7 +164,7 @@ module _ (b : Book) (o : Sound b) (long : length (b .network .stations) ≡ 32) 
       let part = stations-part b sized in
       let count : unsigned (signed (b .network .count)) ≡ b .network .count = unsigned-signed (b .network .count) (omega arith) in
       let stations : tabulate 32 (stationIn (stationsPart b)) ≡ b .network .stations =
-      sym (is-tabulate 32 (stationIn (stationsPart b)) (b .network .stations) blank long
+      sym (is-tabulate 32 (stationIn (stationsPart b)) (b .network .stations) blankStation long
       (λ s h. sym (station-back (b .network) (stationsPart b) s (o .network) h
       (λ j l. concatBelow-at 4 (stationPart (b .network)) (length-station (b .network)) 32 s j (pos 0) h l)))) in
       λ i. record { count = count i; stations = (ap (λ (l : List ℤ). tabulate 32 (stationIn l)) part ∙ stations) i }
@@ -190,9 +190,9 @@ module _ (b : Book) (o : Sound b) (long : length (b .network .stations) ≡ 32) 
   journal-back =
       let next : unsigned (getD w countsStart (pos 0)) ≡ b .journal .next =
       ap unsigned (next-word b sized) ∙ unsigned-signed (b .journal .next) (let q = o .journal .next in omega arith) in
-      let held : unsigned (getD w (countsStart + 1) (pos 0)) ≡ b .journal .held =
-      ap unsigned (held-word b sized) ∙ unsigned-signed (b .journal .held) (let q = o .journal .held in omega arith) in
-      λ i. record { entries = entries-back i; next = next i; held = held i }
+      let count : unsigned (getD w (countsStart + 1) (pos 0)) ≡ b .journal .count =
+      ap unsigned (journal-count-word b sized) ∙ unsigned-signed (b .journal .count) (let q = o .journal .count in omega arith) in
+      λ i. record { entries = entries-back i; next = next i; count = count i }
 
   normals-back : normalsIn w ≡ b .normals
   normals-back =

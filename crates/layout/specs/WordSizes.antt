@@ -30,11 +30,11 @@ use Rattle.network.specs.declared.Record.the-variants.{Empty, Baseline as basel
 use Rattle.normals.specs.declared.Normals.{Normals}
 use Rattle.normals.specs.Formulas.{entryN, entryU, matrixOf, rightOf}
 use Rattle.normals.specs.Sizes.{N-entry, u-entry}
-use Rattle.normals.specs.Sound as normals
+use Rattle.normals.specs.ByRules as normals
 use Rattle.book.specs.declared.Reversal.{Reversal}
 use Rattle.book.specs.declared.Book.{Book}
 use Rattle.book.specs.Journal.{journalSize, free}
-use Rattle.book.specs.Sound.{Sound}
+use Rattle.book.specs.Sound.{SoundParts}
 use Rattle.words.specs.Concat.{concatBelow}
 use Rattle.network.specs.StationWords.{kindWord, stationWords}
 use Rattle.network.specs.RecordWords.{recordWords}
@@ -121,8 +121,8 @@ module _ (net : Network) (e : networkFits net ≡ true) where
       go false = (zero-le, (zero-le, (zero-le, (zero-le, tt))))
 
 -- ════ a book
-module _ (b : Book) (o : Sound b) where
-  records : normals.Sound (b .network) (b .places)
+module _ (b : Book) (o : SoundParts b) where
+  records : normals.ByRules (b .network) (b .places)
   records = record { network = o .network; each = λ p h. o .records p }
 
   matrix-small : Small L (b .normals .matrix)
@@ -141,13 +141,13 @@ module _ (b : Book) (o : Sound b) where
   words-small =
       let few = network-few (b .network) (o .network) in
       let next = o .journal .next in
-      let held = o .journal .held in
+      let count = o .journal .count in
       let one : 1 ≤ L = omega arith in
       let tail : Small L (entriesPart b ++ (b .normals .matrix ++ b .normals .right)) =
       small-append (entriesPart b) _ (small-concatBelow journalSize _ (λ k h. reversal-small (b .network) (o .network) (getD (b .journal .entries) k free) (entry-restores b o k h)))
       (small-append (b .normals .matrix) (b .normals .right) matrix-small right-small) in
       let counts : Small L (countsPart b ++ (entriesPart b ++ (b .normals .matrix ++ b .normals .right))) =
-      (count-small (b .journal .next) (omega arith), (count-small (b .journal .held) (omega arith), tail)) in (
+      (count-small (b .journal .next) (omega arith), (count-small (b .journal .count) (omega arith), tail)) in (
         one,
         (
           count-small (b .network .count) (omega arith),
@@ -159,5 +159,5 @@ module _ (b : Book) (o : Sound b) where
   pub words-within : Within bookLength L (bookWords b)
   words-within = record { long = length-book b (sound-sized b o); bound = small-at L (bookWords b) words-small }
 
-  pub words-fit : (i : ℕ) → SFits w64 (getD (bookWords b) i (pos 0))
-  words-fit i = fits-by (getD (bookWords b) i (pos 0)) (words-within .bound i) tt
+  pub book-words-fit : (i : ℕ) → SFits w64 (getD (bookWords b) i (pos 0))
+  book-words-fit i = fits-by (getD (bookWords b) i (pos 0)) (words-within .bound i) tt

@@ -11,7 +11,7 @@ pub use laid::holds_book;
 pub use offsets::Layout;
 pub use patching::put;
 pub use reading::book_in;
-pub use reading::held_in;
+pub use reading::journal_count_in;
 pub use reading::matrix_in;
 pub use reading::network_in;
 pub use reading::next_in;

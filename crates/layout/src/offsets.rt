@@ -14,7 +14,7 @@ impl Layout {
     pub const STATIONS_START: usize = 2;
 
     pub const PLACES_START: usize = Layout::STATIONS_START + Unit::STATIONS * 4;
-    // The journal's counters: next, then held.
+    // The journal's counters: next, then count.
     pub const COUNTS_START: usize = Layout::PLACES_START + Unit::PLACES * Record::LENGTH;
 
     pub const ENTRIES_START: usize = Layout::COUNTS_START + 2;

@@ -14,7 +14,7 @@ ghost use Rattle.integers.specs.Tables.{plus, Within};
 ghost use Rattle.words.specs.Words.{putWord};
 ghost use Rattle.words.specs.Runs.{putWords};
 ghost use Rattle.network.specs.Rules.{recordFits};
-ghost use Rattle.normals.specs.Equations.{Fit};
+ghost use Rattle.normals.specs.Equations.{EquationInRange};
 ghost use Rattle.normals.specs.ShareTerms.{shareFrom};
 ghost use Rattle.book.specs.Journal.{journalSize};
 ghost use Rattle.book.specs.Book.{withEntry, withRecord};
@@ -33,7 +33,7 @@ fn add_to_word(s: &mut [u8], k: usize, v: i64)
 
 // A record's share added to N and u, or taken off, term by term: no other word is read or written. `sign` is 1 or -1.
 fn add_share(s: &mut [u8], equation: Equation, sign: i64)
-    requires { ⌜ (bookBytes ≤ length (now s)) × Fit equation × (natAbs sign ≤ 1) × Within bookLength (2 ^ 40) (wordsOf (now s)) ⌝ }
+    requires { ⌜ (bookBytes ≤ length (now s)) × EquationInRange equation × (natAbs sign ≤ 1) × Within bookLength (2 ^ 40) (wordsOf (now s)) ⌝ }
     ensures { λ _. ⌜ now (s .exit) ≡ putWords (now (s .entry)) 0 (plus bookLength (wordsOf (now (s .entry))) sign (shareFrom matrixStart equation)) ⌝ }
 {
     let mut j = 0;
@@ -61,12 +61,12 @@ fn exchange(s: &mut [u8], i: usize, r: Record)
 }
 
 // The book's core edit: r at place i, N and u with it, u in a slot of the journal, and its counters.
-pub fn put(s: &mut [u8], i: usize, r: Record, slot: usize, u: Reversal, next: usize, held: usize)
+pub fn put(s: &mut [u8], i: usize, r: Record, slot: usize, u: Reversal, next: usize, count: usize)
     requires { ⌜ (bytesFit (now s) ≡ true) × (i < 256) × (recordFits (bookOf (now s) .network) r ≡ true) × (slot < journalSize) ⌝ }
-    ensures { λ _. ⌜ now (s .exit) ≡ putBook (now (s .entry)) (withEntry (bookOf (now (s .entry))) i r (record { entries = set (bookOf (now (s .entry)) .journal .entries) slot u; next = next; held = held })) ⌝ }
+    ensures { λ _. ⌜ now (s .exit) ≡ putBook (now (s .entry)) (withEntry (bookOf (now (s .entry))) i r (record { entries = set (bookOf (now (s .entry)) .journal .entries) slot u; next = next; count = count })) ⌝ }
 {
     exchange(s, i, r);
     writing::put_record(s, Layout::PLACES_START + i * Record::LENGTH, r);
     writing::put_reversal(s, Layout::ENTRIES_START + slot * Layout::REVERSAL_LENGTH, u);
-    writing::put_counts(s, next, held);
+    writing::put_counts(s, next, count);
 }

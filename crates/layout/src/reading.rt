@@ -42,9 +42,9 @@ pub fn next_in(s: &[u8]) -> usize
     count_in(s, Layout::COUNTS_START)
 }
 
-pub fn held_in(s: &[u8]) -> usize
+pub fn journal_count_in(s: &[u8]) -> usize
     requires { ⌜ bookBytes ≤ length (now s) ⌝ }
-    ensures { λ r. ⌜ r ≡ bookOf (now (s .entry)) .journal .held ⌝ }
+    ensures { λ r. ⌜ r ≡ bookOf (now (s .entry)) .journal .count ⌝ }
 {
     count_in(s, Layout::COUNTS_START + 1)
 }
@@ -163,11 +163,11 @@ pub fn journal_in(s: &[u8]) -> Journal
 {
     let entries = entries_in(s);
     let next = next_in(s);
-    let held = held_in(s);
+    let count = journal_count_in(s);
     Journal {
         entries,
         next,
-        held,
+        count,
     }
 }
 

@@ -113,12 +113,12 @@ fn put_pair(s: &mut [u8], k: usize, a: i64, b: i64)
 }
 
 // The journal's counters.
-pub fn put_counts(s: &mut [u8], next: usize, held: usize)
+pub fn put_counts(s: &mut [u8], next: usize, count: usize)
     requires { ⌜ bookBytes ≤ length (now s) ⌝ }
-    ensures { λ _. ⌜ now (s .exit) ≡ putWords (now (s .entry)) (8 * countsStart) (signed next ∷ signed held ∷ []) ⌝ }
+    ensures { λ _. ⌜ now (s .exit) ≡ putWords (now (s .entry)) (8 * countsStart) (signed next ∷ signed count ∷ []) ⌝ }
 {
     let n = count_word(next);
-    let h = count_word(held);
+    let h = count_word(count);
     put_pair(s, Layout::COUNTS_START, n, h);
 }
 
@@ -143,7 +143,7 @@ pub fn write_book(s: &mut [u8], book: Book)
     let places = book.places;
     put_places(s, places);
     let journal = book.journal;
-    put_counts(s, journal.next, journal.held);
+    put_counts(s, journal.next, journal.count);
     let entries = journal.entries;
     put_entries(s, entries);
     let normals = book.normals;

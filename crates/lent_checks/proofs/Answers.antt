@@ -13,7 +13,7 @@ use lib.IntN.{ℤ}
 use Rattle.words.specs.Bools.{and-left, and-right}
 use Rattle.words.specs.Runs.{wordsAt}
 use Rattle.words.specs.RunLaws.{length-words}
-use Rattle.acceptance.specs.Judge.{numberOf}
+use Rattle.acceptance.specs.Judge.{answerNumber}
 use Rattle.acceptance.specs.JudgeLaws.{refusal-least}
 use Rattle.acceptance.specs.declared.Answer.{Answer}
 use Rattle.acceptance.specs.declared.Answer.the-variants.{Accepted, Refused}
@@ -29,12 +29,12 @@ lengths-fit x m e =
 
 -- ════ what is delivered: an answer whose number is 0 is acceptance
 module _ (new old : List ℕ) where
-  pub delivered : (a : Answer) → numberOf a ≡ 0 → new ≡ onAccepted a new old
+  pub delivered : (a : Answer) → answerNumber a ≡ 0 → new ≡ onAccepted a new old
   unfolding onAccepted
   delivered Accepted e = refl
   delivered (Refused refusal) e = absurd (omega (arith, refusal-least refusal))
 
-  pub withheld : (a : Answer) → (numberOf a ≡ 0 → ⊥) → old ≡ onAccepted a new old
+  pub withheld : (a : Answer) → (answerNumber a ≡ 0 → ⊥) → old ≡ onAccepted a new old
   unfolding onAccepted
   withheld Accepted h = absurd (h refl)
   withheld (Refused refusal) h = refl

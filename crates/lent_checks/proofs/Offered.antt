@@ -14,12 +14,13 @@ use mir.Val.{SFits}
 use Rattle.words.specs.Bools.{clash, and-left, and-right, and-both}
 use Rattle.words.specs.Runs.{wordsAt, putWords}
 use Rattle.words.specs.RunLaws.{length-words, length-run, run-back}
+use Rattle.network.specs.Stations.{unknownCount}
 use Rattle.acceptance.specs.Tests.{lengthsFit}
 use Rattle.acceptance.specs.JudgeLaws.{lengths-of}
-use Rattle.acceptance.specs.Exactly.{n, answer}
+use Rattle.acceptance.specs.Exactly.{answer}
 use Rattle.acceptance.specs.declared.Answer.the-variants.{Accepted}
 use Rattle.book.specs.declared.Book.{Book}
-use Rattle.book.specs.Sound.{Sound, parts-sound}
+use Rattle.book.specs.Sound.{SoundParts, parts-sound}
 use Rattle.checks.specs.Checks.{checked}
 use Rattle.checks.specs.CheckLaws.{checked-is, solved, inverse}
 use Rattle.lists.specs.Stored.{fits-by}
@@ -39,7 +40,7 @@ module _ (s : List ℕ) (ws : List ℤ) (long : 8 * length ws ≡ length s) wher
       let n : length (putWords s 0 ws) / 8 ≡ length ws = let e = filled in omega arith in
       ap (wordsAt (putWords s 0 ws) 0) n ∙ run-back s 0 ws (let h : 0 + 8 * length ws ≤ length s = omega arith in h) fits
 
-module _ (b : Book) (o : Sound b) (x m : List ℕ) (xs ms : List ℤ) (lx : 8 * length xs ≡ length x) (lm : 8 * length ms ≡ length m) where
+module _ (b : Book) (o : SoundParts b) (x m : List ℕ) (xs ms : List ℤ) (lx : 8 * length xs ≡ length x) (lm : 8 * length ms ≡ length m) where
   pub made : answer (b .network) (b .places) xs ms true ≡ Accepted → checkedLent b (putWords x 0 xs) (putWords m 0 ms) true ≡ Accepted
   unfolding checkedLent
   made e =
@@ -74,7 +75,7 @@ module _ (k : ℕ) (x m : List ℕ) where
       let square = mul-le-mul few few in
       (omega arith, omega arith)
 
-  module _ (b : Book) (is : k ≡ n (b .network)) where
+  module _ (b : Book) (is : k ≡ unknownCount (b .network .stations)) where
     pub offers-none : lentLengths k x m ≡ false → OffersLent b (pos 10) x m x m
     offers-none e = record { unfit = λ f. (refl, refl, refl); fit = λ f. clash f (ap (λ (i : ℕ). lentLengths i x m) (sym is) ∙ e) }
 

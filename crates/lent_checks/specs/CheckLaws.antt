@@ -15,25 +15,26 @@ use lib.IntN.{ℤ}
 use Rattle.words.specs.Bools.{clash, true-or-false, and-left, and-right, and-both, and-no-right}
 use Rattle.words.specs.Runs.{putWords}
 use Rattle.words.specs.RunLaws.{length-words}
+use Rattle.network.specs.Stations.{unknownCount}
 use Rattle.network.specs.StationLaws.{number-small}
 use Rattle.network.specs.RuleLaws.{sound-stations}
 use Rattle.sheet.specs.Sheet.{sheetWords, room}
 use Rattle.acceptance.specs.Tests.{lengthsFit}
-use Rattle.acceptance.specs.Judge.{numberOf, unknownOf, judge}
+use Rattle.acceptance.specs.Judge.{answerNumber, answerUnknown, judge}
 use Rattle.acceptance.specs.JudgeLaws.{lengths-of, number-most}
-use Rattle.acceptance.specs.Exactly.{n, answer}
+use Rattle.acceptance.specs.Exactly.{answer}
 use Rattle.acceptance.specs.declared.Answer.{Answer}
 use Rattle.acceptance.specs.declared.Answer.the-variants.{Accepted, Refused}
 use Rattle.acceptance.specs.declared.Refusal.the-variants.{Lengths}
 use Rattle.book.specs.declared.Book.{Book}
-use Rattle.book.specs.Sound.{Sound, parts-sound}
+use Rattle.book.specs.Sound.{SoundParts, parts-sound}
 use Rattle.checks.specs.Checks.{checked, thenNine, hasRoom, onAcceptance, sheetAfter}
 use Rattle.checks.specs.Demand2.{DemandOf}
 use Rattle.checks.specs.Demand2Holds.{demand-2}
 use Rattle.lent_checks.specs.LentChecks.{allWords, isWhole, xBytes, mBytes, sizesFit, answerMost, checkedLent, onAccepted}
 
 -- ════ test 1 fails
-pub test-1 : (b : Book) (x m : List ℤ) (r : Bool) → lengthsFit (n (b .network)) x m r ≡ false → Refused Lengths ≡ checked b x m r
+pub test-1 : (b : Book) (x m : List ℤ) (r : Bool) → lengthsFit (unknownCount (b .network .stations)) x m r ≡ false → Refused Lengths ≡ checked b x m r
 unfolding checked answer judge thenNine
 test-1 b x m r e = rw e
 
@@ -42,7 +43,7 @@ module _ (b : Book) (x m : List ℕ) (r : Bool) where
   pub lent-roomless : r ≡ false → Refused Lengths ≡ checkedLent b x m r
   unfolding checkedLent lengthsFit
   lent-roomless e =
-      let k = n (b .network) in
+      let k = unknownCount (b .network .stations) in
       test-1 b (allWords x) (allWords m) (isWhole x && isWhole m && r)
       (and-no-right (eqb (length (allWords x)) k && eqb (length (allWords m)) (k * k)) _ (and-no-right (isWhole x && isWhole m) r e))
 
@@ -53,13 +54,13 @@ module _ (b : Book) (x m : List ℕ) (r : Bool) where
       let whole : isWhole x && isWhole m ≡ true = and-left _ _ (and-left (isWhole x && isWhole m && leb (length x) xBytes) (leb (length m) mBytes) e) in
       ap (λ (t : Bool). checked b (allWords x) (allWords m) (t && r)) (sym whole)
 
-module _ (b : Book) (o : Sound b) (x m : List ℕ) (r : Bool) where
+module _ (b : Book) (o : SoundParts b) (x m : List ℕ) (r : Bool) where
   -- slices that pass it hold whole words, and no more than a book can ask for
-  passed : lengthsFit (n (b .network)) (allWords x) (allWords m) (isWhole x && isWhole m && r) ≡ true
+  passed : lengthsFit (unknownCount (b .network .stations)) (allWords x) (allWords m) (isWhole x && isWhole m && r) ≡ true
       → sizesFit x m ≡ true
   unfolding lengthsFit
   passed e =
-      let k = n (b .network) in
+      let k = unknownCount (b .network .stations) in
       let few : k ≤ 48 = sound-stations (b .network) (o .network) .few in
       let whole : isWhole x && isWhole m ≡ true = and-left _ r (and-right (eqb (length (allWords x)) k && eqb (length (allWords m)) (k * k)) _ e) in
       let long = lengths-of k (allWords x) (allWords m) (isWhole x && isWhole m && r) e in
@@ -74,16 +75,16 @@ module _ (b : Book) (o : Sound b) (x m : List ℕ) (r : Bool) where
   lent-unfit e = test-1 b (allWords x) (allWords m) (isWhole x && isWhole m && r) (⊎-elim (λ t. clash (passed t) e) (λ f. f) (true-or-false _))
 
   -- ════ how large an answer is
-  pub lent-small : numberOf (checkedLent b x m r) + 256 * unknownOf (checkedLent b x m r) ≤ answerMost
+  pub lent-small : answerNumber (checkedLent b x m r) + 256 * answerUnknown (checkedLent b x m r) ≤ answerMost
   unfolding checkedLent
   lent-small =
       let a = checkedLent b x m r in
-      go a (demand-2 b (parts-sound b o) (allWords x) (allWords m) .0 fits) (ℕ-discrete (numberOf a) 11)
+      go a (demand-2 b (parts-sound b o) (allWords x) (allWords m) .0 fits) (ℕ-discrete (answerNumber a) 11)
     where
       fits : Bool
       fits = isWhole x && isWhole m && r
 
-      go : (a : Answer) → DemandOf b (allWords x) (allWords m) fits a → Dec (numberOf a ≡ 11) → numberOf a + 256 * unknownOf a ≤ answerMost
+      go : (a : Answer) → DemandOf b (allWords x) (allWords m) fits a → Dec (answerNumber a ≡ 11) → answerNumber a + 256 * answerUnknown a ≤ answerMost
       go a j (yes e) =
           let f = j .untied e in
           omega (arith, number-small (b .network .stations) (f .station * 3 + f .component), f .numbered, f .inside .0, f .inside .1)
@@ -92,8 +93,8 @@ module _ (b : Book) (o : Sound b) (x m : List ℕ) (r : Bool) where
 -- ════ a sheet
 -- a sheet of just the words it takes: ws are the words before, r the answer, o the bytes afterwards
 module _ (b : Book) (x m ws : List ℤ) (long : length ws ≡ room (b .network) (b .places)) where
-  pub has-room : hasRoom b ws ≡ true
-  has-room = le-leb _ _ (let h : room (b .network) (b .places) ≤ length ws = omega arith in h)
+  pub has-room-lent : hasRoom b ws ≡ true
+  has-room-lent = le-leb _ _ (let h : room (b .network) (b .places) ≤ length ws = omega arith in h)
 
   sheet-is : checked b x m (hasRoom b ws) ≡ Accepted → sheetAfter b x m ws ≡ sheetWords (b .network) (b .places) x m
   unfolding sheetAfter onAcceptance
@@ -105,7 +106,7 @@ module _ (b : Book) (x m ws : List ℤ) (long : length ws ≡ room (b .network) 
   pub sheet-done : (r : Answer) (out o : List ℕ) → r ≡ checked b x m (hasRoom b ws) → o ≡ onAccepted r (putWords out 0 (sheetAfter b x m ws)) out
       → (r ≡ checked b x m true) × (o ≡ onAccepted r (putWords out 0 (sheetWords (b .network) (b .places) x m)) out)
   unfolding onAccepted
-  sheet-done r out o p q = (p ∙ ap (checked b x m) has-room, q ∙ go r p)
+  sheet-done r out o p q = (p ∙ ap (checked b x m) has-room-lent, q ∙ go r p)
     where
       go : (a : Answer) → a ≡ checked b x m (hasRoom b ws)
           → onAccepted a (putWords out 0 (sheetAfter b x m ws)) out ≡ onAccepted a (putWords out 0 (sheetWords (b .network) (b .places) x m)) out

@@ -5,17 +5,17 @@ use mathlib.Core.Bool.{Bool, true, false, cond}
 use mathlib.Core.List.{List, []}
 use native.Mathlib.Omega.{arith}
 use borrow.Author.Tests.{ne-eqb}
+use Rattle.network.specs.Stations.{unknownCount}
 use Rattle.network.specs.Rules.{endsFit}
 use Rattle.network.specs.RuleLaws.{sound-stations}
 use Rattle.network.specs.declared.Network.{Network}
 use Rattle.acceptance.specs.Tests.{lengthsFit}
-use Rattle.acceptance.specs.Exactly.{n}
-use Rattle.acceptance.specs.Judge.{unknownOf}
+use Rattle.acceptance.specs.Judge.{answerUnknown}
 use Rattle.acceptance.specs.declared.Answer.{Answer}
 use Rattle.acceptance.specs.declared.Answer.the-variants.{Accepted, Refused}
 use Rattle.acceptance.specs.declared.Refusal.the-variants.{Lengths}
 use Rattle.book.specs.declared.Book.{Book}
-use Rattle.book.specs.Sound.{Sound}
+use Rattle.book.specs.Sound.{SoundParts}
 use Rattle.checks.specs.Checks.{checked}
 use Rattle.distances.specs.declared.CheckDistance.{CheckDistance}
 use Rattle.distances.specs.declared.Agreement.{Agreement}
@@ -28,13 +28,13 @@ use Rattle.lent_checks.specs.CheckLaws.{lent-fit, lent-unfit, lent-small
 
 -- ════ the words that are read
 -- no words at all fail test 1: a book has an unknown
-empty-refused : (b : Book) → Sound b → Refused Lengths ≡ checked b [] [] true
+empty-refused : (b : Book) → SoundParts b → Refused Lengths ≡ checked b [] [] true
 unfolding lengthsFit
 empty-refused b o =
-    let some : 1 ≤ n (b .network) = sound-stations (b .network) (o .network) .some in
-    test-1 b [] [] true (rw (ne-eqb 0 (n (b .network)) (λ z. omega arith)))
+    let some : 1 ≤ unknownCount (b .network .stations) = sound-stations (b .network) (o .network) .some in
+    test-1 b [] [] true (rw (ne-eqb 0 (unknownCount (b .network .stations)) (λ z. omega arith)))
 
-module _ (b : Book) (o : Sound b) (x m : List ℕ) (d : CheckDistance) where
+module _ (b : Book) (o : SoundParts b) (x m : List ℕ) (d : CheckDistance) where
   -- all of them, where the sizes fit
   pub read-all : sizesFit x m ≡ true → agreement b (allWords x) (allWords m) d ≡ agreementLent b x m d
   unfolding agreement agreementLent
@@ -54,7 +54,7 @@ module _ (b : Book) (o : Sound b) (x m : List ℕ) (d : CheckDistance) where
       (ap (λ (a : Answer). onPair a (agreesAt (b .network .stations) [] d)) none ∙ refused-alike _ _ ∙ ap (λ (a : Answer). onPair a (agreesAt (b .network .stations) (allWords x) d)) lent)
 
 -- ════ the unknown of an answer is that of the check's
-pair-unknown : (a : Answer) (t : Bool) → agreementUnknown (onPair a t) ≡ unknownOf a
+pair-unknown : (a : Answer) (t : Bool) → agreementUnknown (onPair a t) ≡ answerUnknown a
 unfolding onPair
 pair-unknown Accepted true = refl
 pair-unknown Accepted false = refl
@@ -69,7 +69,7 @@ refused-unknown net d next k h = go (endsFit (net .count) (d .from) (d .to)) (di
     go true false = omega arith
     go false t = omega arith
 
-pub distance-small : (b : Book) → Sound b → (x m : List ℕ) (d : CheckDistance) → 256 * agreementUnknown (agreementLent b x m d) ≤ answerMost
+pub distance-small : (b : Book) → SoundParts b → (x m : List ℕ) (d : CheckDistance) → 256 * agreementUnknown (agreementLent b x m d) ≤ answerMost
 unfolding agreementLent
 distance-small b o x m d =
     let a = checkedLent b x m true in

@@ -6,7 +6,7 @@ use lib.Dec.{eqb, leb}
 use lib.ListN.{length}
 use lib.IntN.{ℤ, pos}
 use Rattle.words.specs.Runs.{wordsAt}
-use Rattle.acceptance.specs.Judge.{numberOf, unknownOf}
+use Rattle.acceptance.specs.Judge.{answerNumber, answerUnknown}
 use Rattle.acceptance.specs.declared.Answer.{Answer}
 use Rattle.acceptance.specs.declared.Answer.the-variants.{Accepted, Refused}
 use Rattle.book.specs.declared.Book.{Book}
@@ -37,7 +37,7 @@ answerMost = 24592
 
 -- "A refusal returns its number, and for 11 also the first unknown without a chain": 11 + 256 · the unknown
 unfoldable pub answerWord : Answer → ℤ
-answerWord a = pos (numberOf a + 256 * unknownOf a)
+answerWord a = pos (answerNumber a + 256 * answerUnknown a)
 
 -- the check of lent x and M: "test 1's lengths count whole words; a length that is not a multiple of 8 fails it"
 unfoldable pub checkedLent : Book → List ℕ → List ℕ → Bool → Answer

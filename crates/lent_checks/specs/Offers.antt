@@ -5,8 +5,8 @@ use mathlib.Core.Logic.{_⊎_}
 use mathlib.Core.Bool.{Bool, true, false, _&&_}
 use mathlib.Core.List.{List}
 use lib.IntN.{ℤ, pos, negsuc}
+use Rattle.network.specs.Stations.{unknownCount}
 use Rattle.acceptance.specs.Tests.{lengthsFit}
-use Rattle.acceptance.specs.Exactly.{n}
 use Rattle.acceptance.specs.declared.Answer.the-variants.{Accepted}
 use Rattle.book.specs.declared.Book.{Book}
 use Rattle.lent_checks.specs.LentChecks.{allWords, isWhole, checkedLent}
@@ -21,5 +21,5 @@ lentLengths k x m = lengthsFit k (allWords x) (allWords m) (isWhole x && isWhole
 
 -- the same, for any lengths: 10 exactly where they fail test 1, and then both are as they came
 pub record OffersLent (b : Book) (r : ℤ) (x m x′ m′ : List ℕ) : Type 0 where
-  pub unfit : lentLengths (n (b .network)) x m ≡ false → (r ≡ pos 10) × (x′ ≡ x) × (m′ ≡ m)
-  pub fit : lentLengths (n (b .network)) x m ≡ true → Offers b r x m x′ m′
+  pub unfit : lentLengths (unknownCount (b .network .stations)) x m ≡ false → (r ≡ pos 10) × (x′ ≡ x) × (m′ ≡ m)
+  pub fit : lentLengths (unknownCount (b .network .stations)) x m ≡ true → Offers b r x m x′ m′

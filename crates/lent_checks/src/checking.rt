@@ -8,7 +8,7 @@ ghost use Prim.Native.Nat.{_+_, _*_, _/_, _%_, _≤_};
 ghost use lib.Dec.{leb, eqb};
 ghost use lib.ListN.{length, take};
 ghost use Rattle.words.specs.Runs.{putWords};
-ghost use Rattle.acceptance.specs.Judge.{numberOf, unknownOf};
+ghost use Rattle.acceptance.specs.Judge.{answerNumber, answerUnknown};
 ghost use Rattle.layout.specs.Bytes.{bookOf, bytesFit};
 ghost use Rattle.sheet.specs.Sheet.{sheetWords, room};
 ghost use Rattle.checks.specs.Checks.{checked};
@@ -16,7 +16,7 @@ ghost use Rattle.lent_checks.specs.LentChecks.{allWords, sizesFit, xByte
 
 // The answer as a C call gives it.
 pub fn answer_word(a: Answer) -> i64
-    requires { ⌜ numberOf a + 256 * unknownOf a ≤ answerMost ⌝ }
+    requires { ⌜ answerNumber a + 256 * answerUnknown a ≤ answerMost ⌝ }
     ensures { λ r. ⌜ r ≡ answerWord a ⌝ }
 {
     (acceptance::number(a) + 256 * acceptance::unknown(a)) as i64
@@ -68,7 +68,7 @@ pub fn matrix_in(m: &[u8]) -> [i64; Normals::ENTRIES]
 
 pub fn check_lent(book: &[u8], x: &[u8], m: &[u8]) -> Answer
     requires { ⌜ bytesFit (now book) ≡ true ⌝ }
-    ensures { λ r. ⌜ (r ≡ checkedLent (bookOf (now (book .entry))) (now (x .entry)) (now (m .entry)) true) × (numberOf r + 256 * unknownOf r ≤ answerMost) ⌝ }
+    ensures { λ r. ⌜ (r ≡ checkedLent (bookOf (now (book .entry))) (now (x .entry)) (now (m .entry)) true) × (answerNumber r + 256 * answerUnknown r ≤ answerMost) ⌝ }
 {
     if !sizes_fit(x, m) {
         return Answer::Refused(Refusal::Lengths);
@@ -121,7 +121,7 @@ fn room_fits(n: usize, long: usize) -> bool
 
 pub fn check_sheet_lent(book: &[u8], x: &[u8], m: &[u8], out: &mut [u8]) -> Answer
     requires { ⌜ bytesFit (now book) ≡ true ⌝ }
-    ensures { λ r. ⌜ (r ≡ checkedLent (bookOf (now (book .entry))) (now (x .entry)) (now (m .entry)) (sheetFits (bookOf (now (book .entry))) (now (out .entry)))) × (numberOf r + 256 * unknownOf r ≤ answerMost) ⌝ }
+    ensures { λ r. ⌜ (r ≡ checkedLent (bookOf (now (book .entry))) (now (x .entry)) (now (m .entry)) (sheetFits (bookOf (now (book .entry))) (now (out .entry)))) × (answerNumber r + 256 * answerUnknown r ≤ answerMost) ⌝ }
     ensures { λ r. ⌜ now (out .exit) ≡ onAccepted r (putWords (now (out .entry)) 0 (sheetWords (bookOf (now (book .entry)) .network) (bookOf (now (book .entry)) .places) (allWords (now (x .entry))) (allWords (now (m .entry))))) (now (out .entry)) ⌝ }
 {
     if !sizes_fit(x, m) {

@@ -21,20 +21,20 @@ use Rattle.lent_edits.specs.LentEdits.{bytesLeft}
 
 -- ════ the core edit, with the journal that goes with it
 module _ (s : List ℕ) (b : Book) where
-  pub entered : (i next slot held more : ℕ) (r old : Record) → old ≡ recordAt (b .places) i → next ≡ b .journal .next → held ≡ b .journal .held → slot ≡ slotAfter next → more ≡ oneMore held
-      → putBook s (withEntry b i r (record { entries = set (b .journal .entries) next (record { place = i; prior = old }); next = slot; held = more }))
+  pub entered : (i next slot count more : ℕ) (r old : Record) → old ≡ recordAt (b .places) i → next ≡ b .journal .next → count ≡ b .journal .count → slot ≡ slotAfter next → more ≡ oneMore count
+      → putBook s (withEntry b i r (record { entries = set (b .journal .entries) next (record { place = i; prior = old }); next = slot; count = more }))
       ≡ putBook s (edited b i r)
-  entered i next slot held more r old p q e n m =
+  entered i next slot count more r old p q e n m =
       let a : slot ≡ slotAfter (b .journal .next) = n ∙ ap slotAfter q in
-      let h : more ≡ oneMore (b .journal .held) = m ∙ ap oneMore e in
-      λ k. putBook s (withEntry b i r (record { entries = set (b .journal .entries) (q k) (record { place = i; prior = p k }); next = a k; held = h k }))
+      let h : more ≡ oneMore (b .journal .count) = m ∙ ap oneMore e in
+      λ k. putBook s (withEntry b i r (record { entries = set (b .journal .entries) (q k) (record { place = i; prior = p k }); next = a k; count = h k }))
 
-  pub restored : (next slot held : ℕ) (u : Reversal) → next ≡ b .journal .next → slot ≡ slotBefore next → held ≡ b .journal .held → u ≡ getD (b .journal .entries) slot free
-      → putBook s (withEntry b (u .place) (u .prior) (record { entries = set (b .journal .entries) slot free; next = slot; held = held - 1 })) ≡ putBook s (undone b)
-  restored next slot held u q n e p =
+  pub restored : (next slot count : ℕ) (u : Reversal) → next ≡ b .journal .next → slot ≡ slotBefore next → count ≡ b .journal .count → u ≡ getD (b .journal .entries) slot free
+      → putBook s (withEntry b (u .place) (u .prior) (record { entries = set (b .journal .entries) slot free; next = slot; count = count - 1 })) ≡ putBook s (undone b)
+  restored next slot count u q n e p =
       let a : slot ≡ slotBefore (b .journal .next) = n ∙ ap slotBefore q in
       let l : u ≡ latest (b .journal) = p ∙ ap (λ (k : ℕ). getD (b .journal .entries) k free) a in
-      λ k. putBook s (withEntry b (l k .place) (l k .prior) (record { entries = set (b .journal .entries) (a k) free; next = a k; held = e k - 1 }))
+      λ k. putBook s (withEntry b (l k .place) (l k .prior) (record { entries = set (b .journal .entries) (a k) free; next = a k; count = e k - 1 }))
 
 -- ════ a call on bytes s that hold the book b
 module _ (s : List ℕ) (b : Book) where
@@ -52,14 +52,14 @@ module _ (s : List ℕ) (b : Book) where
   unfolding bookAccepts
   edit-changed p c n i r t e at is h = changed (call.Edit p c) n t e (h ∙ (λ k. unless n s (putBook s (edited b (at k) (is k)))))
 
-  pub undo-none : (held : ℕ) → held ≡ b .journal .held → held ≡ 0 → (8 ≡ bookSays b call.Undo) × (s ≡ bytesLeft s (outcome b call.Undo))
+  pub undo-none : (count : ℕ) → count ≡ b .journal .count → count ≡ 0 → (8 ≡ bookSays b call.Undo) × (s ≡ bytesLeft s (outcome b call.Undo))
   unfolding callNo undoNo unless
-  undo-none held e z = changed call.Undo 8 s (ap undoNo (sym z ∙ e)) refl
+  undo-none count e z = changed call.Undo 8 s (ap undoNo (sym z ∙ e)) refl
 
-  pub undo-done : (held : ℕ) (t : List ℕ) → held ≡ b .journal .held → (held ≡ 0 → ⊥) → t ≡ putBook s (undone b) → (0 ≡ bookSays b call.Undo) × (t ≡ bytesLeft s (outcome b call.Undo))
+  pub undo-done : (count : ℕ) (t : List ℕ) → count ≡ b .journal .count → (count ≡ 0 → ⊥) → t ≡ putBook s (undone b) → (0 ≡ bookSays b call.Undo) × (t ≡ bytesLeft s (outcome b call.Undo))
   unfolding callNo undoNo unless bookAccepts
   undo-done zero t e z h = absurd (z refl)
-  undo-done (suc held) t e z h = changed call.Undo 0 t (ap undoNo e) h
+  undo-done (suc count) t e z h = changed call.Undo 0 t (ap undoNo e) h
 
 -- ════ what the code of an edit has at hand: the number, the place's index, and the record
 module _ (s : List ℕ) (fit : bytesFit s ≡ true) where

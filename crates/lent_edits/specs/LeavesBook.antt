@@ -20,7 +20,7 @@ use Rattle.book.specs.declared.Call.the-variants.{Edit, Undo}
 use Rattle.book.specs.Calls.{unless}
 use Rattle.book.specs.CallLaws.{unless-either}
 use Rattle.book.specs.Book.{openedBook, opening, bookAccepts, bookSays, bookNext, outcome}
-use Rattle.book.specs.Sound.{Sound}
+use Rattle.book.specs.Sound.{SoundParts}
 use Rattle.book.specs.SoundLaws.{sound-next}
 use Rattle.book.specs.Opened.{sound-opened}
 use Rattle.layout.specs.Bytes.{bookOf, putBook, bytesFit}
@@ -29,13 +29,13 @@ use Rattle.layout.specs.Layout.{bookBytes}
 use Rattle.lent_edits.specs.LentEdits.{bytesLeft, Applies, Opens}
 
 -- ════ bytes s hold the book b, and are those of s₀ beyond it
-pub record Holds (s₀ s : List ℕ) (b : Book) : Type 0 where
+pub record HoldsBook (s₀ s : List ℕ) (b : Book) : Type 0 where
   pub reads : bookOf s ≡ b
   pub fits : bytesFit s ≡ true
   pub beyond : (j : ℕ) → bookBytes ≤ j → getD s j 0 ≡ getD s₀ j 0
 
 -- a sound book, written
-pub written-holds : (s : List ℕ) (b : Book) → Sound b → length (b .network .stations) ≡ 32 → bookBytes ≤ length s → Holds s (putBook s b) b
+pub written-holds : (s : List ℕ) (b : Book) → SoundParts b → length (b .network .stations) ≡ 32 → bookBytes ≤ length s → HoldsBook s (putBook s b) b
 written-holds s b o l room = record { reads = writes-reads s b o l room; fits = writes-fit s b o l room; beyond = writes-beyond s b o l room }
 
 -- ════ an edit keeps the station list
@@ -49,15 +49,15 @@ next-network b c = unless-either (λ (x : Book). x .network ≡ b .network) (boo
 
 -- ════ an edit or an undo: the bytes and the book as they were, or the next book written
 module _ (s₀ s : List ℕ) (fit : bytesFit s ≡ true) (kept : (j : ℕ) → bookBytes ≤ j → getD s j 0 ≡ getD s₀ j 0) where
-  leaves : (n : ℕ) (b : Book) → Sound (unless n (bookOf s) b) → length (unless n (bookOf s) b .network .stations) ≡ 32
-      → Holds s₀ (unless n s (putBook s (unless n (bookOf s) b))) (unless n (bookOf s) b)
+  leaves : (n : ℕ) (b : Book) → SoundParts (unless n (bookOf s) b) → length (unless n (bookOf s) b .network .stations) ≡ 32
+      → HoldsBook s₀ (unless n s (putBook s (unless n (bookOf s) b))) (unless n (bookOf s) b)
   unfolding unless
   leaves zero b o l =
       let w = written-holds s b o l (fits-room s fit) in
       record { reads = w .reads; fits = w .fits; beyond = λ j q. w .beyond j q ∙ kept j q }
   leaves (suc n) b o l = record { reads = refl; fits = fit; beyond = kept }
 
-  pub call-leaves : (c : Call) → Holds s₀ (bytesLeft s (outcome (bookOf s) c)) (bookNext (bookOf s) c)
+  pub call-leaves : (c : Call) → HoldsBook s₀ (bytesLeft s (outcome (bookOf s) c)) (bookNext (bookOf s) c)
   call-leaves c =
       let b = bookOf s in
       leaves (bookSays b c) (bookAccepts b c) (sound-next b (fits-sound s fit) c) (ap (λ (net : Network). length (net .stations)) (next-network b c) ∙ read-stations s)
@@ -69,7 +69,7 @@ call-applies s c n t fit e q =
 
 -- ════ an opening
 module _ (s : List ℕ) (room : bookBytes ≤ length s) where
-  pub opened-holds : (list : List ℤ) → stations.opens list ≡ true → Holds s (putBook s (openedBook (networkOf list))) (openedBook (networkOf list))
+  pub opened-holds : (list : List ℤ) → stations.opens list ≡ true → HoldsBook s (putBook s (openedBook (networkOf list))) (openedBook (networkOf list))
   unfolding networkOf
   opened-holds list e = written-holds s (openedBook (networkOf list)) (sound-opened (networkOf list) (opened-fits list e)) (length-tabulate 32 _) room
 

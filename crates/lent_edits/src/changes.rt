@@ -21,12 +21,12 @@ fn enter(s: &mut [u8], i: usize, r: Record)
     let old = layout::record_in(s, i);
     let next = layout::next_in(s);
     let after = book::slot_after(next);
-    let held = book::one_more(layout::held_in(s));
+    let count = book::one_more(layout::journal_count_in(s));
     let u = Reversal {
         place: i,
         prior: old,
     };
-    layout::put(s, i, r, next, u, after, held);
+    layout::put(s, i, r, next, u, after, count);
 }
 
 // The edit, unless it is refused.
@@ -46,16 +46,16 @@ fn change_place(s: &mut [u8], place: i64, change: Change) -> u64
 {
     let net = layout::network_in(s);
     let i = words::index_in(place, Unit::PLACES);
-    let held = layout::record_in(s, i);
-    let n = book::edit_no(net, place, change, held);
+    let current = layout::record_in(s, i);
+    let n = book::edit_no(net, place, change, current);
     let r = book::puts_of(change);
     settle(s, n, i, r);
     n
 }
 
 // The latest edit comes off the journal, and its place holds again what it held before.
-fn restore(s: &mut [u8], held: usize)
-    requires { ⌜ (bytesFit (now s) ≡ true) × (held ≡ bookOf (now s) .journal .held) × (0 < held) ⌝ }
+fn restore(s: &mut [u8], count: usize)
+    requires { ⌜ (bytesFit (now s) ≡ true) × (count ≡ bookOf (now s) .journal .count) × (0 < count) ⌝ }
     ensures { λ _. ⌜ now (s .exit) ≡ putBook (now (s .entry)) (undone (bookOf (now (s .entry)))) ⌝ }
 {
     let next = layout::next_in(s);
@@ -68,7 +68,7 @@ fn restore(s: &mut [u8], held: usize)
         place: 0,
         prior: none,
     };
-    layout::put(s, place, prior, slot, free, slot, held - 1);
+    layout::put(s, place, prior, slot, free, slot, count - 1);
 }
 
 // Takes the latest edit back.
@@ -76,11 +76,11 @@ fn undo(s: &mut [u8]) -> u64
     requires { ⌜ bytesFit (now s) ≡ true ⌝ }
     ensures { λ n. ⌜ (n ≡ bookSays (bookOf (now (s .entry))) Call.Undo) × (now (s .exit) ≡ bytesLeft (now (s .entry)) (outcome (bookOf (now (s .entry))) Call.Undo)) ⌝ }
 {
-    let held = layout::held_in(s);
-    if held == 0 {
+    let count = layout::journal_count_in(s);
+    if count == 0 {
         return 8;
     }
-    restore(s, held);
+    restore(s, count);
     0
 }
 

@@ -10,7 +10,7 @@ use lib.Dec.{eqb}
 use Rattle.words.specs.Bools.{clash, and-left, and-right, and-both}
 use Rattle.network.specs.declared.Station.{Station}
 use Rattle.network.specs.Stations.{unknown, number, unknownCount, componentFrom, componentOf}
-use Rattle.network.specs.StationLaws.{bit, number-0, number-suc, number-below, number-apart}
+use Rattle.network.specs.StationLaws.{unknown-bit, number-0, number-suc, number-below, number-apart}
 
 -- component p, before q, is the unknown i
 pub record Unknown (st : List Station) (q i p : ℕ) : Type 0 where
@@ -60,7 +60,7 @@ module _ (st : List Station) (i : ℕ) where
     where
       go : (i < number st q → ((p : ℕ) × Unknown st q i p)) → Dec (i < number st q) → ((p : ℕ) × Unknown st (suc q) i p)
       go rest (yes k) = let x = rest k in (x .0, record { below = let b = x .1 .below in omega arith; is = x .1 .is; numbered = x .1 .numbered })
-      go rest (no k) = (q, record { below = omega arith; is = omega (arith, number-suc st q, bit st q); numbered = omega (arith, number-suc st q, bit st q) })
+      go rest (no k) = (q, record { below = omega arith; is = omega (arith, number-suc st q, unknown-bit st q); numbered = omega (arith, number-suc st q, unknown-bit st q) })
 
 module _ (st : List Station) where
   -- the component with the number of the unknown q is q

@@ -12,7 +12,7 @@ use lib.IntN.{ℤ, pos}
 use Rattle.integers.specs.Tables.{tabulate, getD-tabulate}
 use Rattle.words.specs.Signed.{indexIn}
 use Rattle.lists.specs.All.{Each, each, each-by, all-by}
-use Rattle.network.specs.Stations.{stationAt, blank, kindAt, stationIn, networkOf, countFits, coordinatesFit, unknownsFit, kindsFit, wholeStations, opens, isKnown, isBlank, blankBeyond, networkFits}
+use Rattle.network.specs.Stations.{stationAt, blankStation, kindAt, stationIn, networkOf, countFits, coordinatesFit, unknownsFit, kindsFit, wholeStations, opens, isKnown, isBlank, blankBeyond, networkFits}
 
 module _ (list : List ℤ) (e : opens list ≡ true) where
   tests : Each (wholeStations list ∷ countFits (length list / 4) ∷ kindsFit list ∷ coordinatesFit (networkOf list .stations) ∷ unknownsFit (networkOf list .stations) ∷ [])
@@ -27,7 +27,7 @@ module _ (list : List ℤ) (e : opens list ≡ true) where
       let g : length list ≤ i = omega arith in
       List·getD-eq-default list (pos 0) {n = i} g
 
-  blank-station : (s : ℕ) → length list / 4 ≤ s → stationIn list s ≡ blank
+  blank-station : (s : ℕ) → length list / 4 ≤ s → stationIn list s ≡ blankStation
   unfolding stationIn kindAt indexIn
   blank-station s h =
       rw (beyond s (s * 4) h (omega arith), beyond s (s * 4 + 1) h (omega arith), beyond s (s * 4 + 2) h (omega arith), beyond s (s * 4 + 3) h (omega arith))
@@ -40,7 +40,7 @@ module _ (list : List ℤ) (e : opens list ≡ true) where
       one s h (yes p) = rw (lt-ltb s (length list / 4) p)
       one s h (no p) =
           let q : length list / 4 ≤ s = omega arith in
-          rw (le-ltb s (length list / 4) q, getD-tabulate 32 (stationIn list) s blank h, blank-station s q)
+          rw (le-ltb s (length list / 4) q, getD-tabulate 32 (stationIn list) s blankStation h, blank-station s q)
 
   pub opened-fits : networkFits (networkOf list) ≡ true
   unfolding networkFits networkOf

@@ -110,19 +110,19 @@ in-list count (pos (suc k)) h e =
 in-list count (negsuc k) h e = clash e refl
 
 module _ (count : ℕ) (from to : ℤ) (few : count ≤ 32) (e : endsFit count from to ≡ true) where
-  pub ends : Each (inList count from ∷ inList count to ∷ not (eqZ from to) ∷ [])
+  pub ends-each : Each (inList count from ∷ inList count to ∷ not (eqZ from to) ∷ [])
   unfolding endsFit
-  ends = each (inList count from ∷ inList count to ∷ not (eqZ from to) ∷ []) e
+  ends-each = each (inList count from ∷ inList count to ∷ not (eqZ from to) ∷ []) e
 
   pub from-in-list : indexIn from 32 < 32
-  from-in-list = let h = in-list count from few (ends .0) in omega arith
+  from-in-list = let h = in-list count from few (ends-each .0) in omega arith
 
   pub to-in-list : indexIn to 32 < 32
-  to-in-list = let h = in-list count to few (ends .1 .0) in omega arith
+  to-in-list = let h = in-list count to few (ends-each .1 .0) in omega arith
 
   pub ends-apart : indexIn from 32 ≡ indexIn to 32 → ⊥
   ends-apart q =
-      eqZ-false from to (not-true (eqZ from to) (ends .1 .1 .0))
+      eqZ-false from to (not-true (eqZ from to) (ends-each .1 .1 .0))
       (index-number from 32 from-in-list ∙ ap (λ (k : ℕ). pos (suc k)) q ∙ sym (index-number to 32 to-in-list))
 
 -- ════ a record by the rules

@@ -25,9 +25,9 @@ bit-in Height c = go (eqb c 2)
     go false = let e : 0 ≤ 1 = omega arith in e
 
 module _ (st : List Station) where
-  pub bit : (q : ℕ) → unknown st q ≤ 1
+  pub unknown-bit : (q : ℕ) → unknown st q ≤ 1
   unfolding unknown
-  bit q = bit-in (stationAt st (q / 3) .kind) (q % 3)
+  unknown-bit q = bit-in (stationAt st (q / 3) .kind) (q % 3)
 
   -- component c of station s
   pub unknown-at : (s c : ℕ) → c < 3 → unknown st (s * 3 + c) ≡ unknownIn (stationAt st s .kind) c
@@ -47,7 +47,7 @@ module _ (st : List Station) where
 
   pub number-small : (q : ℕ) → number st q ≤ q
   number-small zero = omega (arith, number-0)
-  number-small (suc q) = omega (arith, number-suc q, number-small q, bit q)
+  number-small (suc q) = omega (arith, number-suc q, number-small q, unknown-bit q)
 
   -- numbers rise: by d steps
   rise : (q d : ℕ) → number st q ≤ number st (q + d)
@@ -73,8 +73,8 @@ module _ (st : List Station) where
       go (yes h) = let g = number-below p q h u in omega arith
       go (no h) = let w : q < p = omega arith in let g = number-below q p w v in omega arith
 
-  pub bit-cases : (q : ℕ) → (unknown st q ≡ 0) ⊎ (unknown st q ≡ 1)
-  bit-cases q = go (unknown st q) (bit q)
+  pub unknown-cases : (q : ℕ) → (unknown st q ≡ 0) ⊎ (unknown st q ≡ 1)
+  unknown-cases q = go (unknown st q) (unknown-bit q)
     where
       go : (b : ℕ) → b ≤ 1 → (b ≡ 0) ⊎ (b ≡ 1)
       go zero h = inl refl

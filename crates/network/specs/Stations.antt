@@ -24,11 +24,11 @@ unknownIn Free c = 1
 unknownIn Height c = cond (eqb c 2) 1 0
 
 -- what stands in the list beyond its last station
-abbrev pub blank : Station
-blank = record { kind = Known; east = pos 0; north = pos 0; up = pos 0 }
+abbrev pub blankStation : Station
+blankStation = record { kind = Known; east = pos 0; north = pos 0; up = pos 0 }
 
 abbrev pub stationAt : List Station → ℕ → Station
-stationAt stations s = getD stations s blank
+stationAt stations s = getD stations s blankStation
 
 -- ════ the unknowns: "corrections to provisional coordinates, by station number, then E, N, U"
 -- 1 where component q is unknown
@@ -53,8 +53,8 @@ abbrev pub componentOf : List Station → ℕ → ℕ
 componentOf stations i = componentFrom stations i 0 96
 
 -- the number of component q, and 0 for a held one
-unfoldable pub place : List Station → ℕ → ℕ
-place stations q = unknown stations q * number stations q
+unfoldable pub unknownIndex : List Station → ℕ → ℕ
+unknownIndex stations q = unknown stations q * number stations q
 
 -- ════ provisional coordinates
 unfoldable pub coordinateIn : Station → ℕ → ℤ

@@ -5,7 +5,7 @@ use super::Unit;
 ghost use mathlib.Core.Path.{_≡_};
 ghost use Prim.Native.Nat.{_≤_};
 ghost use lib.IntN.{pos};
-ghost use Rattle.network.specs.Stations.{unknownIn, unknown, number, place, componentOf, coordinateIn, coordinates};
+ghost use Rattle.network.specs.Stations.{unknownIn, unknown, number, unknownIndex, componentOf, coordinateIn, coordinates};
 ghost use Rattle.integers.specs.Tables.{tabulate};
 
 // 1 where the kind leaves component c unknown.
@@ -43,7 +43,7 @@ pub fn unknowns_of(stations: [Station; Unit::STATIONS]) -> [i64; Unit::COMPONENT
 
 // The number of each unknown, from 0, and 0 at a held component.
 pub fn numbers_of(stations: [Station; Unit::STATIONS]) -> [usize; Unit::COMPONENTS]
-    ensures { λ r. ⌜ r ≡ tabulate 96 (place stations) ⌝ }
+    ensures { λ r. ⌜ r ≡ tabulate 96 (unknownIndex stations) ⌝ }
 {
     let mut out = [0usize; Unit::COMPONENTS];
     let mut n = 0;

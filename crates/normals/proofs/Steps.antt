@@ -11,7 +11,7 @@ use Rattle.integers.specs.Solvers.{ring, shapes}
 use Rattle.integers.specs.Sums.{sum-ext, sum-0, δ}
 use Rattle.lists.specs.Stored.{stored}
 use Rattle.normals.specs.declared.Equation.{Equation}
-use Rattle.normals.specs.Equations.{Fit, endsOf, atOf, coefOf, weightOf, pairN, rowN}
+use Rattle.normals.specs.Equations.{EquationInRange, endsOf, atOf, coefOf, equationWeight, pairN, rowN}
 
 -- a turn of the loop over the ends f that adds end e's pairs to N
 pub record Turn (q : Equation) (e f : ℕ) (s : ℤ) (n : List ℤ) : Type 0 where
@@ -19,7 +19,7 @@ pub record Turn (q : Equation) (e f : ℕ) (s : ℤ) (n : List ℤ) : Type 0 whe
   pub row : atOf q e < 48
   pub column : atOf q f < 48
   pub coef : natAbs (coefOf q e) ≤ 1
-  pub weight : natAbs (weightOf q (e % 3) (f % 3)) ≤ 10000
+  pub weight : natAbs (equationWeight q (e % 3) (f % 3)) ≤ 10000
   pub other : natAbs (coefOf q f) ≤ 1
   pub entry : natAbs (getD n (atOf q e * 48 + atOf q f) (pos 0)) ≤ 2 ^ 41 + 60000
 
@@ -30,16 +30,16 @@ entry-by x s c w d hx hs hc hw hd = ringm (x ∷ s ∷ c ∷ w ∷ d ∷ []) (se
 pub entry-step : (q : Equation) (e f : ℕ) (s : ℤ) (n : List ℤ) → Turn q e f s n
     → stored
     (stored (getD n (atOf q e * 48 + atOf q f) (pos 0))
-    +ℤ stored (stored (stored (stored s *ℤ stored (coefOf q e)) *ℤ stored (weightOf q (e % 3) (f % 3))) *ℤ stored (coefOf q f)))
+    +ℤ stored (stored (stored (stored s *ℤ stored (coefOf q e)) *ℤ stored (equationWeight q (e % 3) (f % 3))) *ℤ stored (coefOf q f)))
     ≡ getD n (atOf q e * 48 + atOf q f) (pos 0) +ℤ stored s *ℤ pairN q e f
 entry-step q e f s n t =
-    entry-by (getD n (atOf q e * 48 + atOf q f) (pos 0)) s (coefOf q e) (weightOf q (e % 3) (f % 3)) (coefOf q f)
+    entry-by (getD n (atOf q e * 48 + atOf q f) (pos 0)) s (coefOf q e) (equationWeight q (e % 3) (f % 3)) (coefOf q f)
     (t .entry) (t .sign) (t .coef) (t .weight) (t .other)
 
 pub entry-fits : (q : Equation) (e f : ℕ) (s : ℤ) (n : List ℤ) → Turn q e f s n
     → SFits w64
     (stored (getD n (atOf q e * 48 + atOf q f) (pos 0))
-    +ℤ stored (stored (stored (stored s *ℤ stored (coefOf q e)) *ℤ stored (weightOf q (e % 3) (f % 3))) *ℤ stored (coefOf q f)))
+    +ℤ stored (stored (stored (stored s *ℤ stored (coefOf q e)) *ℤ stored (equationWeight q (e % 3) (f % 3))) *ℤ stored (coefOf q f)))
 entry-fits q e f s n t = fit (search code-bounds depth 12) tt
 
 -- the term of ends e and f
@@ -47,19 +47,19 @@ pub record Pair (q : Equation) (e f : ℕ) : Type 0 where
   pub row : atOf q e < 48
   pub column : atOf q f < 48
   pub coef : natAbs (coefOf q e) ≤ 1
-  pub weight : natAbs (weightOf q (e % 3) (f % 3)) ≤ 10000
+  pub weight : natAbs (equationWeight q (e % 3) (f % 3)) ≤ 10000
   pub other : natAbs (coefOf q f) ≤ 1
 
 pub pair-product : (q : Equation) (e f : ℕ) → Pair q e f
-    → stored (stored (stored (coefOf q e) *ℤ stored (weightOf q (e % 3) (f % 3))) *ℤ stored (coefOf q f)) ≡ pairN q e f
-pair-product q e f h = ringm (coefOf q e ∷ weightOf q (e % 3) (f % 3) ∷ coefOf q f ∷ []) (search code-shapes depth 16) tt
+    → stored (stored (stored (coefOf q e) *ℤ stored (equationWeight q (e % 3) (f % 3))) *ℤ stored (coefOf q f)) ≡ pairN q e f
+pair-product q e f h = ringm (coefOf q e ∷ equationWeight q (e % 3) (f % 3) ∷ coefOf q f ∷ []) (search code-shapes depth 16) tt
 
 -- the term of an end: its coefficient c, and its row p of P times the misclosures
 pub end-product : (c p : ℤ) → natAbs c ≤ 1 → natAbs p ≤ 3000000000 → stored (stored c *ℤ stored p) ≡ c *ℤ p
 end-product c p hc hp = ringm (c ∷ p ∷ []) (search code-shapes depth 12) tt
 
 -- the ends and weights of an equation in range are in range
-pub fit-ends : (q : Equation) → Fit q → Fit (endsOf (q .at) (q .coef) (q .weight))
+pub fit-ends : (q : Equation) → EquationInRange q → EquationInRange (endsOf (q .at) (q .coef) (q .weight))
 fit-ends q f = record { ends = f .ends; units = f .units; weights = f .weights; misclosures = λ a. zero-le }
 
 -- an end that is held adds nothing
@@ -67,8 +67,8 @@ pub row-held : (q : Equation) (e : ℕ) → coefOf q e ≡ pos 0 → (k : ℕ) �
 unfolding rowN
 row-held q e h k =
     sum-ext 6
-    (λ f l. ap (λ (c : ℤ). c *ℤ weightOf q (e % 3) (f % 3) *ℤ coefOf q f *ℤ δ (atOf q e * 48 + atOf q f) k) h
-    ∙ ring (weightOf q (e % 3) (f % 3) ∷ coefOf q f ∷ δ (atOf q e * 48 + atOf q f) k ∷ []) (search shapes) tt)
+    (λ f l. ap (λ (c : ℤ). c *ℤ equationWeight q (e % 3) (f % 3) *ℤ coefOf q f *ℤ δ (atOf q e * 48 + atOf q f) k) h
+    ∙ ring (equationWeight q (e % 3) (f % 3) ∷ coefOf q f ∷ δ (atOf q e * 48 + atOf q f) k ∷ []) (search shapes) tt)
     ∙ sum-0 6
 
 -- a row of P times the misclosures

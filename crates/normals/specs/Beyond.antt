@@ -10,7 +10,7 @@ use Rattle.integers.specs.Solvers.{ring, shapes}
 use Rattle.integers.specs.Sums.{sum, sum-ext, sum-0, δ, δ-other}
 use Rattle.words.specs.Bools.{true-or-false}
 use Rattle.network.specs.Stations.{unknown, number, unknownCount}
-use Rattle.network.specs.StationLaws.{bit-cases, number-below}
+use Rattle.network.specs.StationLaws.{unknown-cases, number-below}
 use Rattle.network.specs.Records.{acts, fromOf, toOf, joins, l, recordAt}
 use Rattle.network.specs.RuleLaws.{SoundRecord}
 use Rattle.network.specs.declared.Network.{Network}
@@ -19,7 +19,7 @@ use Rattle.network.specs.declared.Place.{Place}
 use Rattle.network.specs.declared.Record.{Record}
 use Rattle.normals.specs.Formulas.{P, isUnknown, A, shareN, shareU, entryN, entryU}
 use Rattle.normals.specs.Acting.{A-acting, A-not-acting}
-use Rattle.normals.specs.Sound.{Sound, record-sound}
+use Rattle.normals.specs.ByRules.{ByRules, record-sound}
 use Rattle.normals.specs.Symmetry.{N-sym}
 
 -- a sum of zeros
@@ -29,7 +29,7 @@ none n f h = sum-ext n h ∙ sum-0 n
 module _ (st : List Station) (i : ℕ) (h : unknownCount st ≤ i) where
   not-unknown : (q : ℕ) → q < 96 → isUnknown st q i ≡ pos 0
   unfolding isUnknown
-  not-unknown q o = go (bit-cases st q)
+  not-unknown q o = go (unknown-cases st q)
     where
       go : (unknown st q ≡ 0) ⊎ (unknown st q ≡ 1) → pos (unknown st q) *ℤ δ (number st q) i ≡ pos 0
       go (inl e) = ap (λ (b : ℕ). pos b *ℤ δ (number st q) i) e ∙ zero-*ℤ (δ (number st q) i)
@@ -64,7 +64,7 @@ module _ (st : List Station) (i : ℕ) (h : unknownCount st ≤ i) where
     shareU-beyond = nothing (l st r)
 
 -- document 01's unknowns are those below unknownCount
-module _ (net : Network) (places : List Place) (g : Sound net places) (i : ℕ) (h : unknownCount (net .stations) ≤ i) where
+module _ (net : Network) (places : List Place) (g : ByRules net places) (i : ℕ) (h : unknownCount (net .stations) ≤ i) where
   pub row-beyond : (j : ℕ) → entryN (net .stations) places i j ≡ pos 0
   unfolding entryN
   row-beyond j = none 256 _ (λ p o. shareN-beyond (net .stations) i h (recordAt places p) (record-sound net places g p o) j)

@@ -11,7 +11,7 @@ use lib.IntN.{ℤ, pos, natAbs, _-ℤ_, _*ℤ_, zero-*ℤ}
 use Rattle.integers.specs.Bounds.{abs--, abs-*}
 use Rattle.integers.specs.Sums.{sumN, sumN-mono, sumN-first, sumN-const, sumN-+, sumN-swap, δ, δ-other}
 use Rattle.network.specs.Stations.{unknown, number}
-use Rattle.network.specs.StationLaws.{bit, bit-cases, number-suc}
+use Rattle.network.specs.StationLaws.{unknown-bit, unknown-cases, number-suc}
 use Rattle.network.specs.Records.{acts, joins, joins-one, fromOf, toOf}
 use Rattle.network.specs.declared.Station.{Station}
 use Rattle.network.specs.declared.Record.{Record}
@@ -48,7 +48,7 @@ module _ (st : List Station) where
 
   hit-δ : (i q : ℕ) → hit i q ≤ natAbs (δ (number st q) i)
   unfolding isUnknown
-  hit-δ i q = omega (arith, abs-* (pos (unknown st q)) (δ (number st q) i), mul-le-mul (bit st q) (le-refl (natAbs (δ (number st q) i))))
+  hit-δ i q = omega (arith, abs-* (pos (unknown st q)) (δ (number st q) i), mul-le-mul (unknown-bit st q) (le-refl (natAbs (δ (number st q) i))))
 
   hit-held : (i q : ℕ) → unknown st q ≡ 0 → hit i q ≡ 0
   unfolding isUnknown
@@ -58,7 +58,7 @@ module _ (st : List Station) where
   once : (i m : ℕ) → (sumN m (hit i) ≤ 1) × (number st m ≤ i → sumN m (hit i) ≡ 0)
   unfolding sumN
   once i zero = (omega arith, λ h. refl)
-  once i (suc m) = go (once i m) (bit-cases st m) (ℕ-discrete (number st m) i)
+  once i (suc m) = go (once i m) (unknown-cases st m) (ℕ-discrete (number st m) i)
     where
       go : (sumN m (hit i) ≤ 1) × (number st m ≤ i → sumN m (hit i) ≡ 0) → (unknown st m ≡ 0) ⊎ (unknown st m ≡ 1) → Dec (number st m ≡ i)
           → (sumN m (hit i) + hit i m ≤ 1) × (number st (suc m) ≤ i → sumN m (hit i) + hit i m ≡ 0)

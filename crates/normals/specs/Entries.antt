@@ -11,11 +11,11 @@ use Rattle.network.specs.declared.Station.{Station}
 use Rattle.network.specs.declared.Place.{Place}
 use Rattle.normals.specs.declared.Normals.{Normals}
 use Rattle.normals.specs.Formulas.{entryN, entryU, matrixOf, rightOf, normalsOf}
-use Rattle.normals.specs.Sound.{Sound}
+use Rattle.normals.specs.ByRules.{ByRules}
 use Rattle.normals.specs.Sizes.{N-entry, u-entry}
 
 -- lists as long as the arrays
-pub record Sized (x : Normals) : Type 0 where
+pub record SizedNormals (x : Normals) : Type 0 where
   pub matrix : length (x .matrix) ≡ 2304
   pub right : length (x .right) ≡ 48
 
@@ -30,7 +30,7 @@ module _ (st : List Station) (places : List Place) where
   pub right-at : (i : ℕ) → i < 48 → getD (rightOf st places) i (pos 0) ≡ entryU st places i
   right-at i h = getD-tabulate 48 _ i (pos 0) h
 
-module _ (net : Network) (places : List Place) (g : Sound net places) where
+module _ (net : Network) (places : List Place) (g : ByRules net places) where
   pub matrix-within : Within 2304 2560000 (matrixOf (net .stations) places)
   matrix-within = within-tabulate 2304 2560000 _ (λ k h. N-entry net places g (k / 48) (k % 48))
 

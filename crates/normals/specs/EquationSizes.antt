@@ -8,7 +8,7 @@ use lib.IntN.{pos, natAbs, _*ℤ_}
 use Rattle.integers.specs.Bounds.{bounds, absle}
 use Rattle.integers.specs.Sums.{sum, δ, abs-sum-const}
 use Rattle.normals.specs.declared.Equation.{Equation}
-use Rattle.normals.specs.Equations.{Fit, atOf, coefOf, weightOf, misclosureOf, pairN, rowN, blockN, weighted, blockU}
+use Rattle.normals.specs.Equations.{EquationInRange, atOf, coefOf, equationWeight, misclosureOf, pairN, rowN, blockN, weighted, blockU}
 
 pub abs-δ : (i k : ℕ) → natAbs (δ i k) ≤ 1
 abs-δ i k = go (eqb i k)
@@ -17,7 +17,7 @@ abs-δ i k = go (eqb i k)
     go true = let e : 1 ≤ 1 = omega arith in e
     go false = let e : 0 ≤ 1 = omega arith in e
 
-module _ (q : Equation) (h : Fit q) where
+module _ (q : Equation) (h : EquationInRange q) where
   pub pair-size : (e f : ℕ) → natAbs (pairN q e f) ≤ 10000
   pair-size e f =
       let a = h .units e in let b = h .weights (e % 3 * 3 + f % 3) in let c = h .units f in
@@ -39,7 +39,7 @@ module _ (q : Equation) (h : Fit q) where
   unfolding weighted
   weighted-size a =
       abs-sum-const 3 _ 1000000000 (λ b r. let x = h .weights (a * 3 + b) in let y = h .misclosures b in
-      absle (weightOf q a b *ℤ misclosureOf q b) (search bounds) (omega arith))
+      absle (equationWeight q a b *ℤ misclosureOf q b) (search bounds) (omega arith))
 
   pub right-size : (m k : ℕ) → m ≤ 6 → natAbs (sum m (λ e. coefOf q e *ℤ weighted q (e % 3) *ℤ δ (atOf q e) k)) ≤ 18000000000
   right-size m k l =

@@ -14,14 +14,14 @@ atOf q e = getD (q .at) e 0
 abbrev pub coefOf : Equation → ℕ → ℤ
 coefOf q e = getD (q .coef) e (pos 0)
 
-abbrev pub weightOf : Equation → ℕ → ℕ → ℤ
-weightOf q a b = getD (q .weight) (a * 3 + b) (pos 0)
+abbrev pub equationWeight : Equation → ℕ → ℕ → ℤ
+equationWeight q a b = getD (q .weight) (a * 3 + b) (pos 0)
 
 abbrev pub misclosureOf : Equation → ℕ → ℤ
 misclosureOf q a = getD (q .misclosure) a (pos 0)
 
 -- what keeps the code in range
-pub record Fit (q : Equation) : Type 0 where
+pub record EquationInRange (q : Equation) : Type 0 where
   pub ends : (e : ℕ) → atOf q e < 48
   pub units : (e : ℕ) → natAbs (coefOf q e) ≤ 1
   pub weights : (k : ℕ) → natAbs (getD (q .weight) k (pos 0)) ≤ 10000
@@ -29,7 +29,7 @@ pub record Fit (q : Equation) : Type 0 where
 
 -- ends e and f, at their entry of N
 abbrev pub pairN : Equation → ℕ → ℕ → ℤ
-pairN q e f = coefOf q e *ℤ weightOf q (e % 3) (f % 3) *ℤ coefOf q f
+pairN q e f = coefOf q e *ℤ equationWeight q (e % 3) (f % 3) *ℤ coefOf q f
 
 -- end e with each of the six, at entry k of N
 unfoldable pub rowN : Equation → ℕ → ℕ → ℤ
@@ -45,15 +45,15 @@ endsOf at coef weight = record { at = at; coef = coef; weight = weight; misclosu
 
 -- row a of P times the misclosures
 unfoldable pub weighted : Equation → ℕ → ℤ
-weighted q a = sum 3 (λ b. weightOf q a b *ℤ misclosureOf q b)
+weighted q a = sum 3 (λ b. equationWeight q a b *ℤ misclosureOf q b)
 
 -- the six ends, at entry k of u
 unfoldable pub blockU : Equation → ℕ → ℤ
 blockU q k = sum 6 (λ e. coefOf q e *ℤ weighted q (e % 3) *ℤ δ (atOf q e) k)
 
 -- ════ a record's equations, from tables over the 96 components: numbers of the unknowns, 1 where unknown, provisional coordinates
-abbrev pub ends : List ℕ → ℕ → ℕ → List ℕ
-ends at f t = getD at (f * 3) 0 ∷ getD at (f * 3 + 1) 0 ∷ getD at (f * 3 + 2) 0 ∷ getD at (t * 3) 0 ∷ getD at (t * 3 + 1) 0 ∷ getD at (t * 3 + 2) 0 ∷ []
+abbrev pub endIndices : List ℕ → ℕ → ℕ → List ℕ
+endIndices at f t = getD at (f * 3) 0 ∷ getD at (f * 3 + 1) 0 ∷ getD at (f * 3 + 2) 0 ∷ getD at (t * 3) 0 ∷ getD at (t * 3 + 1) 0 ∷ getD at (t * 3 + 2) 0 ∷ []
 
 -- ±1 at the unknowns of all three components: in one in which the record does not act its weights are 0, so that nothing is added (Shares)
 abbrev pub coefs : List ℤ → ℤ → ℕ → ℕ → List ℤ
@@ -63,4 +63,4 @@ coefs un g f t =
 
 abbrev pub equationOf : List ℕ → List ℤ → List ℤ → Record → Equation
 equationOf at un co r =
-    record { at = ends at (fromOf r) (toOf r); coef = coefs un (joins r) (fromOf r) (toOf r); weight = weights r; misclosure = misclosures co r }
+    record { at = endIndices at (fromOf r) (toOf r); coef = coefs un (joins r) (fromOf r) (toOf r); weight = weights r; misclosure = misclosures co r }

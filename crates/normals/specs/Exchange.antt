@@ -19,7 +19,7 @@ use Rattle.network.specs.declared.Place.{Place}
 use Rattle.network.specs.declared.Record.{Record}
 use Rattle.normals.specs.declared.Normals.{Normals}
 use Rattle.normals.specs.Formulas.{shareN, shareU, entryN, entryU, matrixOf, rightOf, normalsOf}
-use Rattle.normals.specs.Sound.{Sound, changed}
+use Rattle.normals.specs.ByRules.{ByRules, placesWith}
 use Rattle.normals.specs.Equations.{blockN, blockU}
 use Rattle.normals.specs.Shares.{equation, block-share, block-right, equation-fits}
 use Rattle.normals.specs.Entries.{matrix-within, right-within}
@@ -46,16 +46,16 @@ pub record Exchangeable (net : Network) (o r : Record) (n u : List ℤ) : Type 0
   pub matrix : Within 2304 2560000 n
   pub right : Within 48 768000000000 u
 
-pub exchangeable : (net : Network) (places : List Place) (p : ℕ) (r : Record) → Sound net places → p < 256 → recordFits net r ≡ true
+pub exchangeable : (net : Network) (places : List Place) (p : ℕ) (r : Record) → ByRules net places → p < 256 → recordFits net r ≡ true
     → Exchangeable net (recordAt places p) r (matrixOf (net .stations) places) (rightOf (net .stations) places)
 exchangeable net places p r g h e = record { network = g .network; old = g .each p h; new = e; matrix = matrix-within net places g; right = right-within net places g }
 
 -- any sum over the places of a function of the record
 change : (places : List Place) (p : ℕ) (r : Record) (f : Record → ℤ) → p < 256 → length places ≡ 256
-    → sum 256 (λ x. f (recordAt places x)) +ℤ negsuc 0 *ℤ f (recordAt places p) +ℤ pos 1 *ℤ f r ≡ sum 256 (λ x. f (recordAt (changed places p r) x))
+    → sum 256 (λ x. f (recordAt places x)) +ℤ negsuc 0 *ℤ f (recordAt places p) +ℤ pos 1 *ℤ f r ≡ sum 256 (λ x. f (recordAt (placesWith places p r) x))
 change places p r f h e =
     sym
-    (sum-set 256 p (λ x. f (recordAt places x)) (λ x. f (recordAt (changed places p r) x)) h
+    (sum-set 256 p (λ x. f (recordAt places x)) (λ x. f (recordAt (placesWith places p r) x)) h
     (λ i ne. ap (λ (q : Place). f (q .entry)) (getD-set-other places p i (record { entry = r }) vacant ne))
     ∙ ap (λ (q : Place). sum 256 (λ x. f (recordAt places x)) +ℤ (f (q .entry) -ℤ f (recordAt places p)))
     (getD-set-same places p (record { entry = r }) vacant (subst (λ (n : ℕ). p < n) (sym e) h))
@@ -64,7 +64,7 @@ change places p r f h e =
 -- a table of such sums
 table : (n : ℕ) (places : List Place) (p : ℕ) (r : Record) (f : Record → ℕ → ℤ) → p < 256 → length places ≡ 256
     → plus n (plus n (tabulate n (λ k. sum 256 (λ x. f (recordAt places x) k))) (negsuc 0) (f (recordAt places p))) (pos 1) (f r)
-    ≡ tabulate n (λ k. sum 256 (λ x. f (recordAt (changed places p r) x) k))
+    ≡ tabulate n (λ k. sum 256 (λ x. f (recordAt (placesWith places p r) x) k))
 table n places p r f h e =
     is-tabulate n _ _ (pos 0) (plus-length n _ (pos 1) (f r))
     (λ k l. plus-at n _ (pos 1) (f r) k l
@@ -74,15 +74,15 @@ table n places p r f h e =
 
 -- N and u of the places, with the record of place p exchanged for r, are those of the changed places
 module _ (st : List Station) (places : List Place) (p : ℕ) (r : Record) (h : p < 256) (e : length places ≡ 256) where
-  pub exchange-N : exchangedN st (recordAt places p) r (matrixOf st places) ≡ matrixOf st (changed places p r)
+  pub exchange-N : exchangedN st (recordAt places p) r (matrixOf st places) ≡ matrixOf st (placesWith places p r)
   unfolding entryN exchangedN
   exchange-N = table 2304 places p r (shareAt st) h e
 
-  pub exchange-u : exchangedU st (recordAt places p) r (rightOf st places) ≡ rightOf st (changed places p r)
+  pub exchange-u : exchangedU st (recordAt places p) r (rightOf st places) ≡ rightOf st (placesWith places p r)
   unfolding entryU exchangedU
   exchange-u = table 48 places p r (shareU st) h e
 
-  pub exchange-is : exchanged st (recordAt places p) r (normalsOf st places) ≡ normalsOf st (changed places p r)
+  pub exchange-is : exchanged st (recordAt places p) r (normalsOf st places) ≡ normalsOf st (placesWith places p r)
   exchange-is = λ i. record { matrix = exchange-N i; right = exchange-u i }
 
 -- what the code adds for a record is its share

@@ -14,8 +14,8 @@ use Rattle.network.specs.declared.Network.{Network}
 use Rattle.network.specs.declared.Station.{Station}
 use Rattle.network.specs.declared.Place.{Place}
 use Rattle.normals.specs.Formulas.{shareN, shareU}
-use Rattle.normals.specs.Sound.{Sound, record-sound}
-use Rattle.normals.specs.Equations.{Fit, blockN, blockU}
+use Rattle.normals.specs.ByRules.{ByRules, record-sound}
+use Rattle.normals.specs.Equations.{EquationInRange, blockN, blockU}
 use Rattle.normals.specs.Shares.{equation, block-share, block-right, equation-fits}
 use Rattle.normals.specs.ShareSizes.{share-entry, share-u}
 
@@ -38,12 +38,12 @@ module _ (st : List Station) (places : List Place) where
   unfolding firstU
   firstU-0 = zeros-tabulate 48 48 _ refl (λ k l. sum-zero _)
 
-module _ (net : Network) (places : List Place) (g : Sound net places) where
+module _ (net : Network) (places : List Place) (g : ByRules net places) where
   rules : (p : ℕ) → p < 256 → SoundRecord (net .stations) (recordAt places p)
   rules = record-sound net places g
 
   module _ (m : ℕ) (h : m < 256) where
-    pub fits-at : Fit (equation (net .stations) (recordAt places m))
+    pub fits-at : EquationInRange (equation (net .stations) (recordAt places m))
     fits-at = equation-fits (net .stations) (sound-stations net (g .network)) (recordAt places m) (rules m h)
 
     pub firstN-more : plus 2304 (firstN (net .stations) places m) (pos 1) (blockN (equation (net .stations) (recordAt places m))) ≡ firstN (net .stations) places (m + 1)

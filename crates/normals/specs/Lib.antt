@@ -1,6 +1,6 @@
 -- What a reader must believe: N and u as document 01 has them, and what the contracts ask. Blank, Exchange and Same also define what contracts cite.
 pub mod Formulas
-pub mod Sound
+pub mod ByRules
 -- Laws of N and u, for the crates above.
 pub mod WholeMatrices
 pub mod Symmetry

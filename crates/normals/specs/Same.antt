@@ -4,12 +4,12 @@ use mathlib.Core.Bool.{Bool, true, _&&_}
 use Rattle.words.specs.Bools.{and-left, and-right, and-both}
 use Rattle.lists.specs.Same.{sameEntries, same-list, list-same}
 use Rattle.normals.specs.declared.Normals.{Normals}
-use Rattle.normals.specs.Entries.{Sized}
+use Rattle.normals.specs.Entries.{SizedNormals}
 
 unfoldable pub sameNormals : Normals → Normals → Bool
 sameNormals x y = sameEntries 2304 (x .matrix) (y .matrix) && sameEntries 48 (x .right) (y .right)
 
-pub same-equal : (x y : Normals) → Sized x → Sized y → sameNormals x y ≡ true → x ≡ y
+pub same-equal : (x y : Normals) → SizedNormals x → SizedNormals y → sameNormals x y ≡ true → x ≡ y
 unfolding sameNormals
 same-equal x y g h e =
     let m : x .matrix ≡ y .matrix = same-list 2304 _ _ (g .matrix) (h .matrix) (and-left (sameEntries 2304 (x .matrix) (y .matrix)) (sameEntries 48 (x .right) (y .right)) e) in

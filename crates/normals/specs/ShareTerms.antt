@@ -13,7 +13,7 @@ use Rattle.integers.specs.Bounds.{bounds, absle}
 use Rattle.integers.specs.Sums.{sum, sum-zero, sum-suc, sum-ext, sum-0, sum-join, abs-sum-const, δ, δ-same, δ-other}
 use Rattle.normals.specs.declared.Equation.{Equation}
 use Rattle.normals.specs.declared.ShareTerm.{ShareTerm}
-use Rattle.normals.specs.Equations.{Fit, atOf, coefOf, pairN, rowN, blockN, weighted, blockU}
+use Rattle.normals.specs.Equations.{EquationInRange, atOf, coefOf, pairN, rowN, blockN, weighted, blockU}
 use Rattle.normals.specs.EquationSizes.{abs-δ, pair-size, weighted-size}
 
 -- ends e and f, at their entry of N
@@ -45,7 +45,7 @@ unfolding term
 end-term q j h = rw (le-ltb j 36 h)
 
 -- ════ sizes
-module _ (q : Equation) (h : Fit q) where
+module _ (q : Equation) (h : EquationInRange q) where
   pair-inside : (e f : ℕ) → pairTerm q e f .entry < 2304
   pair-inside e f = let a = h .ends e in let b = h .ends f in omega arith
 
@@ -89,7 +89,7 @@ sum-rows (suc m) g =
     go (yes e) = ap (λ (j : ℕ). δ (at + j) (at + k)) e ∙ δ-same (at + k) ∙ sym (ap (λ (j : ℕ). δ j k) e ∙ δ-same k)
     go (no e) = δ-other (at + i) (at + k) (λ g. e (omega arith)) ∙ sym (δ-other i k e)
 
-module _ (at : ℕ) (q : Equation) (h : Fit q) where
+module _ (at : ℕ) (q : Equation) (h : EquationInRange q) where
   -- the terms of N, and those of u
   parts : (k : ℕ) → shareFrom at q k ≡ sum 36 (λ j. pairN q (j / 6) (j % 6) *ℤ δ (at + pairTerm q (j / 6) (j % 6) .entry) k) +ℤ sum 6 (λ e. endTerm q e .amount *ℤ δ (at + endTerm q e .entry) k)
   unfolding shareFrom

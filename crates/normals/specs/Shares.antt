@@ -12,8 +12,8 @@ use Rattle.integers.specs.Solvers.{ring, shapes}
 use Rattle.integers.specs.Bounds.{bounds, absle}
 use Rattle.integers.specs.Sums.{sum, sum-ext, sum-*r, δ, δ-same, δ-other}
 use Rattle.integers.specs.Tables.{tabulate, getD-tabulate, Within, within-tabulate}
-use Rattle.network.specs.Stations.{unknown, number, place, coordinates}
-use Rattle.network.specs.StationLaws.{bit, bit-cases, number-below}
+use Rattle.network.specs.Stations.{unknown, number, unknownIndex, coordinates}
+use Rattle.network.specs.StationLaws.{unknown-bit, unknown-cases, number-below}
 use Rattle.network.specs.Records.{acts, joins, joins-one, fromOf, toOf}
 use Rattle.network.specs.RecordLaws.{Observed}
 use Rattle.network.specs.RuleLaws.{SoundRecord, SoundStations}
@@ -22,7 +22,7 @@ use Rattle.network.specs.declared.Record.{Record}
 use Rattle.normals.specs.declared.Equation.{Equation}
 use Rattle.normals.specs.Formulas.{isUnknown, A, shareN, shareU}
 use Rattle.normals.specs.Acting.{A-acting, acting-only}
-use Rattle.normals.specs.Equations.{Fit, atOf, coefOf, weightOf, misclosureOf, pairN, rowN, blockN, weighted, blockU, equationOf}
+use Rattle.normals.specs.Equations.{EquationInRange, atOf, coefOf, equationWeight, misclosureOf, pairN, rowN, blockN, weighted, blockU, equationOf}
 
 -- a sum over six ends, by components
 by-components : (w Y : ℕ → ℤ) → sum 6 (λ f. w (f % 3) *ℤ Y f) ≡ sum 3 (λ b. w b *ℤ (Y b +ℤ Y (b + 3)))
@@ -42,7 +42,7 @@ pub δ-pair : (a b k : ℕ) → b < 48 → δ (a * 48 + b) k ≡ δ a (k / 48) *
 
 -- ════ the tables over the 96 components, and a record's equations by them
 abbrev pub numbers : List Station → List ℕ
-numbers st = tabulate 96 (place st)
+numbers st = tabulate 96 (unknownIndex st)
 
 abbrev pub unknowns : List Station → List ℤ
 unknowns st = tabulate 96 (λ q. pos (unknown st q))
@@ -63,10 +63,10 @@ abbrev rowAt : Equation → ℕ → ℕ → ℤ
 rowAt q i a = endAt q i a +ℤ endAt q i (a + 3)
 
 module _ (st : List Station) where
-  -- a held component has the coefficient 0, so its place may be 0 too
-  held-or-not : (q i : ℕ) → pos (unknown st q) *ℤ δ (place st q) i ≡ isUnknown st q i
-  unfolding place isUnknown
-  held-or-not q i = go (bit-cases st q)
+  -- a held component has the coefficient 0, so its index may be 0 too
+  held-or-not : (q i : ℕ) → pos (unknown st q) *ℤ δ (unknownIndex st q) i ≡ isUnknown st q i
+  unfolding unknownIndex isUnknown
+  held-or-not q i = go (unknown-cases st q)
     where
       go : (unknown st q ≡ 0) ⊎ (unknown st q ≡ 1) → pos (unknown st q) *ℤ δ (unknown st q * number st q) i ≡ pos (unknown st q) *ℤ δ (number st q) i
       go (inl e) = ap (λ (b : ℕ). pos b *ℤ δ (b * number st q) i) e ∙ zero-*ℤ (δ (0 * number st q) i) ∙ sym (ap (λ (b : ℕ). pos b *ℤ δ (number st q) i) e ∙ zero-*ℤ (δ (number st q) i))
@@ -76,7 +76,7 @@ module _ (st : List Station) where
   table-at : (p q i : ℕ) → p ≡ q → q < 96 → getD (unknowns st) p (pos 0) *ℤ δ (getD (numbers st) p 0) i ≡ isUnknown st q i
   table-at p q i e h =
       ap (λ (j : ℕ). getD (unknowns st) j (pos 0) *ℤ δ (getD (numbers st) j 0) i) e
-      ∙ ap₂ _*ℤ_ (getD-tabulate 96 (λ q. pos (unknown st q)) q (pos 0) h) (ap (λ (j : ℕ). δ j i) (getD-tabulate 96 (place st) q 0 h))
+      ∙ ap₂ _*ℤ_ (getD-tabulate 96 (λ q. pos (unknown st q)) q (pos 0) h) (ap (λ (j : ℕ). δ j i) (getD-tabulate 96 (unknownIndex st) q 0 h))
       ∙ held-or-not q i
 
   -- the from end and the to end of one component
@@ -95,18 +95,18 @@ module _ (st : List Station) where
     ends-A i (suc (suc (suc a))) h e = absurd (omega arith)
 
     -- the share of N
-    pub block-share : Fit (equation st r) → (k : ℕ) → blockN (equation st r) k ≡ shareN st r (k / 48) (k % 48)
+    pub block-share : EquationInRange (equation st r) → (k : ℕ) → blockN (equation st r) k ≡ shareN st r (k / 48) (k % 48)
     unfolding blockN rowN shareN
     block-share g k =
         sum-ext 6 (λ e p.
         sum-ext 6 (λ f o.
         ap (λ (z : ℤ). pairN q e f *ℤ z) (δ-pair (atOf q e) (atOf q f) k (g .ends f))
-        ∙ ring (coefOf q e ∷ weightOf q (e % 3) (f % 3) ∷ coefOf q f ∷ δ (atOf q e) i ∷ δ (atOf q f) j ∷ []) (search shapes depth 8) tt)
-        ∙ sum-*r 6 (endAt q i e) (λ f. weightOf q (e % 3) (f % 3) *ℤ endAt q j f)
-        ∙ ap (λ (z : ℤ). z *ℤ endAt q i e) (by-components (weightOf q (e % 3)) (endAt q j)))
-        ∙ by-components (λ a. sum 3 (λ b. weightOf q a b *ℤ rowAt q j b)) (endAt q i)
-        ∙ sum-ext 3 (λ a p. sym (sum-*r 3 (rowAt q i a) (λ b. weightOf q a b *ℤ rowAt q j b))
-        ∙ sum-ext 3 (λ b o. ring (weightOf q a b ∷ rowAt q j b ∷ rowAt q i a ∷ []) (search shapes) tt))
+        ∙ ring (coefOf q e ∷ equationWeight q (e % 3) (f % 3) ∷ coefOf q f ∷ δ (atOf q e) i ∷ δ (atOf q f) j ∷ []) (search shapes depth 8) tt)
+        ∙ sum-*r 6 (endAt q i e) (λ f. equationWeight q (e % 3) (f % 3) *ℤ endAt q j f)
+        ∙ ap (λ (z : ℤ). z *ℤ endAt q i e) (by-components (equationWeight q (e % 3)) (endAt q j)))
+        ∙ by-components (λ a. sum 3 (λ b. equationWeight q a b *ℤ rowAt q j b)) (endAt q i)
+        ∙ sum-ext 3 (λ a p. sym (sum-*r 3 (rowAt q i a) (λ b. equationWeight q a b *ℤ rowAt q j b))
+        ∙ sum-ext 3 (λ b o. ring (equationWeight q a b ∷ rowAt q j b ∷ rowAt q i a ∷ []) (search shapes) tt))
         ∙ acting-only r (rowAt q i) (λ a. A st r a i) (rowAt q j) (λ b. A st r b j) (ends-A i) (ends-A j)
       where
         q : Equation
@@ -124,8 +124,8 @@ module _ (st : List Station) where
     block-right k =
         sum-ext 6 (λ e p. ring (coefOf q e ∷ weighted q (e % 3) ∷ δ (atOf q e) k ∷ []) (search shapes) tt)
         ∙ by-components (weighted q) (endAt q k)
-        ∙ sum-ext 3 (λ a p. sym (sum-*r 3 (rowAt q k a) (λ b. weightOf q a b *ℤ misclosureOf q b))
-        ∙ sum-ext 3 (λ b o. ring (weightOf q a b ∷ misclosureOf q b ∷ rowAt q k a ∷ []) (search shapes) tt))
+        ∙ sum-ext 3 (λ a p. sym (sum-*r 3 (rowAt q k a) (λ b. equationWeight q a b *ℤ misclosureOf q b))
+        ∙ sum-ext 3 (λ b o. ring (equationWeight q a b ∷ misclosureOf q b ∷ rowAt q k a ∷ []) (search shapes) tt))
         ∙ acting-only r (rowAt q k) (λ a. A st r a k) (misclosureOf q) (misclosureOf q) (ends-A k) (λ b h e. refl)
       where
         q : Equation
@@ -133,19 +133,19 @@ module _ (st : List Station) where
 
 -- ════ the equations fit the code
 module _ (st : List Station) (g : SoundStations st) where
-  place-below : (q : ℕ) → q < 96 → place st q < 48
-  unfolding place
-  place-below q h = go (bit-cases st q)
+  unknown-index-below : (q : ℕ) → q < 96 → unknownIndex st q < 48
+  unfolding unknownIndex
+  unknown-index-below q h = go (unknown-cases st q)
     where
       go : (unknown st q ≡ 0) ⊎ (unknown st q ≡ 1) → unknown st q * number st q < 48
       go (inl e) = rw e (omega arith)
       go (inr e) = rw e (let few = g .few in omega (arith, number-below st q 96 h e))
 
   number-at : (p : ℕ) → p < 96 → getD (numbers st) p 0 < 48
-  number-at p h = rw (getD-tabulate 96 (place st) p 0 h) (place-below p h)
+  number-at p h = rw (getD-tabulate 96 (unknownIndex st) p 0 h) (unknown-index-below p h)
 
   pub within-unknowns : Within 96 1 (unknowns st)
-  within-unknowns = within-tabulate 96 1 (λ q. pos (unknown st q)) (λ q h. bit st q)
+  within-unknowns = within-tabulate 96 1 (λ q. pos (unknown st q)) (λ q h. unknown-bit st q)
 
   -- a coefficient at a from end
   from-unit : (r : Record) (p : ℕ) → natAbs (pos 0 -ℤ joins r *ℤ getD (unknowns st) p (pos 0)) ≤ 1
@@ -170,7 +170,7 @@ module _ (st : List Station) (g : SoundStations st) where
     units-fit (suc (suc (suc (suc (suc zero))))) = within-unknowns .bound (toOf r * 3 + 2)
     units-fit (suc (suc (suc (suc (suc (suc e)))))) = let h : 0 ≤ 1 = omega arith in h
 
-    pub equation-fits : Fit (equation st r)
+    pub equation-fits : EquationInRange (equation st r)
     equation-fits = record { ends = ends-fit; units = units-fit; weights = s .weight; misclosures = s .misclosure }
 
     pub is-observed : Observed (coordinates st) r

@@ -14,12 +14,12 @@ use Rattle.network.specs.Records.{recordAt}
 use Rattle.network.specs.declared.Network.{Network}
 use Rattle.network.specs.declared.Place.{Place}
 use Rattle.normals.specs.Formulas.{shareN, entryN, entryU, entriesFit}
-use Rattle.normals.specs.Sound.{Sound, record-sound}
+use Rattle.normals.specs.ByRules.{ByRules, record-sound}
 use Rattle.normals.specs.ShareSizes.{share-entry, share-row, share-all, share-u}
 
 -- At most one entry of a column of a record's A is not 0, it is ±1, and weights are at most 10,000 in size: 10,000 an entry of its share, 60,000 a row of it,
 -- 360,000 all of it; misclosures are at most 100,000 in size, and three of them meet in an entry of its share of u. There are 256 places
-module _ (net : Network) (places : List Place) (g : Sound net places) where
+module _ (net : Network) (places : List Place) (g : ByRules net places) where
   abbrev size : ℕ → ℕ → ℕ → ℕ
   size p i j = natAbs (shareN (net .stations) (recordAt places p) i j)
 

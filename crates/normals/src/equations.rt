@@ -5,7 +5,7 @@ ghost use mathlib.Core.Path.{_≡_};
 ghost use Prim.Native.Nat.{_<_, _≤_, _^_};
 ghost use lib.IntN.{natAbs};
 ghost use Rattle.integers.specs.Tables.{plus, Within};
-ghost use Rattle.normals.specs.Equations.{Fit, endsOf, rowN, blockN, weighted, blockU};
+ghost use Rattle.normals.specs.Equations.{EquationInRange, endsOf, rowN, blockN, weighted, blockU};
 
 // To N, the part of end e with each of the six: nothing where e is held. Unknowns, coefficients and weights are lent, so that no turn copies an equation.
 fn add_row(
@@ -16,7 +16,7 @@ fn add_row(
     e: usize,
     sign: i64,
 )
-    requires { ⌜ (e < 6) × (natAbs sign ≤ 1) × Fit (endsOf (now at) (now coef) (now weight)) × Within 2304 (2 ^ 41) (now n) ⌝ }
+    requires { ⌜ (e < 6) × (natAbs sign ≤ 1) × EquationInRange (endsOf (now at) (now coef) (now weight)) × Within 2304 (2 ^ 41) (now n) ⌝ }
     ensures { λ r. ⌜ now (n .exit) ≡ plus 2304 (now (n .entry)) sign (rowN (endsOf (now (at .entry)) (now (coef .entry)) (now (weight .entry))) e) ⌝ }
 {
     let own = coef[e];
@@ -38,7 +38,7 @@ fn add_row(
 }
 
 fn add_matrix(n: &mut [i64; Normals::ENTRIES], equation: Equation, sign: i64)
-    requires { ⌜ (natAbs sign ≤ 1) × Fit equation × Within 2304 (2 ^ 40) (now n) ⌝ }
+    requires { ⌜ (natAbs sign ≤ 1) × EquationInRange equation × Within 2304 (2 ^ 40) (now n) ⌝ }
     ensures { λ r. ⌜ now (n .exit) ≡ plus 2304 (now (n .entry)) sign (blockN equation) ⌝ }
 {
     let at = equation.at;
@@ -53,7 +53,7 @@ fn add_matrix(n: &mut [i64; Normals::ENTRIES], equation: Equation, sign: i64)
 
 // Row a of P times the misclosures.
 pub fn weighted_row(equation: Equation, a: usize) -> i64
-    requires { ⌜ (a < 3) × Fit equation ⌝ }
+    requires { ⌜ (a < 3) × EquationInRange equation ⌝ }
     ensures { λ r. ⌜ r ≡ weighted equation a ⌝ }
 {
     let i = a * 3;
@@ -64,7 +64,7 @@ pub fn weighted_row(equation: Equation, a: usize) -> i64
 }
 
 fn add_right(u: &mut [i64; Normals::ROW], equation: Equation, sign: i64)
-    requires { ⌜ (natAbs sign ≤ 1) × Fit equation × Within 48 (2 ^ 43) (now u) ⌝ }
+    requires { ⌜ (natAbs sign ≤ 1) × EquationInRange equation × Within 48 (2 ^ 43) (now u) ⌝ }
     ensures { λ r. ⌜ now (u .exit) ≡ plus 48 (now (u .entry)) sign (blockU equation) ⌝ }
 {
     let mut e = 0;
@@ -86,7 +86,7 @@ pub fn add_equation(
     equation: Equation,
     sign: i64,
 )
-    requires { ⌜ (natAbs sign ≤ 1) × Fit equation × Within 2304 (2 ^ 40) (now n) × Within 48 (2 ^ 43) (now u) ⌝ }
+    requires { ⌜ (natAbs sign ≤ 1) × EquationInRange equation × Within 2304 (2 ^ 40) (now n) × Within 48 (2 ^ 43) (now u) ⌝ }
     ensures matrix { λ r. ⌜ now (n .exit) ≡ plus 2304 (now (n .entry)) sign (blockN equation) ⌝ }
     ensures right { λ r. ⌜ now (u .exit) ≡ plus 48 (now (u .entry)) sign (blockU equation) ⌝ }
 {

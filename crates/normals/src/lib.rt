@@ -8,7 +8,7 @@ ghost use lib.ListN.{length, replicate};
 ghost use lib.IntN.{pos};
 ghost use Rattle.network.specs.Places.{placesLength, placesIn};
 ghost use Rattle.normals.specs.Formulas.{matrixOf, rightOf, normalsOf};
-ghost use Rattle.normals.specs.Sound.{Sound};
+ghost use Rattle.normals.specs.ByRules.{ByRules};
 ghost use Rattle.normals.specs.Blank.{blankNormals};
 ghost use Rattle.normals.specs.Exchange.{Exchangeable, exchangedN, exchangedU};
 ghost use Rattle.normals.specs.Same.{sameNormals};
@@ -65,7 +65,7 @@ impl Normals {
 
     // N and u from scratch.
     pub fn of(net: Network, places: &[i64]) -> Normals
-        requires { ⌜ (placesLength ≤ length (now places)) × Sound net (placesIn (now places)) ⌝ }
+        requires { ⌜ (placesLength ≤ length (now places)) × ByRules net (placesIn (now places)) ⌝ }
         ensures { λ r. ⌜ r ≡ normalsOf (net .stations) (placesIn (now (places .entry))) ⌝ }
     {
         let mut n = [0i64; Normals::ENTRIES];
@@ -85,7 +85,7 @@ fn add_records(
     net: Network,
     places: &[i64],
 )
-    requires { ⌜ (placesLength ≤ length (now places)) × Sound net (placesIn (now places)) × (now n ≡ replicate 2304 (pos 0)) × (now u ≡ replicate 48 (pos 0)) ⌝ }
+    requires { ⌜ (placesLength ≤ length (now places)) × ByRules net (placesIn (now places)) × (now n ≡ replicate 2304 (pos 0)) × (now u ≡ replicate 48 (pos 0)) ⌝ }
     ensures matrix { λ _. ⌜ now (n .exit) ≡ matrixOf (net .stations) (placesIn (now (places .entry))) ⌝ }
     ensures right { λ _. ⌜ now (u .exit) ≡ rightOf (net .stations) (placesIn (now (places .entry))) ⌝ }
 {
@@ -104,7 +104,7 @@ fn add_records(
 
 // Whether N and u are those of the records.
 pub fn are_of(net: Network, places: &[i64], matrix: &[i64], right: &[i64]) -> bool
-    requires { ⌜ (placesLength ≤ length (now places)) × Sound net (placesIn (now places)) × (length (now matrix) ≡ 2304) × (length (now right) ≡ 48) ⌝ }
+    requires { ⌜ (placesLength ≤ length (now places)) × ByRules net (placesIn (now places)) × (length (now matrix) ≡ 2304) × (length (now right) ≡ 48) ⌝ }
     ensures { λ t. ⌜ t ≡ sameNormals (record { matrix = now (matrix .entry); right = now (right .entry) }) (normalsOf (net .stations) (placesIn (now (places .entry)))) ⌝ }
 {
     let mut n = [0i64; Normals::ENTRIES];

@@ -7,12 +7,12 @@ ghost use Prim.Native.Nat.{_<_, _≤_};
 ghost use lib.IntN.{natAbs};
 ghost use Rattle.integers.specs.Tables.{Within};
 ghost use Rattle.network.specs.RecordLaws.{Observed};
-ghost use Rattle.normals.specs.Equations.{ends, coefs, equationOf};
+ghost use Rattle.normals.specs.Equations.{endIndices, coefs, equationOf};
 
 // The unknowns at the six ends.
 fn ends_of(at: &[usize; Unit::COMPONENTS], f: usize, t: usize) -> [usize; 6]
     requires { ⌜ (f < 32) × (t < 32) ⌝ }
-    ensures { λ r. ⌜ r ≡ ends (now (at .entry)) f t ⌝ }
+    ensures { λ r. ⌜ r ≡ endIndices (now (at .entry)) f t ⌝ }
 {
     let i = f * 3;
     let j = t * 3;

@@ -12,13 +12,13 @@ ghost use mathlib.Core.Bool.{true};
 ghost use Prim.Native.Nat.{_<_};
 ghost use Rattle.network.specs.Stations.{networkFits};
 ghost use Rattle.network.specs.Rules.{recordFits};
-ghost use Rattle.normals.specs.Equations.{Fit};
+ghost use Rattle.normals.specs.Equations.{EquationInRange};
 ghost use Rattle.normals.specs.Shares.{equation};
 ghost use Rattle.normals.specs.ShareTerms.{pairTerm, endTerm, term};
 
 // Ends e and f, at their entry of N.
 fn pair_term(q: Equation, e: usize, f: usize) -> ShareTerm
-    requires { ⌜ (e < 6) × (f < 6) × Fit q ⌝ }
+    requires { ⌜ (e < 6) × (f < 6) × EquationInRange q ⌝ }
     ensures { λ t. ⌜ t ≡ pairTerm q e f ⌝ }
 {
     let entry = q.at[e] * Normals::ROW + q.at[f];
@@ -29,7 +29,7 @@ fn pair_term(q: Equation, e: usize, f: usize) -> ShareTerm
 
 // End e, at its entry of u.
 fn end_term(q: Equation, e: usize) -> ShareTerm
-    requires { ⌜ (e < 6) × Fit q ⌝ }
+    requires { ⌜ (e < 6) × EquationInRange q ⌝ }
     ensures { λ t. ⌜ t ≡ endTerm q e ⌝ }
 {
     let entry = Normals::ENTRIES + q.at[e];
@@ -40,7 +40,7 @@ fn end_term(q: Equation, e: usize) -> ShareTerm
 
 // Term j of what the equations add.
 pub fn share_term(q: Equation, j: usize) -> ShareTerm
-    requires { ⌜ (j < 42) × Fit q ⌝ }
+    requires { ⌜ (j < 42) × EquationInRange q ⌝ }
     ensures { λ t. ⌜ t ≡ term q j ⌝ }
 {
     if j < 36 {

@@ -8,7 +8,7 @@ use borrow.Author.Tests.{le-leb}
 use lib.ListN.{length, drop}
 use lib.Seq.{drop-length}
 use lib.IntN.{ℤ}
-use Rattle.acceptance.specs.Judge.{numberOf, unknownOf}
+use Rattle.acceptance.specs.Judge.{answerNumber, answerUnknown}
 use Rattle.acceptance.specs.declared.Answer.{Answer}
 use Rattle.acceptance.specs.declared.Answer.the-variants.{Accepted, Refused}
 use Rattle.acceptance.specs.declared.Refusal.{Refusal}
@@ -35,7 +35,7 @@ module _ (b : Book) (x m w : List ℤ) (long : length w ≡ room (b .network) (b
   unfolding checkSays answerSays
   says-sheet v e q = rw (answered, e, q, words-are e)
 
-  pub says-refused : (number unknown : ℕ) (refusal : Refusal) → number ≡ numberOf r → unknown ≡ unknownOf r → r ≡ Refused refusal
+  pub says-refused : (number unknown : ℕ) (refusal : Refusal) → number ≡ answerNumber r → unknown ≡ answerUnknown r → r ≡ Refused refusal
       → refusalSays number unknown ≡ checkSays b x m
   unfolding checkSays answerSays
   says-refused number unknown refusal p q e = rw (answered, p, q, e)

@@ -10,7 +10,7 @@ use Rattle.words.specs.Signed.{eqZ}
 use Rattle.network.specs.Records.{observations, recordAt}
 use Rattle.network.specs.declared.Place.{Place}
 use Rattle.network.specs.declared.Record.{Record}
-use Rattle.sheet.specs.Sheet.{wordsOf}
+use Rattle.sheet.specs.Sheet.{lineLength}
 use Rattle.text.specs.Numbers.{decimal}
 
 abbrev word : List ℤ → ℕ → ℤ
@@ -84,7 +84,7 @@ recordLine w o r = lineFor w o (observations r)
 
 -- where the words of the record at place k start, those of the first place at o
 unfoldable pub recordStart : ℕ → List Place → ℕ → ℕ
-recordStart o places k = o + sumN k (λ p. wordsOf (recordAt places p))
+recordStart o places k = o + sumN k (λ p. lineLength (recordAt places p))
 
 -- the lines of the first k places
 unfoldable pub recordLines : List ℤ → ℕ → List Place → ℕ → List ℕ

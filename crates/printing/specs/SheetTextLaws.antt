@@ -18,7 +18,7 @@ use Rattle.network.specs.Records.{observations, isEmpty, recordAt}
 use Rattle.network.specs.declared.Network.{Network}
 use Rattle.network.specs.declared.Place.{Place}
 use Rattle.network.specs.declared.Record.{Record}
-use Rattle.sheet.specs.Sheet.{wordsOf, room}
+use Rattle.sheet.specs.Sheet.{lineLength, room}
 use Rattle.text.specs.Numbers.{decimal}
 use Rattle.text.specs.Writing.{Written, nothing}
 use Rattle.printing.specs.SheetText.{spaced, fields, highVerdict, verdict, stationLine, baselineLine, heightLine, stationLines, lineFor, recordLine, recordStart, recordLines, globalStart}
@@ -105,8 +105,8 @@ module _ (w : List ℤ) (o : ℕ) (r : Record) where
     no-line e = rw (ne-eqb (observations r) 3 q, ne-eqb (observations r) 1 e)
 
 -- the words that a record takes that observes something
-pub words-observed : (r : Record) (n : ℕ) → observations r ≡ n → (n ≡ 0 → ⊥) → wordsOf r ≡ 1 + 2 * n
-unfolding wordsOf isEmpty
+pub words-observed : (r : Record) (n : ℕ) → observations r ≡ n → (n ≡ 0 → ⊥) → lineLength r ≡ 1 + 2 * n
+unfolding lineLength isEmpty
 words-observed r n e q = rw (e, ne-eqb n 0 q)
 
 -- ════ the lines of the records
@@ -119,9 +119,9 @@ module _ (o : ℕ) (places : List Place) where
   unfolding recordStart sumN
   start-zero = omega arith
 
-  pub start-more : (k : ℕ) → recordStart o places k + wordsOf (recordAt places k) ≡ recordStart o places (k + 1)
+  pub start-more : (k : ℕ) → recordStart o places k + lineLength (recordAt places k) ≡ recordStart o places (k + 1)
   unfolding recordStart
-  start-more k = omega (arith, sumN-+1 k (λ p. wordsOf (recordAt places p)))
+  start-more k = omega (arith, sumN-+1 k (λ p. lineLength (recordAt places p)))
 
   pub records-more :
       (w : List ℤ) (k : ℕ) → recordLines w o places k ++ recordLine w (recordStart o places k) (recordAt places k) ≡ recordLines w o places (k + 1)
@@ -131,7 +131,7 @@ module _ (o : ℕ) (places : List Place) where
   -- the words of the places up to the k-th end where those of the last do, at most
   pub start-rises : (k n : ℕ) → k ≤ n → recordStart o places k ≤ recordStart o places n
   unfolding recordStart
-  start-rises k n h = omega (arith, sumN-first k n (λ p. wordsOf (recordAt places p)) h)
+  start-rises k n h = omega (arith, sumN-first k n (λ p. lineLength (recordAt places p)) h)
 
 pub global-after : (n : ℕ) (places : List Place) → 2 + n * 7 ≤ globalStart n places
 global-after n places = omega (arith, start-rises (2 + n * 7) places 0 256 (omega arith), start-zero (2 + n * 7) places)

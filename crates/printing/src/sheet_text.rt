@@ -9,7 +9,7 @@ ghost use mathlib.Core.Path.{_≡_};
 ghost use Prim.Native.Nat.{_+_, _*_, _≤_};
 ghost use lib.ListN.{length};
 ghost use Rattle.network.specs.Places.{placesLength, placesIn};
-ghost use Rattle.sheet.specs.Sheet.{wordsOf};
+ghost use Rattle.sheet.specs.Sheet.{lineLength};
 ghost use Rattle.text.specs.Writing.{Written};
 ghost use Rattle.printing.specs.Rooms.{fieldRoom, verdictRoom, headRoom, stationRoom, baselineRoom, heightRoom, globalRoom, sheetRoom};
 ghost use Rattle.printing.specs.SheetText.{fields, highVerdict, verdict, headLine, stationLine, baselineLine, heightLine, globalLine};
@@ -142,7 +142,7 @@ fn write_stations(out: &mut [u8], at: usize, w: &[i64], n: usize) -> usize
 
 // A record's line, its words from o on, by how many components it observes; nothing for an empty place.
 fn write_record(out: &mut [u8], at: usize, w: &[i64], o: usize, r: Record) -> usize
-    requires { ⌜ (o + wordsOf r ≤ length (now w)) × (at + baselineRoom ≤ length (now out)) ⌝ }
+    requires { ⌜ (o + lineLength r ≤ length (now w)) × (at + baselineRoom ≤ length (now out)) ⌝ }
     ensures { λ k. ⌜ Written (now (out .entry)) at (recordLine (now (w .entry)) o r) k (now (out .exit)) ⌝ }
     ensures { λ k. ⌜ k ≤ at + baselineRoom ⌝ }
 {

@@ -14,7 +14,7 @@ use Rattle.integers.specs.Sums.{sum, sum-ext, sum-0, δ, δ-same, δ-other}
 use Rattle.words.specs.Bools.{clash, true-or-false, and-no-left, and-no-right, neither}
 use Rattle.words.specs.SignedLaws.{eqZ-false}
 use Rattle.network.specs.Stations.{unknown, number, unknownCount}
-use Rattle.network.specs.StationLaws.{bit-cases, number-below, number-apart}
+use Rattle.network.specs.StationLaws.{unknown-cases, number-below, number-apart}
 use Rattle.network.specs.Records.{acts, fromOf, toOf, joins, l, observations, actsOf}
 use Rattle.network.specs.RuleLaws.{SoundRecord}
 use Rattle.network.specs.declared.Station.{Station}
@@ -57,7 +57,7 @@ no-products y w z e = sum-ext 3 (λ a h. sum-ext 3 (λ b k. ap (λ (v : ℤ). v 
 module _ (st : List Station) (r : Record) where
   -- ════ a record that is not in the adjustment
   is-held : (q : ℕ) → eqb (unknown st q) 1 ≡ false → unknown st q ≡ 0
-  is-held q e = go (bit-cases st q)
+  is-held q e = go (unknown-cases st q)
     where
       go : (unknown st q ≡ 0) ⊎ (unknown st q ≡ 1) → unknown st q ≡ 0
       go (inl u) = u
@@ -121,7 +121,7 @@ module _ (st : List Station) (r : Record) where
 
     at-other : (p q : ℕ) → (p ≡ q → ⊥) → unknown st q ≡ 1 → isUnknown st p (number st q) ≡ pos 0
     unfolding isUnknown
-    at-other p q ne u = go (bit-cases st p)
+    at-other p q ne u = go (unknown-cases st p)
       where
         go : (unknown st p ≡ 0) ⊎ (unknown st p ≡ 1) → pos (unknown st p) *ℤ δ (number st p) (number st q) ≡ pos 0
         go (inl v) = rw v (zero-*ℤ (δ (number st p) (number st q)))

@@ -13,8 +13,8 @@ use Rattle.integers.specs.Bounds.{bounds, absle}
 use Rattle.integers.specs.Solvers.{ring, shapes}
 use Rattle.integers.specs.Sums.{sum, sum-ext, sum--, sum-*l, sum-δ, δ}
 use Rattle.integers.specs.Tables.{tabulate, getD-tabulate, Within}
-use Rattle.network.specs.Stations.{unknown, number, place, unknownCount, coordinate, coordinates}
-use Rattle.network.specs.StationLaws.{bit-cases, number-below}
+use Rattle.network.specs.Stations.{unknown, number, unknownIndex, unknownCount, coordinate, coordinates}
+use Rattle.network.specs.StationLaws.{unknown-cases, number-below}
 use Rattle.network.specs.Records.{acts, fromOf, toOf, joins, joins-one, misclosures, l}
 use Rattle.network.specs.RecordLaws.{Observed}
 use Rattle.network.specs.declared.Station.{Station}
@@ -30,7 +30,7 @@ unknownsOf stations = tabulate 96 (λ q. pos (unknown stations q))
 
 -- the number of each unknown, and 0 at a held component
 abbrev pub numbersOf : List Station → List ℕ
-numbersOf stations = tabulate 96 (place stations)
+numbersOf stations = tabulate 96 (unknownIndex stations)
 
 abbrev pub correctionsOf : List Station → List ℤ → List ℤ
 correctionsOf stations x = tabulate 96 (correction stations x)
@@ -50,33 +50,33 @@ adjusted-in stations x q h = ap₂ _+ℤ_ (getD-tabulate 96 (coordinate stations
 
 -- ════ the number of a component is an index of x
 module _ (stations : List Station) where
-  pub place-below : (q : ℕ) → q < 96 → 1 ≤ unknownCount stations → place stations q < unknownCount stations
-  unfolding place
-  place-below q h n = go (bit-cases stations q)
+  pub unknown-index-below : (q : ℕ) → q < 96 → 1 ≤ unknownCount stations → unknownIndex stations q < unknownCount stations
+  unfolding unknownIndex
+  unknown-index-below q h n = go (unknown-cases stations q)
     where
       go : (unknown stations q ≡ 0) ⊎ (unknown stations q ≡ 1) → unknown stations q * number stations q < unknownCount stations
       go (inl e) = rw e (omega arith)
       go (inr e) = let b = number-below stations q 96 h e in rw e (omega arith)
 
   -- where a component is held, its number does not matter
-  by-place : (q : ℕ) (f : ℕ → ℤ) → pos (unknown stations q) *ℤ f (place stations q) ≡ pos (unknown stations q) *ℤ f (number stations q)
-  unfolding place
-  by-place q f = go (bit-cases stations q)
+  by-index : (q : ℕ) (f : ℕ → ℤ) → pos (unknown stations q) *ℤ f (unknownIndex stations q) ≡ pos (unknown stations q) *ℤ f (number stations q)
+  unfolding unknownIndex
+  by-index q f = go (unknown-cases stations q)
     where
       go : (unknown stations q ≡ 0) ⊎ (unknown stations q ≡ 1)
           → pos (unknown stations q) *ℤ f (unknown stations q * number stations q) ≡ pos (unknown stations q) *ℤ f (number stations q)
       go (inl e) = rw e (zero-*ℤ (f (0 * number stations q)) ∙ sym (zero-*ℤ (f (number stations q))))
       go (inr e) = let one : 1 * number stations q ≡ number stations q = omega arith in rw (e, one) refl
 
-  correction-place : (x : List ℤ) (q : ℕ) → pos (unknown stations q) *ℤ getD x (place stations q) (pos 0) ≡ correction stations x q
+  correction-index : (x : List ℤ) (q : ℕ) → pos (unknown stations q) *ℤ getD x (unknownIndex stations q) (pos 0) ≡ correction stations x q
   unfolding correction
-  correction-place x q = by-place q (λ k. getD x k (pos 0))
+  correction-index x q = by-index q (λ k. getD x k (pos 0))
 
   -- the corrections as the code has them, from the tables
   pub correction-in : (x : List ℤ) (q : ℕ) → q < 96
       → getD (unknownsOf stations) q (pos 0) *ℤ getD x (getD (numbersOf stations) q 0) (pos 0) ≡ correction stations x q
   correction-in x q h =
-      rw (getD-tabulate 96 (λ i. pos (unknown stations i)) q (pos 0) h, getD-tabulate 96 (place stations) q 0 h) (correction-place x q)
+      rw (getD-tabulate 96 (λ i. pos (unknown stations i)) q (pos 0) h, getD-tabulate 96 (unknownIndex stations) q 0 h) (correction-index x q)
 
   -- ════ a sum with row a of A, where the record acts: what stands at the to end less what stands at the from end
   -- h at component q, 0 for a held one
@@ -88,7 +88,7 @@ module _ (stations : List Station) where
   end-sum h q l =
       sum-ext n (λ i o. ring (u ∷ δ (number stations q) i ∷ h i ∷ []) (search shapes) tt)
       ∙ sum-*l n u (λ i. δ (number stations q) i *ℤ h i)
-      ∙ go (bit-cases stations q)
+      ∙ go (unknown-cases stations q)
     where
       n : ℕ
       n = unknownCount stations
@@ -184,14 +184,14 @@ module _ (stations : List Station) (m : List ℤ) where
   unfolding covarianceIn covariance
   covariance-in q k h g =
       rw (
-        getD-tabulate 96 (place stations) q 0 h,
-        getD-tabulate 96 (place stations) k 0 g,
+        getD-tabulate 96 (unknownIndex stations) q 0 h,
+        getD-tabulate 96 (unknownIndex stations) k 0 g,
         getD-tabulate 96 (λ i. pos (unknown stations i)) q (pos 0) h,
         getD-tabulate 96 (λ i. pos (unknown stations i)) k (pos 0) g,
       )
-      (held-both u v (at (place stations q) (place stations k)) (at (place stations q) (number stations k)) (at (number stations q) (number stations k))
-      (by-place stations k (at (place stations q)))
-      (by-place stations q (λ i. at i (number stations k))))
+      (held-both u v (at (unknownIndex stations q) (unknownIndex stations k)) (at (unknownIndex stations q) (number stations k)) (at (number stations q) (number stations k))
+      (by-index stations k (at (unknownIndex stations q)))
+      (by-index stations q (λ i. at i (number stations k))))
     where
       u : ℤ
       u = pos (unknown stations q)

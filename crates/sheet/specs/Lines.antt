@@ -16,7 +16,7 @@ use Rattle.network.specs.declared.Place.{Place}
 use Rattle.network.specs.declared.Record.{Record}
 use Rattle.network.specs.declared.Record.the-variants.{Empty, Baseline as baseline, Height as height}
 use Rattle.residuals.specs.Residuals.{residual, residualVariance}
-use Rattle.sheet.specs.Sheet.{stationWords, stationLines, recordWords, recordLines, verdictAt, wordsOf}
+use Rattle.sheet.specs.Sheet.{stationLineWords, stationLinesWords, recordLineWords, recordLinesWords, verdictAt, lineLength}
 use Rattle.residuals.specs.Components.{unknownsOf, numbersOf, correctionsOf, positionIn, adjusted-in, variancesIn, covariance-in, difference-in, residualsIn, residual-in}
 use Rattle.residuals.specs.Observations.{verdictIn, verdictsIn}
 
@@ -61,8 +61,8 @@ lineOf zero p v w = []
 lineOf (suc zero) p v w = threeWords p v w
 lineOf (suc (suc n)) p v w = sevenWords p v w
 
-pub line-length : (r : Record) (p : ℕ) (v w : List ℤ) → length (lineOf (observations r) p v w) ≡ wordsOf r
-unfolding lineOf sevenWords threeWords wordsOf isEmpty observations
+pub line-length : (r : Record) (p : ℕ) (v w : List ℤ) → length (lineOf (observations r) p v w) ≡ lineLength r
+unfolding lineOf sevenWords threeWords lineLength isEmpty observations
 line-length Empty p v w = refl
 line-length (baseline b) p v w = refl
 line-length (height h) p v w = refl
@@ -76,74 +76,74 @@ three-observed (height h) f g = absurd (g refl)
 
 -- ════ the line of a station
 module _ (coordinate corrections : List ℤ) (numbers : List ℕ) (unknowns m : List ℤ) (n : ℕ) where
-  unfoldable pub stationWordsIn : ℕ → List ℤ
-  stationWordsIn s = sevenWords s (positionIn coordinate corrections s) (variancesIn numbers unknowns m n s)
+  unfoldable pub stationLineWordsIn : ℕ → List ℤ
+  stationLineWordsIn s = sevenWords s (positionIn coordinate corrections s) (variancesIn numbers unknowns m n s)
 
-  pub station-length : (s : ℕ) → length (stationWordsIn s) ≡ 7
-  unfolding stationWordsIn sevenWords
+  pub station-length : (s : ℕ) → length (stationLineWordsIn s) ≡ 7
+  unfolding stationLineWordsIn sevenWords
   station-length s = refl
 
 -- ════ the line of a record, with its residuals v
 module _ (numbers : List ℕ) (unknowns m : List ℤ) (n : ℕ) where
-  unfoldable pub recordWordsIn : ℕ → Record → List ℤ → List ℤ
-  recordWordsIn p r v = lineOf (observations r) p v (verdictsIn numbers unknowns m n r v)
+  unfoldable pub recordLineWordsIn : ℕ → Record → List ℤ → List ℤ
+  recordLineWordsIn p r v = lineOf (observations r) p v (verdictsIn numbers unknowns m n r v)
 
-  pub record-length : (p : ℕ) (r : Record) (v : List ℤ) → length (recordWordsIn p r v) ≡ wordsOf r
-  unfolding recordWordsIn
+  pub record-length : (p : ℕ) (r : Record) (v : List ℤ) → length (recordLineWordsIn p r v) ≡ lineLength r
+  unfolding recordLineWordsIn
   record-length p r v = line-length r p v (verdictsIn numbers unknowns m n r v)
 
 -- ════ the first k lines
 module _ (coordinate corrections : List ℤ) (numbers : List ℕ) (unknowns m : List ℤ) (n : ℕ) where
-  unfoldable pub stationLinesIn : ℕ → List ℤ
-  stationLinesIn k = concatBelow k (stationWordsIn coordinate corrections numbers unknowns m n)
+  unfoldable pub stationLinesWordsIn : ℕ → List ℤ
+  stationLinesWordsIn k = concatBelow k (stationLineWordsIn coordinate corrections numbers unknowns m n)
 
   recordLineIn : List Place → ℕ → List ℤ
-  recordLineIn places p = recordWordsIn numbers unknowns m n p (recordAt places p) (residualsIn coordinate corrections (recordAt places p))
+  recordLineIn places p = recordLineWordsIn numbers unknowns m n p (recordAt places p) (residualsIn coordinate corrections (recordAt places p))
 
-  unfoldable pub recordLinesIn : List Place → ℕ → List ℤ
+  unfoldable pub recordLinesWordsIn : List Place → ℕ → List ℤ
   unfolding recordLineIn
-  recordLinesIn places k = concatBelow k (recordLineIn places)
+  recordLinesWordsIn places k = concatBelow k (recordLineIn places)
 
-  pub stations-none : stationLinesIn 0 ≡ []
-  unfolding stationLinesIn
-  stations-none = concatBelow-none (stationWordsIn coordinate corrections numbers unknowns m n)
+  pub station-words-none : stationLinesWordsIn 0 ≡ []
+  unfolding stationLinesWordsIn
+  station-words-none = concatBelow-none (stationLineWordsIn coordinate corrections numbers unknowns m n)
 
-  pub stations-more : (k : ℕ) → stationLinesIn (k + 1) ≡ stationLinesIn k ++ stationWordsIn coordinate corrections numbers unknowns m n k
-  unfolding stationLinesIn
-  stations-more k = concatBelow-+1 k (stationWordsIn coordinate corrections numbers unknowns m n)
+  pub station-words-more : (k : ℕ) → stationLinesWordsIn (k + 1) ≡ stationLinesWordsIn k ++ stationLineWordsIn coordinate corrections numbers unknowns m n k
+  unfolding stationLinesWordsIn
+  station-words-more k = concatBelow-+1 k (stationLineWordsIn coordinate corrections numbers unknowns m n)
 
-  pub stations-length : (k : ℕ) → length (stationLinesIn k) ≡ 7 * k
-  unfolding stationLinesIn
-  stations-length k =
-      length-concatBelow 7 (stationWordsIn coordinate corrections numbers unknowns m n) (station-length coordinate corrections numbers unknowns m n) k ∙ omega arith
+  pub station-words-length : (k : ℕ) → length (stationLinesWordsIn k) ≡ 7 * k
+  unfolding stationLinesWordsIn
+  station-words-length k =
+      length-concatBelow 7 (stationLineWordsIn coordinate corrections numbers unknowns m n) (station-length coordinate corrections numbers unknowns m n) k ∙ omega arith
 
   module _ (places : List Place) where
-    pub records-none : recordLinesIn places 0 ≡ []
-    unfolding recordLinesIn
-    records-none = concatBelow-none (recordLineIn places)
+    pub record-words-none : recordLinesWordsIn places 0 ≡ []
+    unfolding recordLinesWordsIn
+    record-words-none = concatBelow-none (recordLineIn places)
 
-    pub records-more : (k : ℕ) → recordLinesIn places (k + 1)
-        ≡ recordLinesIn places k ++ recordWordsIn numbers unknowns m n k (recordAt places k) (residualsIn coordinate corrections (recordAt places k))
-    unfolding recordLinesIn recordLineIn
-    records-more k = concatBelow-+1 k (recordLineIn places)
+    pub record-words-more : (k : ℕ) → recordLinesWordsIn places (k + 1)
+        ≡ recordLinesWordsIn places k ++ recordLineWordsIn numbers unknowns m n k (recordAt places k) (residualsIn coordinate corrections (recordAt places k))
+    unfolding recordLinesWordsIn recordLineIn
+    record-words-more k = concatBelow-+1 k (recordLineIn places)
 
-    pub records-length : (k : ℕ) → length (recordLinesIn places k) ≡ sumN k (λ p. wordsOf (recordAt places p))
-    unfolding recordLinesIn recordLineIn
-    records-length k =
+    pub record-words-length : (k : ℕ) → length (recordLinesWordsIn places k) ≡ sumN k (λ p. lineLength (recordAt places p))
+    unfolding recordLinesWordsIn recordLineIn
+    record-words-length k =
         length-lines k (recordLineIn places)
         ∙ sumN-ext k (λ p h. record-length numbers unknowns m n p (recordAt places p) (residualsIn coordinate corrections (recordAt places p)))
 
     -- room for all leaves room for the next
-    pub records-room : (from at long k : ℕ) → from + sumN 256 (λ p. wordsOf (recordAt places p)) ≤ long → at ≡ from + length (recordLinesIn places k) → k < 256
-        → at + wordsOf (recordAt places k) ≤ long
-    records-room from at long k h e l =
-        omega (arith, records-length k, sumN-suc k (λ p. wordsOf (recordAt places p)), sumN-first (suc k) 256 (λ p. wordsOf (recordAt places p)) l)
+    pub record-words-room : (from at long k : ℕ) → from + sumN 256 (λ p. lineLength (recordAt places p)) ≤ long → at ≡ from + length (recordLinesWordsIn places k) → k < 256
+        → at + lineLength (recordAt places k) ≤ long
+    record-words-room from at long k h e l =
+        omega (arith, record-words-length k, sumN-suc k (λ p. lineLength (recordAt places p)), sumN-first (suc k) 256 (λ p. lineLength (recordAt places p)) l)
 
 -- ════ over the tables of a station list they are the sheet's
 module _ (stations : List Station) (x m : List ℤ) where
   station-in : (s : ℕ) → s < 32
-      → stationWordsIn (coordinates stations) (correctionsOf stations x) (numbersOf stations) (unknownsOf stations) m (unknownCount stations) s ≡ stationWords stations x m s
-  unfolding stationWordsIn sevenWords positionIn variancesIn stationWords
+      → stationLineWordsIn (coordinates stations) (correctionsOf stations x) (numbersOf stations) (unknownsOf stations) m (unknownCount stations) s ≡ stationLineWords stations x m s
+  unfolding stationLineWordsIn sevenWords positionIn variancesIn stationLineWords
   station-in s h =
       let e : s * 3 < 96 = omega arith in let n : s * 3 + 1 < 96 = omega arith in let u : s * 3 + 2 < 96 = omega arith in
       rw (
@@ -161,9 +161,9 @@ module _ (stations : List Station) (x m : List ℤ) where
   verdict-in r f t a h = rw (difference-in stations m r f t a h)
 
   record-in : (p : ℕ) (r : Record) → fromOf r < 32 → toOf r < 32
-      → recordWordsIn (numbersOf stations) (unknownsOf stations) m (unknownCount stations) p r (residualsIn (coordinates stations) (correctionsOf stations x) r)
-      ≡ recordWords stations x m p r
-  unfolding recordWordsIn lineOf sevenWords threeWords verdictsIn recordWords acts observations actsOf
+      → recordLineWordsIn (numbersOf stations) (unknownsOf stations) m (unknownCount stations) p r (residualsIn (coordinates stations) (correctionsOf stations x) r)
+      ≡ recordLineWords stations x m p r
+  unfolding recordLineWordsIn lineOf sevenWords threeWords verdictsIn recordLineWords acts observations actsOf
   record-in p Empty f t = refl
   record-in p (baseline b) f t =
       rw (
@@ -176,23 +176,23 @@ module _ (stations : List Station) (x m : List ℤ) where
       )
   record-in p (height h) f t = rw (residual-in stations x (height h) f t 2 (lit< tt) refl, verdict-in (height h) f t 2 (lit< tt))
 
-  pub station-lines : (k : ℕ) → stationLines stations x m k ≡ concatBelow k (stationWords stations x m)
-  unfolding stationLines concatBelow
+  pub station-lines : (k : ℕ) → stationLinesWords stations x m k ≡ concatBelow k (stationLineWords stations x m)
+  unfolding stationLinesWords concatBelow
   station-lines zero = refl
-  station-lines (suc k) = ap (λ (l : List ℤ). l ++ stationWords stations x m k) (station-lines k)
+  station-lines (suc k) = ap (λ (l : List ℤ). l ++ stationLineWords stations x m k) (station-lines k)
 
-  record-lines : (places : List Place) (k : ℕ) → recordLines stations x m places k ≡ concatBelow k (λ p. recordWords stations x m p (recordAt places p))
-  unfolding recordLines concatBelow
+  record-lines : (places : List Place) (k : ℕ) → recordLinesWords stations x m places k ≡ concatBelow k (λ p. recordLineWords stations x m p (recordAt places p))
+  unfolding recordLinesWords concatBelow
   record-lines places zero = refl
-  record-lines places (suc k) = ap (λ (l : List ℤ). l ++ recordWords stations x m k (recordAt places k)) (record-lines places k)
+  record-lines places (suc k) = ap (λ (l : List ℤ). l ++ recordLineWords stations x m k (recordAt places k)) (record-lines places k)
 
   pub stations-in : (k : ℕ) → k ≤ 32
-      → stationLinesIn (coordinates stations) (correctionsOf stations x) (numbersOf stations) (unknownsOf stations) m (unknownCount stations) k ≡ stationLines stations x m k
-  unfolding stationLinesIn
-  stations-in k h = concatBelow-ext k _ (stationWords stations x m) (λ s l. station-in s (omega arith)) ∙ sym (station-lines k)
+      → stationLinesWordsIn (coordinates stations) (correctionsOf stations x) (numbersOf stations) (unknownsOf stations) m (unknownCount stations) k ≡ stationLinesWords stations x m k
+  unfolding stationLinesWordsIn
+  stations-in k h = concatBelow-ext k _ (stationLineWords stations x m) (λ s l. station-in s (omega arith)) ∙ sym (station-lines k)
 
   pub records-in : (places : List Place) → ((p : ℕ) → p < 256 → (fromOf (recordAt places p) < 32) × (toOf (recordAt places p) < 32))
-      → recordLinesIn (coordinates stations) (correctionsOf stations x) (numbersOf stations) (unknownsOf stations) m (unknownCount stations) places 256 ≡ recordLines stations x m places 256
-  unfolding recordLinesIn recordLineIn
+      → recordLinesWordsIn (coordinates stations) (correctionsOf stations x) (numbersOf stations) (unknownsOf stations) m (unknownCount stations) places 256 ≡ recordLinesWords stations x m places 256
+  unfolding recordLinesWordsIn recordLineIn
   records-in places h =
-      concatBelow-ext 256 _ (λ p. recordWords stations x m p (recordAt places p)) (λ p l. record-in p (recordAt places p) (h p l .0) (h p l .1)) ∙ sym (record-lines places 256)
+      concatBelow-ext 256 _ (λ p. recordLineWords stations x m p (recordAt places p)) (λ p l. record-in p (recordAt places p) (h p l .0) (h p l .1)) ∙ sym (record-lines places 256)

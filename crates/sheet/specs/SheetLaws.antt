@@ -14,34 +14,34 @@ use Rattle.network.specs.declared.Place.{Place}
 use Rattle.network.specs.declared.Record.{Record}
 use Rattle.network.specs.declared.Record.the-variants.{Empty, Baseline as baseline, Height as height}
 use Rattle.residuals.specs.Residuals.{recordCount}
-use Rattle.sheet.specs.Sheet.{stationWords, stationLines, recordWords, recordLines, globalWords, sheetWords, wordsOf, room}
+use Rattle.sheet.specs.Sheet.{stationLineWords, stationLinesWords, recordLineWords, recordLinesWords, globalWords, sheetWords, lineLength, room}
 use Rattle.lists.specs.Pasted.{pasted, pasted-then, pasted-front}
 
 -- ════ lengths
-station-length : (stations : List Station) (x m : List ℤ) (s : ℕ) → length (stationWords stations x m s) ≡ 7
-unfolding stationWords
+station-length : (stations : List Station) (x m : List ℤ) (s : ℕ) → length (stationLineWords stations x m s) ≡ 7
+unfolding stationLineWords
 station-length stations x m s = refl
 
-record-length : (stations : List Station) (x m : List ℤ) (p : ℕ) (r : Record) → length (recordWords stations x m p r) ≡ wordsOf r
-unfolding recordWords wordsOf isEmpty observations
+record-length : (stations : List Station) (x m : List ℤ) (p : ℕ) (r : Record) → length (recordLineWords stations x m p r) ≡ lineLength r
+unfolding recordLineWords lineLength isEmpty observations
 record-length stations x m p Empty = refl
 record-length stations x m p (baseline b) = refl
 record-length stations x m p (height h) = refl
 
 module _ (stations : List Station) (x m : List ℤ) where
-  pub stations-long : (k : ℕ) → length (stationLines stations x m k) ≡ 7 * k
-  unfolding stationLines
+  pub stations-long : (k : ℕ) → length (stationLinesWords stations x m k) ≡ 7 * k
+  unfolding stationLinesWords
   stations-long zero = omega arith
   stations-long (suc k) =
-      omega (arith, length-append (stationLines stations x m k) (stationWords stations x m k), stations-long k, station-length stations x m k)
+      omega (arith, length-append (stationLinesWords stations x m k) (stationLineWords stations x m k), stations-long k, station-length stations x m k)
 
-  pub records-long : (places : List Place) (k : ℕ) → length (recordLines stations x m places k) ≡ sumN k (λ p. wordsOf (recordAt places p))
-  unfolding recordLines sumN
+  pub records-long : (places : List Place) (k : ℕ) → length (recordLinesWords stations x m places k) ≡ sumN k (λ p. lineLength (recordAt places p))
+  unfolding recordLinesWords sumN
   records-long places zero = refl
   records-long places (suc k) =
       omega (
         arith,
-        length-append (recordLines stations x m places k) (recordWords stations x m k (recordAt places k)),
+        length-append (recordLinesWords stations x m places k) (recordLineWords stations x m k (recordAt places k)),
         records-long places k,
         record-length stations x m k (recordAt places k),
       )
@@ -72,21 +72,21 @@ module _ (net : Network) (places : List Place) (x m : List ℤ) where
   pub sheet-length : length (sheetWords net places x m) ≡ room net places
   unfolding sheetWords room
   sheet-length =
-      parts-length (pos (recordCount places) ∷ pos (unknownCount (net .stations)) ∷ []) (stationLines (net .stations) x m (net .count)) (recordLines (net .stations) x m places 256) (globalWords (net .stations) places x)
+      parts-length (pos (recordCount places) ∷ pos (unknownCount (net .stations)) ∷ []) (stationLinesWords (net .stations) x m (net .count)) (recordLinesWords (net .stations) x m places 256) (globalWords (net .stations) places x)
       ∙ rw (stations-long (net .stations) x m (net .count), records-long (net .stations) x m places 256, global-long (net .stations) places x) (omega arith)
 
   pub sheet-written : (l a b c d : List ℤ) (at next : ℕ)
       → a ≡ pasted l 0 (pos (recordCount places) ∷ pos (unknownCount (net .stations)) ∷ [])
-      → b ≡ pasted a 2 (stationLines (net .stations) x m (net .count))
+      → b ≡ pasted a 2 (stationLinesWords (net .stations) x m (net .count))
       → at ≡ 2 + 7 * net .count
-      → c ≡ pasted b at (recordLines (net .stations) x m places 256)
-      → next ≡ at + sumN 256 (λ p. wordsOf (recordAt places p))
+      → c ≡ pasted b at (recordLinesWords (net .stations) x m places 256)
+      → next ≡ at + sumN 256 (λ p. lineLength (recordAt places p))
       → d ≡ pasted c next (globalWords (net .stations) places x)
       → room net places ≤ length l → d ≡ sheetWords net places x m ++ drop (room net places) l
   unfolding sheetWords
   sheet-written l a b c d at next ea eb eat ec en ed h =
       let n : length (sheetWords net places x m) ≡ room net places = sheet-length in
-      parts-written (pos (recordCount places) ∷ pos (unknownCount (net .stations)) ∷ []) (stationLines (net .stations) x m (net .count)) (recordLines (net .stations) x m places 256) (globalWords (net .stations) places x)
+      parts-written (pos (recordCount places) ∷ pos (unknownCount (net .stations)) ∷ []) (stationLinesWords (net .stations) x m (net .count)) (recordLinesWords (net .stations) x m places 256) (globalWords (net .stations) places x)
       l a b c d at next ea eb (eat ∙ ap (λ (k : ℕ). 2 + k) (sym (stations-long (net .stations) x m (net .count)))) ec
       (en ∙ ap (λ (k : ℕ). at + k) (sym (records-long (net .stations) x m places 256))) ed (subst (λ (k : ℕ). k ≤ length l) (sym n) h)
       ∙ ap (λ (k : ℕ). sheetWords net places x m ++ drop k l) n

@@ -28,16 +28,16 @@ use Rattle.network.specs.declared.Record.{Record}
 use Rattle.network.specs.declared.Record.the-variants.{Empty, Baseline as baseline, Height as height}
 use Rattle.normals.specs.Formulas.{P}
 use Rattle.normals.specs.Acting.{acting-only}
-use Rattle.normals.specs.Sound.{Sound, record-sound}
+use Rattle.normals.specs.ByRules.{ByRules, record-sound}
 use Rattle.sheet.specs.declared.totals.Counts.{Counts}
 use Rattle.residuals.specs.Residuals.{residual, unknownAtEnd, inAdjustment, weightedSquares, shareT, T, shareD, D, isRecord, recordCount}
-use Rattle.sheet.specs.Sheet.{wordsOf, room}
+use Rattle.sheet.specs.Sheet.{lineLength, room}
 use Rattle.residuals.specs.Components.{residualIn, residualsIn, residual-in, residual-size, unknownsOf, correctionsOf, Closes}
 use Rattle.residuals.specs.Ranges.{Solved, closes-at, sound-at}
 
 -- ════ counts
 abbrev pub wordCount : List Place → ℕ
-wordCount places = sumN 256 (λ p. wordsOf (recordAt places p))
+wordCount places = sumN 256 (λ p. lineLength (recordAt places p))
 
 unfoldable pub countsOf : List Place → Counts
 countsOf places = record { records = recordCount places; words = wordCount places }
@@ -50,8 +50,8 @@ record-one r = go (isEmpty r)
     go true = lit≤ tt
     go false = lit≤ tt
 
-pub words-few : (r : Record) → wordsOf r ≤ 7
-unfolding wordsOf
+pub words-few : (r : Record) → lineLength r ≤ 7
+unfolding lineLength
 words-few r = go (isEmpty r)
   where
     go : (t : Bool) → cond t 0 (1 + 2 * observations r) ≤ 7
@@ -61,33 +61,33 @@ words-few r = go (isEmpty r)
 -- no sheet takes more than 2,021 words: those of 32 stations and 256 baselines
 pub room-small : (net : Network) (places : List Place) → net .count ≤ 32 → room net places ≤ 2021
 unfolding room
-room-small net places h = omega (arith, sumN-const 256 {f = λ p. wordsOf (recordAt places p)} 7 (λ p l. words-few (recordAt places p)))
+room-small net places h = omega (arith, sumN-const 256 {f = λ p. lineLength (recordAt places p)} 7 (λ p l. words-few (recordAt places p)))
 
 -- what the loop has counted of the first n places
 pub record Counted (places : List Place) (records words n : ℕ) : Type 0 where
   pub are-records : records ≡ sumN n (λ p. isRecord (recordAt places p))
-  pub are-words : words ≡ sumN n (λ p. wordsOf (recordAt places p))
+  pub are-words : words ≡ sumN n (λ p. lineLength (recordAt places p))
 
 module _ (places : List Place) where
-  pub counted-none : Counted places 0 0 0
-  counted-none =
+  pub none-counted : Counted places 0 0 0
+  none-counted =
       record {
         are-records = sym (sumN-zero (λ p. isRecord (recordAt places p)));
-        are-words = sym (sumN-zero (λ p. wordsOf (recordAt places p)));
+        are-words = sym (sumN-zero (λ p. lineLength (recordAt places p)));
       }
 
   pub counted-more : {records words n a b : ℕ} → Counted places records words n
-      → a ≡ isRecord (recordAt places n) → b ≡ wordsOf (recordAt places n) → Counted places (records + a) (words + b) (n + 1)
+      → a ≡ isRecord (recordAt places n) → b ≡ lineLength (recordAt places n) → Counted places (records + a) (words + b) (n + 1)
   counted-more {n} g p q =
       record {
         are-records = ap₂ _+_ (g .are-records) p ∙ sym (sumN-+1 n (λ p. isRecord (recordAt places p)));
-        are-words = ap₂ _+_ (g .are-words) q ∙ sym (sumN-+1 n (λ p. wordsOf (recordAt places p)));
+        are-words = ap₂ _+_ (g .are-words) q ∙ sym (sumN-+1 n (λ p. lineLength (recordAt places p)));
       }
 
   pub counted-few : {records words n : ℕ} → Counted places records words n → n ≤ 256 → (records ≤ 256) × (words ≤ 1792)
   counted-few {n} g h =
       let a = sumN-const n {f = λ p. isRecord (recordAt places p)} 1 (λ p l. record-one (recordAt places p)) in
-      let b = sumN-const n {f = λ p. wordsOf (recordAt places p)} 7 (λ p l. words-few (recordAt places p)) in
+      let b = sumN-const n {f = λ p. lineLength (recordAt places p)} 7 (λ p l. words-few (recordAt places p)) in
       (omega (arith, g .are-records), omega (arith, g .are-words))
 
   pub counted-all : {records words : ℕ} → Counted places records words 256 → record { records = records; words = words } ≡ countsOf places
@@ -104,7 +104,7 @@ unfolding countsOf recordCount
 counts-few places =
     record {
       records = sumN-const 256 {f = λ p. isRecord (recordAt places p)} 1 (λ p l. record-one (recordAt places p));
-      words = sumN-const 256 {f = λ p. wordsOf (recordAt places p)} 7 (λ p l. words-few (recordAt places p));
+      words = sumN-const 256 {f = λ p. lineLength (recordAt places p)} 7 (λ p l. words-few (recordAt places p));
     }
 
 -- ════ in the adjustment, from the table of unknowns: an end is unknown in U
@@ -155,7 +155,7 @@ shareD-few unknowns r = go (inAdjustmentIn unknowns r)
     go true = observations-few r
     go false = lit≤ tt
 
-pub D-in : {net : Network} {places : List Place} → Sound net places
+pub D-in : {net : Network} {places : List Place} → ByRules net places
     → freedom (sumN 256 (λ p. shareDIn (unknownsOf (net .stations)) (recordAt places p))) (unknownCount (net .stations)) ≡ D (net .stations) places
 unfolding D shareD
 D-in {net} {places} g =

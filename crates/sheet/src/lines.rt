@@ -6,7 +6,7 @@ ghost use lib.IntN.{pos};
 ghost use lib.ListN.{length};
 ghost use Rattle.lists.specs.Pasted.{pasted};
 ghost use Rattle.network.specs.Records.{observations};
-ghost use Rattle.sheet.specs.Sheet.{wordsOf};
+ghost use Rattle.sheet.specs.Sheet.{lineLength};
 ghost use Rattle.sheet.specs.Lines.{sevenWords, threeWords, lineOf};
 
 // A number from 1 of what is counted from 0.
@@ -53,8 +53,8 @@ pub fn put_record(
     v: [i64; 3],
     w: [i64; 3],
 ) -> usize
-    requires { ⌜ (at + wordsOf r ≤ length (now sheet)) × (p < 256) ⌝ }
-    ensures { λ k. ⌜ (k ≡ at + wordsOf r) × (now (sheet .exit) ≡ pasted (now (sheet .entry)) at (lineOf (observations r) p v w)) ⌝ }
+    requires { ⌜ (at + lineLength r ≤ length (now sheet)) × (p < 256) ⌝ }
+    ensures { λ k. ⌜ (k ≡ at + lineLength r) × (now (sheet .exit) ≡ pasted (now (sheet .entry)) at (lineOf (observations r) p v w)) ⌝ }
 {
     let n = network::observations_of(r);
     if n == 0 {

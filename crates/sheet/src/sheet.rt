@@ -11,14 +11,14 @@ ghost use lib.ListN.{length, drop};
 ghost use Rattle.lists.specs.Pasted.{pasted};
 ghost use Rattle.network.specs.Places.{placesLength, placesIn};
 ghost use Rattle.residuals.specs.Ranges.{Moved, Solved, Inverse};
-ghost use Rattle.sheet.specs.Sheet.{stationLines, recordLines, sheetWords, room};
+ghost use Rattle.sheet.specs.Sheet.{stationLinesWords, recordLinesWords, sheetWords, room};
 ghost use Rattle.sheet.specs.Totals.{wordCount};
 ghost use Rattle.residuals.specs.Verdicts.{verdictWord, globalVerdict};
 
 // The stations' lines, stored from index `from` on.
 fn put_stations(sheet: &mut [i64], from: usize, net: Network, x: &[i64], m: &[i64])
     requires { ⌜ Moved net (now x) × Inverse net (now m) × (from + 7 * net .count ≤ length (now sheet)) ⌝ }
-    ensures { λ _. ⌜ now (sheet .exit) ≡ pasted (now (sheet .entry)) from (stationLines (net .stations) (now (x .entry)) (now (m .entry)) (net .count)) ⌝ }
+    ensures { λ _. ⌜ now (sheet .exit) ≡ pasted (now (sheet .entry)) from (stationLinesWords (net .stations) (now (x .entry)) (now (m .entry)) (net .count)) ⌝ }
 {
     let stations = net.stations;
     let count = net.count;
@@ -41,7 +41,7 @@ fn put_stations(sheet: &mut [i64], from: usize, net: Network, x: &[i64], m: &[i6
 // The records' lines, stored from index `from` on.
 fn put_records(sheet: &mut [i64], from: usize, net: Network, places: &[i64], x: &[i64], m: &[i64])
     requires { ⌜ (placesLength ≤ length (now places)) × Solved net (placesIn (now places)) (now x) × Inverse net (now m) × (from + wordCount (placesIn (now places)) ≤ length (now sheet)) ⌝ }
-    ensures { λ _. ⌜ now (sheet .exit) ≡ pasted (now (sheet .entry)) from (recordLines (net .stations) (now (x .entry)) (now (m .entry)) (placesIn (now (places .entry))) 256) ⌝ }
+    ensures { λ _. ⌜ now (sheet .exit) ≡ pasted (now (sheet .entry)) from (recordLinesWords (net .stations) (now (x .entry)) (now (m .entry)) (placesIn (now (places .entry))) 256) ⌝ }
 {
     let stations = net.stations;
     let n = network::number_of(stations, Unit::COMPONENTS);

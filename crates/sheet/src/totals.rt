@@ -10,10 +10,10 @@ ghost use Rattle.integers.specs.Sums.{sum};
 ghost use Rattle.integers.specs.Tables.{Within};
 ghost use Rattle.network.specs.Places.{placesLength, placesIn};
 ghost use Rattle.network.specs.Records.{fromOf, toOf};
-ghost use Rattle.normals.specs.Sound.{Sound};
+ghost use Rattle.normals.specs.ByRules.{ByRules};
 ghost use Rattle.residuals.specs.Residuals.{isRecord, T, D};
 ghost use Rattle.residuals.specs.Ranges.{Solved};
-ghost use Rattle.sheet.specs.Sheet.{wordsOf};
+ghost use Rattle.sheet.specs.Sheet.{lineLength};
 ghost use Rattle.sheet.specs.Totals.{countsOf, freedom, inAdjustmentIn, shareDIn, shareTIn, Weighed};
 
 // Of all places: records, and words of their lines.
@@ -30,7 +30,7 @@ fn is_record(r: Record) -> usize
 
 // The words of a record's line: the place, and a residual and a verdict for each component that the record observes.
 pub fn words_in(r: Record) -> usize
-    ensures { λ n. ⌜ n ≡ wordsOf r ⌝ }
+    ensures { λ n. ⌜ n ≡ lineLength r ⌝ }
 {
     let n = network::observations_of(r);
     if network::is_empty(r) { 0 } else { 1 + 2 * n }
@@ -86,7 +86,7 @@ fn freedom_of(observed: usize, n: usize) -> i64
 
 // D, the degrees of freedom of the records in the adjustment.
 pub fn d_of(net: Network, places: &[i64]) -> i64
-    requires { ⌜ (placesLength ≤ length (now places)) × Sound net (placesIn (now places)) ⌝ }
+    requires { ⌜ (placesLength ≤ length (now places)) × ByRules net (placesIn (now places)) ⌝ }
     ensures { λ r. ⌜ r ≡ D (net .stations) (placesIn (now (places .entry))) ⌝ }
 {
     let stations = net.stations;

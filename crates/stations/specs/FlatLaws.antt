@@ -10,7 +10,7 @@ use borrow.Author.Tests.{le-leb, lt-leb, eq-eqb}
 use lib.ListN.{length, take, drop, getD, set, length-append}
 use lib.Seq.{take-suc, take-length, take-at, length-take-le, sets-eq}
 use lib.IntN.{ℤ}
-use Rattle.network.specs.Stations.{blank, wholeStations, countFits, opens}
+use Rattle.network.specs.Stations.{blankStation, wholeStations, countFits, opens}
 use Rattle.network.specs.declared.Station.{Station}
 use Rattle.book.specs.Book.{opening, sound}
 use Rattle.book.specs.declared.Edited.{Edited}
@@ -18,18 +18,18 @@ use Rattle.network.specs.StationWords.{stationWords, flat, flat-length, flat-on
 use Rattle.stations.specs.Flat.{readCount}
 
 -- one station more
-pub flat-more : (ys : List Station) (i : ℕ) → i < length ys → flat (take (i + 1) ys) ≡ flat (take i ys) ++ stationWords (getD ys i blank)
-flat-more ys i h = rw (add-one, take-suc ys i blank, flat-one)
+pub flat-more : (ys : List Station) (i : ℕ) → i < length ys → flat (take (i + 1) ys) ≡ flat (take i ys) ++ stationWords (getD ys i blankStation)
+flat-more ys i h = rw (add-one, take-suc ys i blankStation, flat-one)
 
 -- the same as the reader's loop has it: w holds the first i stations, and the next one's numbers are put after them
-pub flat-step : (ys : List Station) (i : ℕ) (w next : List ℤ) (s : Station) → i < length ys → s ≡ getD ys i blank → take (i * 4) w ≡ flat (take i ys)
+pub flat-step : (ys : List Station) (i : ℕ) (w next : List ℤ) (s : Station) → i < length ys → s ≡ getD ys i blankStation → take (i * 4) w ≡ flat (take i ys)
     → take ((i + 1) * 4) next ≡ take (i * 4) w ++ stationWords s → take ((i + 1) * 4) next ≡ flat (take (i + 1) ys)
 flat-step ys i w next s h e held put = put ∙ rw (held, e, flat-more ys i h)
 
 -- ════ four numbers put one after the other: a, b, c, d, which the code has as p, q, r, s
-pub put-four : (w : List ℤ) (at n : ℕ) {a b c d p q r s : ℤ} → n ≡ at + 4 → at + 4 ≤ length w → p ≡ a → q ≡ b → r ≡ c → s ≡ d
+pub put-flat : (w : List ℤ) (at n : ℕ) {a b c d p q r s : ℤ} → n ≡ at + 4 → at + 4 ≤ length w → p ≡ a → q ≡ b → r ≡ c → s ≡ d
     → take n (set (set (set (set w at p) (at + 1) q) (at + 2) r) (at + 3) s) ≡ take at w ++ (a ∷ b ∷ c ∷ d ∷ [])
-put-four w at n {a} {b} {c} {d} e h ea eb ec ed =
+put-flat w at n {a} {b} {c} {d} e h ea eb ec ed =
     let four : List ℤ = a ∷ b ∷ c ∷ d ∷ [] in
     let e1 : at + 1 ≡ suc at = omega arith in
     let e2 : at + 2 ≡ suc (suc at) = omega arith in

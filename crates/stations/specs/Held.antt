@@ -9,7 +9,7 @@ use lib.Seq.{getD-append-add}
 use lib.IntN.{pos}
 use Rattle.integers.specs.Tables.{getD-tabulate}
 use Rattle.words.specs.Signed.{indexIn}
-use Rattle.network.specs.Stations.{blank, stationAt, kindAt, kindOf, stationIn, networkOf, opens}
+use Rattle.network.specs.Stations.{blankStation, stationAt, kindAt, kindOf, stationIn, networkOf, opens}
 use Rattle.network.specs.declared.Kind.{Kind}
 use Rattle.network.specs.declared.Kind.the-variants.{Known, Free, Height}
 use Rattle.network.specs.declared.Station.{Station}
@@ -22,23 +22,23 @@ unfolding flat stationWords
 after x xs i j e = rw e (getD-append-add (stationWords x) (flat xs) i (pos 0))
 
 -- station s, counted from 0; blank beyond the last
-pub station-back : (ys : List Station) (s : ℕ) → stationIn (flat ys) s ≡ getD ys s blank
+pub flat-back : (ys : List Station) (s : ℕ) → stationIn (flat ys) s ≡ getD ys s blankStation
 unfolding stationIn flat stationWords kindAt indexIn
-station-back [] s = refl
-station-back (x ∷ xs) zero = rw (kind-back (x .kind))
-station-back (x ∷ xs) (suc s) =
+flat-back [] s = refl
+flat-back (x ∷ xs) zero = rw (kind-back (x .kind))
+flat-back (x ∷ xs) (suc s) =
     rw (after x xs (s * 4) (suc s * 4) (omega arith), after x xs (s * 4 + 1) (suc s * 4 + 1) (omega arith), after x xs (s * 4 + 2) (suc s * 4 + 2) (omega arith), after x xs (s * 4 + 3) (suc s * 4 + 3) (omega arith))
-    (station-back xs s)
+    (flat-back xs s)
 
 -- the book that a lent list opens: as many stations, and those of the list
-pub record Holds (ys : List Station) : Type 0 where
+pub record HoldsStations (ys : List Station) : Type 0 where
   pub count : opening (flat ys) .book .network .count ≡ length ys
-  pub stations : (s : ℕ) → s < 32 → stationAt (opening (flat ys) .book .network .stations) s ≡ getD ys s blank
+  pub stations : (s : ℕ) → s < 32 → stationAt (opening (flat ys) .book .network .stations) s ≡ getD ys s blankStation
 
-pub holds : (ys : List Station) → opens (flat ys) ≡ true → Holds ys
+pub holds-stations : (ys : List Station) → opens (flat ys) ≡ true → HoldsStations ys
 unfolding networkOf
-holds ys e =
+holds-stations ys e =
     record {
       count = rw e (omega (arith, flat-length ys));
-      stations = λ s h. rw e (getD-tabulate 32 (stationIn (flat ys)) s blank h ∙ station-back ys s);
+      stations = λ s h. rw e (getD-tabulate 32 (stationIn (flat ys)) s blankStation h ∙ flat-back ys s);
     }

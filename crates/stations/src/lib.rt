@@ -13,7 +13,7 @@ ghost use mathlib.Core.Path.{_≡_};
 ghost use mathlib.Core.Bool.{true};
 ghost use Prim.Native.Nat.{_*_, _<_};
 ghost use lib.ListN.{length, getD, take};
-ghost use Rattle.network.specs.Stations.{blank, opens};
+ghost use Rattle.network.specs.Stations.{blankStation, opens};
 ghost use Rattle.book.specs.Book.{opening, sound};
 ghost use Rattle.network.specs.StationWords.{flat};
 ghost use Rattle.stations.specs.Flat.{readCount};
@@ -21,7 +21,7 @@ ghost use Rattle.stations.specs.Flat.{readCount};
 // The station at i, counted from 0.
 fn station_at(list: &[Station], i: usize) -> Station
     requires { ⌜ i < length (now list) ⌝ }
-    ensures { λ r. ⌜ r ≡ getD (now (list .entry)) i blank ⌝ }
+    ensures { λ r. ⌜ r ≡ getD (now (list .entry)) i blankStation ⌝ }
 {
     list[i]
 }

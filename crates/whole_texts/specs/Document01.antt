@@ -17,7 +17,7 @@ use Rattle.network.specs.OpeningLaws.{opened-fits}
 use Rattle.network.specs.declared.Station.{Station}
 use Rattle.network.specs.declared.Kind.the-variants as kind
 use Rattle.network.specs.declared.Network.{Network}
-use Rattle.acceptance.specs.Judge.{numberOf}
+use Rattle.acceptance.specs.Judge.{answerNumber}
 use Rattle.acceptance.specs.JudgeLaws.{refusal-least}
 use Rattle.acceptance.specs.declared.Answer.{Answer}
 use Rattle.acceptance.specs.declared.Answer.the-variants.{Accepted, Refused}
@@ -29,11 +29,11 @@ use Rattle.book.specs.declared.Call.the-variants.{Edit}
 use Rattle.book.specs.Run.{final, answers}
 use Rattle.book.specs.Rows.{rowNext, rowSays}
 use Rattle.integers.specs.Sums.{sumN}
-use Rattle.sheet.specs.Sheet.{wordsOf, sheetWords, room}
+use Rattle.sheet.specs.Sheet.{lineLength, sheetWords, room}
 use Rattle.sheet.specs.SheetLaws.{sheet-length}
 use Rattle.checks.specs.Checks.{checked, hasRoom, onAcceptance, sheetAfter}
 use Rattle.cases.specs.Table.{stationList, level, table}
-use Rattle.cases.specs.Cases.{rowsOf, bookOf, xOf, mOf, filled, enough, Holds, first}
+use Rattle.cases.specs.Cases.{rowsOf, caseBook, xOf, mOf, filledPlaces, enough, CaseHolds, firstCase}
 use Rattle.cases.specs.Brief.{brief-follows}
 use Rattle.cases.specs.CasesHold.{cases-hold}
 use Rattle.text.specs.Before.{before}
@@ -164,7 +164,7 @@ module _ (b : Book) where
     unfolding editLines linesSay lineSays lineNext entrySays openingSays HEIGHT-1 letterOf before
     opened-says = rw (s, line-opens)
 
-  edits-next : linesNext (withBook b 2 none none) editLines ≡ withBook (bookNext (bookNext b call1) call2) 6 (given (xOf first)) (given (mOf first))
+  edits-next : linesNext (withBook b 2 none none) editLines ≡ withBook (bookNext (bookNext b call1) call2) 6 (given (xOf firstCase)) (given (mOf firstCase))
   unfolding editLines HEIGHT-1 HEIGHT-2 CORRECTIONS MATRIX linesNext lineNext lineEnters stationsAfter phaseOpened phaseAfter edits isUnopened brings givenBy counted atMost commandOf fieldsCommand otherOf added entryOf exactly letterOf restFields fieldsOf before numbersOf fieldNumber signedOf isDecimal allDigits valueAfter
   edits-next = refl
 
@@ -179,7 +179,7 @@ module _ (b : Book) where
   end-checks x m offer = refl
 
 -- ════ the book: what is proved of these calls
-holds : Holds first
+holds : CaseHolds firstCase
 unfolding table
 holds = cases-hold 0 (lit< tt)
 
@@ -195,7 +195,7 @@ unfolding openingSays
 opening-silent = rw (station-words, holds .opened)
 
 -- neither call is refused
-module _ (b : Book) (e : answers (rowNext bookNext) (rowSays bookSays) b (rowsOf first) ≡ pos 0 ∷ pos 0 ∷ []) where
+module _ (b : Book) (e : answers (rowNext bookNext) (rowSays bookSays) b (rowsOf firstCase) ≡ pos 0 ∷ pos 0 ∷ []) where
   answer-1 : bookSays b call1 ≡ 0
   unfolding answers rowSays
   answer-1 = ap (λ (l : List ℤ). natAbs (getD l 0 (pos 0))) e
@@ -204,23 +204,23 @@ module _ (b : Book) (e : answers (rowNext bookNext) (rowSays bookSays) b (rowsOf
   unfolding answers rowSays rowNext
   answer-2 = ap (λ (l : List ℤ). natAbs (getD l 1 (pos 0))) e
 
-book-is : bookNext (bookNext newBook call1) call2 ≡ bookOf first
+book-is : bookNext (bookNext newBook call1) call2 ≡ caseBook firstCase
 unfolding final rowNext
 book-is = refl
 
-two-stations : bookOf first .network .count ≡ 2
+two-stations : caseBook firstCase .network .count ≡ 2
 unfolding networkOf stationList
-two-stations = ap (λ (n : Network). n .count) (brief-follows (networkOf stationList) (opened-fits stationList (holds .opened)) (rowsOf first) .network)
+two-stations = ap (λ (n : Network). n .count) (brief-follows (networkOf stationList) (opened-fits stationList (holds .opened)) (rowsOf firstCase) .network)
 
 -- ════ the check: what is proved of it
 -- only an acceptance has number 0
-accepted-0 : (a : Answer) → numberOf a ≡ 0 → a ≡ Accepted
+accepted-0 : (a : Answer) → answerNumber a ≡ 0 → a ≡ Accepted
 accepted-0 Accepted e = refl
 accepted-0 (Refused refusal) e = absurd (omega (arith, refusal-least refusal))
 
-room-is : room (bookOf first .network) (bookOf first .places) ≡ length (first .sheet)
-unfolding recordStart sumN wordsOf isEmpty observations filled
-room-is = sym (global-room (bookOf first .network) (bookOf first .places)) ∙ rw (two-stations, holds .records)
+room-is : room (caseBook firstCase .network) (caseBook firstCase .places) ≡ length (firstCase .sheet)
+unfolding recordStart sumN lineLength isEmpty observations filledPlaces
+room-is = sym (global-room (caseBook firstCase .network) (caseBook firstCase .places)) ∙ rw (two-stations, holds .records)
 
 -- the words of a sheet are those that it leaves at the front of lent ones
 module _ (b : Book) (x m lent sheet : List ℤ) where
@@ -233,32 +233,32 @@ module _ (b : Book) (x m lent sheet : List ℤ) where
       ∙ ap (take (length sheet)) (rw accepts at leaves)
       ∙ take-at sheet (drop (length sheet) lent) (length sheet) refl
 
-words-are : sheetWords (bookOf first .network) (bookOf first .places) (xOf first) (mOf first) ≡ first .sheet
+words-are : sheetWords (caseBook firstCase .network) (caseBook firstCase .places) (xOf firstCase) (mOf firstCase) ≡ firstCase .sheet
 words-are =
     let lent = replicate enough (pos 0) in
-    words-from (bookOf first) (xOf first) (mOf first) lent (first .sheet)
-    (accepted-0 (checked (bookOf first) (xOf first) (mOf first) (hasRoom (bookOf first) lent)) (holds .checkSheet lent (lit≤ tt) .number))
+    words-from (caseBook firstCase) (xOf firstCase) (mOf firstCase) lent (firstCase .sheet)
+    (accepted-0 (checked (caseBook firstCase) (xOf firstCase) (mOf firstCase) (hasRoom (caseBook firstCase) lent)) (holds .checkSheet lent (lit≤ tt) .number))
     room-is
     (holds .written lent (lit≤ tt))
 
-sheet-text : sheetText (first .sheet) 2 (filled (first .records)) ≡ OUTPUT
-unfolding OUTPUT filled sheetText headLine stationLines stationLine recordLines lineFor recordStart sumN wordsOf isEmpty observations heightLine baselineLine globalLine spaced verdict highVerdict decimal decimalIn
+sheet-text : sheetText (firstCase .sheet) 2 (filledPlaces (firstCase .records)) ≡ OUTPUT
+unfolding OUTPUT filledPlaces sheetText headLine stationLines stationLine recordLines lineFor recordStart sumN lineLength isEmpty observations heightLine baselineLine globalLine spaced verdict highVerdict decimal decimalIn
 sheet-text = refl
 
-check-prints : checkSays (bookOf first) (xOf first) (mOf first) ≡ OUTPUT
+check-prints : checkSays (caseBook firstCase) (xOf firstCase) (mOf firstCase) ≡ OUTPUT
 unfolding checkSays answerSays
 check-prints =
-    let accepts = accepted-0 (checked (bookOf first) (xOf first) (mOf first) true) (holds .check .number) in
+    let accepts = accepted-0 (checked (caseBook firstCase) (xOf firstCase) (mOf firstCase) true) (holds .check .number) in
     rw (accepts, words-are, two-stations, holds .records) sheet-text
 
 -- ════ the text
-all-next : linesNext atStart lines ≡ withBook (bookOf first) 6 (given (xOf first)) (given (mOf first))
+all-next : linesNext atStart lines ≡ withBook (caseBook firstCase) 6 (given (xOf firstCase)) (given (mOf firstCase))
 unfolding lines
 all-next =
     read-next editLines
     ∙ opened-next newBook opening-phase opening-silent
     ∙ edits-next newBook
-    ∙ ap (λ (b : Book). withBook b 6 (given (xOf first)) (given (mOf first))) book-is
+    ∙ ap (λ (b : Book). withBook b 6 (given (xOf firstCase)) (given (mOf firstCase))) book-is
 
 all-say : linesSay atStart lines ≡ []
 unfolding lines
@@ -269,7 +269,7 @@ all-say =
 
 lines-print : (text : List ℕ) → linesOf text ≡ lines → (offer : Offer) → printed text offer ≡ OUTPUT
 unfolding printed
-lines-print text are offer = rw (are, all-say, all-next) (end-checks (bookOf first) (xOf first) (mOf first) offer ∙ check-prints)
+lines-print text are offer = rw (are, all-say, all-next) (end-checks (caseBook firstCase) (xOf firstCase) (mOf firstCase) offer ∙ check-prints)
 
 -- ════ the theorems, whatever the engine's offer is: X and M are given, so it is not asked
 pub document-01 : (offer : Offer) → printed INPUT offer ≡ OUTPUT

@@ -1,4 +1,4 @@
--- What the two tests told makes network and places `Sound`, and N and u worked out from them fit `accept`.
+-- What the two tests told makes network and places `ByRules`, and N and u worked out from them fit `accept`.
 use mathlib.Core.Path.{_≡_, sym, _∙_}
 use mathlib.Core.Bool.{true}
 use borrow.Author.Needs.{needs}
@@ -7,15 +7,15 @@ use Rattle.lists.specs.All.{all-at}
 use Rattle.network.specs.Stations.{networkFits}
 use Rattle.network.specs.Places.{placesIn}
 use Rattle.network.specs.RuleLaws.{network-few, network-coordinates}
-use Rattle.normals.specs.Sound.{Sound}
-use Rattle.acceptance.specs.Exactly.{fit-of}
+use Rattle.normals.specs.ByRules.{ByRules}
+use Rattle.acceptance.specs.Exactly.{book-in-range}
 use Rattle.acceptance_limits.proofs.print_judged.Statement.{statement}
 use Rattle.acceptance_limits.proofs.print_judged.Tie as tie
 
 fits : (c : tie.Else1) → networkFits (c .before .before .args .net) ≡ true
 fits c = sym (c .before .network-fits .ensures) ∙ not-false _ (c .if1 .left)
 
-sound : (c : tie.Else2) → Sound (c .before .before .before .before .before .before .args .net) (placesIn (c .before .before .before .place-words .result))
+sound : (c : tie.Else2) → ByRules (c .before .before .before .before .before .before .args .net) (placesIn (c .before .before .before .place-words .result))
 sound c =
     record { network = fits (c .before .before .before .before); each = λ p h. all-at 256 _ p (sym (c .before .all-fit .ensures) ∙ not-false _ (c .if2 .left)) h }
 
@@ -63,7 +63,7 @@ slice-aggregate-accept-2 c = search needs
 
 accept-requires : tie.Need-accept-requires
 accept-requires c κs =
-    let t = c .before .before .before .before .before in (search needs, rw (t .of .ensures) (fit-of _ _ (sound (t .before .before))))
+    let t = c .before .before .before .before .before in (search needs, rw (t .of .ensures) (book-in-range _ _ (sound (t .before .before))))
 
 print-answer-requires : tie.Need-print-answer-requires
 print-answer-requires c κs = search needs

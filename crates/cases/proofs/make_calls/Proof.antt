@@ -19,7 +19,7 @@ use Rattle.book.specs.Rows.{rowNext, rowSays}
 use Rattle.book.specs.declared.Row.the-variants.{Names, Nameless}
 use Rattle.book.specs.SoundLaws.{refusal-small}
 use Rattle.book.specs.ReplayLaws.{filled, unfilled}
-use Rattle.cases.specs.Script.{numbers, callAt, rowsFrom}
+use Rattle.cases.specs.Script.{callNumbers, callAt, rowsFrom}
 use Rattle.cases.proofs.Calls.{after, said, turn-says, turn-next}
 use Rattle.cases.proofs.make_calls.Statement.{statement}
 use Rattle.cases.proofs.make_calls.Tie as tie
@@ -36,7 +36,7 @@ rows-long : (start count : ℕ) → length (rowsFrom start count) ≡ count
 unfolding rowsFrom
 rows-long start count = length-tabulate count _
 
-row-at : (start count i : ℕ) → i < count → getD (rowsFrom start count) i Nameless ≡ Names (callAt (getD numbers (start + i) 0))
+row-at : (start count i : ℕ) → i < count → getD (rowsFrom start count) i Nameless ≡ Names (callAt (getD callNumbers (start + i) 0))
 unfolding rowsFrom
 row-at start count i h = getD-tabulate count _ i Nameless h
 
@@ -74,7 +74,7 @@ loop-less : tie.Need-loop-less Inv-loop μ-loop
 loop-less c = search needs
 
 loop-again : tie.Need-loop-again Inv-loop μ-loop
-unfolding numbers
+unfolding callNumbers
 loop-again c =
     let a = c .before .before in
     let t = a .before .before .before in

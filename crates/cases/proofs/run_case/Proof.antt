@@ -10,7 +10,7 @@ use denote.Ref.{now}
 use lib.IntN.{ℤ}
 use Rattle.cases.specs.Cases.{caseAt}
 use Rattle.cases.specs.CasesHold.{cases-hold}
-use Rattle.cases.specs.Script.{starts, counts, xs, ms, table-length, rows-are, x-is, m-is, few-calls}
+use Rattle.cases.specs.Script.{callStarts, callCounts, xs, ms, table-length, rows-are, x-is, m-is, few-calls}
 use Rattle.cases.proofs.Runs.{ran}
 use Rattle.cases.proofs.run_case.Statement.{statement}
 use Rattle.cases.proofs.run_case.Tie as tie
@@ -35,7 +35,7 @@ inside : (c : tie.Start) → c .args .k < 14
 inside c = omega (arith, table-length)
 
 make-calls-requires : tie.Need-make-calls-requires
-unfolding starts counts
+unfolding callStarts callCounts
 make-calls-requires c κs =
     let s = c .before .before in
     let f = few-calls (s .args .k) (inside s) in
@@ -69,7 +69,7 @@ same-length-2 : tie.Need-same-length-2
 same-length-2 c = search needs
 
 returns : tie.Need-returns
-unfolding starts counts xs ms
+unfolding callStarts callCounts xs ms
 returns c =
     let made = c .before .before .before .before .before .before .before .before in
     let s = made .before .before .before in

@@ -16,8 +16,8 @@ use Rattle.checks.specs.CheckLaws.{checked-is, solved, inverse, room-eno
 use Rattle.checks.proofs.check_sheet_in.Statement.{statement}
 use Rattle.checks.proofs.check_sheet_in.Tie as tie
 
-abbrev held : tie.Start → Book
-held s = bookOf (s .args .s .now)
+abbrev lentBook : tie.Start → Book
+lentBook s = bookOf (s .args .s .now)
 
 abbrev start : tie.After-judge-in → tie.Start
 start c = c .before .before .before .before .before .before .before .before
@@ -25,7 +25,7 @@ start c = c .before .before .before .before .before .before .before .before
 long : (c : tie.After-places-in) → placesLength ≤ length (c .places-in .result)
 long c = search needs
 
-answered : (c : tie.After-judge-in) → c .judge-in .result ≡ checked (held (start c)) (start c .args .x .now) (start c .args .m .now) (hasRoom (held (start c)) (start c .args .sheet .now))
+answered : (c : tie.After-judge-in) → c .judge-in .result ≡ checked (lentBook (start c)) (start c .args .x .now) (start c .args .m .now) (hasRoom (lentBook (start c)) (start c .args .sheet .now))
 answered c =
     let h = c .before .before in
     let r = h .before in
@@ -33,10 +33,10 @@ answered c =
 
 -- what the answer tells of the seven tests
 tests : (c : tie.After-judge-in) (a : Answer) → c .judge-in .result ≡ a
-    → answer (held (start c) .network) (held (start c) .places) (start c .args .x .now) (start c .args .m .now) (hasRoom (held (start c)) (start c .args .sheet .now)) ≡ a
+    → answer (lentBook (start c) .network) (lentBook (start c) .places) (start c .args .x .now) (start c .args .m .now) (hasRoom (lentBook (start c)) (start c .args .sheet .now)) ≡ a
 tests c a e =
     let s = start c in
-    sym (checked-is (held s) (fits-tested _ (s .pre)) (s .args .x .now) (s .args .m .now) (hasRoom (held s) (s .args .sheet .now))) ∙ sym (answered c) ∙ e
+    sym (checked-is (lentBook s) (fits-tested _ (s .pre)) (s .args .x .now) (s .args .m .now) (hasRoom (lentBook s) (s .args .sheet .now))) ∙ sym (answered c) ∙ e
 
 network-in-requires : tie.Need-network-in-requires
 network-in-requires c κs = fits-room _ (c .before .pre)
@@ -51,7 +51,7 @@ room-of-requires : tie.Need-room-of-requires
 room-of-requires c κs =
     let n = c .before .before in
     let s = n .before .before in
-    (search needs, rw (n .network-in .ensures) (network-few (held s .network) (fits-sound _ (s .pre) .network)))
+    (search needs, rw (n .network-in .ensures) (network-few (lentBook s .network) (fits-sound _ (s .pre) .network)))
 
 has-room-requires : tie.Need-has-room-requires
 has-room-requires c κs = search needs
@@ -73,7 +73,7 @@ write-sheet-requires c κs =
     let t = c .before .before in
     let j = t .before .before in
     let s = start j in
-    let b = held s in
+    let b = lentBook s in
     let a = s .args in
     let u = fits-tested _ (s .pre) in
     let e = tests j _ (t .enum-told .given .1) in
@@ -98,7 +98,7 @@ returns c =
     let p = j .before .before .before .before .before in (
       sym (sym (answered j) ∙ t .enum-told .given .1),
       (rw (p .before .network-in .ensures, p .places-in .ensures) at (w .write-sheet .ensures))
-          ∙ after-accepted (held s) (fits-tested _ (s .pre)) (a .x .now) (a .m .now) (a .sheet .now) (tests j _ (t .enum-told .given .1)),
+          ∙ after-accepted (lentBook s) (fits-tested _ (s .pre)) (a .x .now) (a .m .now) (a .sheet .now) (tests j _ (t .enum-told .given .1)),
     )
 
 returns-2 : tie.Need-returns-2
@@ -107,7 +107,7 @@ returns-2 c =
     let s = start j in
     let a = s .args in
     let e = c .before .answer .given .1 in
-    (sym (sym (answered j) ∙ e), after-refused (held s) (fits-tested _ (s .pre)) (a .x .now) (a .m .now) (a .sheet .now) _ (tests j _ e))
+    (sym (sym (answered j) ∙ e), after-refused (lentBook s) (fits-tested _ (s .pre)) (a .x .now) (a .m .now) (a .sheet .now) _ (tests j _ e))
 
 pub check-sheet-in-spec : {M : Type 1} → statement M
 check-sheet-in-spec =

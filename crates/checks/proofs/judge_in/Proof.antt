@@ -3,7 +3,7 @@ use mathlib.Core.Path.{sym, _∙_}
 use borrow.Author.Needs.{needs}
 use Rattle.layout.specs.Bytes.{bookOf}
 use Rattle.layout.specs.CodecLaws.{fits-room, fits-tested, fits-sound}
-use Rattle.checks.specs.CheckLaws.{fit, judge-is, checked-is}
+use Rattle.checks.specs.CheckLaws.{sound-in-range, judge-is, checked-is}
 use Rattle.checks.proofs.judge_in.Statement.{statement}
 use Rattle.checks.proofs.judge_in.Tie as tie
 
@@ -20,7 +20,7 @@ accept-requires : tie.Need-accept-requires
 accept-requires c κs =
     let t = c .before .before in
     let s = t .before .before .before in
-    (s .pre .1, rw (s .pre .2, s .pre .3, t .before .matrix-in .ensures, t .right-in .ensures) (fit (bookOf (s .args .s .now)) (fits-sound _ (s .pre .0))))
+    (s .pre .1, rw (s .pre .2, s .pre .3, t .before .matrix-in .ensures, t .right-in .ensures) (sound-in-range (bookOf (s .args .s .now)) (fits-sound _ (s .pre .0))))
 
 returns : tie.Need-returns
 returns c =

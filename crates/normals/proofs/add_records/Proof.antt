@@ -16,7 +16,7 @@ use Rattle.network.specs.declared.Network.{Network}
 use Rattle.network.specs.declared.Record.{Record}
 use Rattle.network.specs.declared.Place.{Place}
 use Rattle.normals.specs.Formulas.{entryN, entryU}
-use Rattle.normals.specs.Sound.{Sound, record-sound}
+use Rattle.normals.specs.ByRules.{ByRules, record-sound}
 use Rattle.normals.specs.Equations.{blockN, blockU}
 use Rattle.normals.specs.Shares.{numbers, unknowns, equation, equation-by, is-observed, within-unknowns}
 use Rattle.normals.specs.FirstPlaces.{firstN, firstU, firstN-0, firstU-0, firstN-more, firstU-more, fits-at, within-firstN, within-firstU}
@@ -26,7 +26,7 @@ use Rattle.normals.proofs.add_records.Tie as tie
 -- of the network that the tables are of, which the code no longer holds
 abbrev Holds : List Place → List ℕ → List ℤ → List ℤ → List ℤ → List ℤ → ℕ → Type 0
 Holds places at un co n u p =
-    (net : Network) → Sound net places → at ≡ numbers (net .stations) → un ≡ unknowns (net .stations) → co ≡ coordinates (net .stations)
+    (net : Network) → ByRules net places → at ≡ numbers (net .stations) → un ≡ unknowns (net .stations) → co ≡ coordinates (net .stations)
     → (n ≡ firstN (net .stations) places p) × (u ≡ firstU (net .stations) places p)
 
 abbrev Inv-loop : tie.InvT-loop

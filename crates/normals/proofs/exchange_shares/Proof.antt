@@ -5,7 +5,7 @@ use mathlib.Core.Path.{_≡_, _∙_}
 use lib.Dec.{lit≤}
 use lib.IntN.{pos, negsuc}
 use Rattle.integers.specs.Tables.{plus, within-plus, within-more}
-use Rattle.normals.specs.Equations.{Fit, blockN, blockU}
+use Rattle.normals.specs.Equations.{EquationInRange, blockN, blockU}
 use Rattle.normals.specs.EquationSizes.{block-size, block-right-size}
 use Rattle.network.specs.RuleLaws.{SoundStations, SoundRecord, sound-stations, sound-record}
 use Rattle.normals.specs.Shares.{equation, equation-by, equation-fits, is-observed, within-unknowns}
@@ -66,7 +66,7 @@ equation-of-requires-2 c κs =
       rw (t .before .unknowns-of .ensures) (within-unknowns _ (stations s)),
     )
 
-old-fits : (c : tie.After-equation-of2) → Fit (c .before .before .before .before .equation-of .result)
+old-fits : (c : tie.After-equation-of2) → EquationInRange (c .before .before .before .before .equation-of .result)
 unfolding start
 old-fits c = rw (old-equation c) (equation-fits _ (stations (start c)) _ (old (start c)))
 

@@ -47,7 +47,7 @@ use denote.Triple.Table.{entered, cited}
 use denote.Triple.Walked.{says, Stays, stay-none-slice, walkOf, goes-none-slice, Walks, ends-at, walked, walk-meets}
 use denote.Triple.Clauses.{ensured, lasts}
 use denote.Exit.{yes}
-use Rattle.network.specs.Stations.{blank}
+use Rattle.network.specs.Stations.{blankStation}
 use Rattle.network.specs.StationWords.{stationWords, flat}
 use Rattle.stations.specs.Flat.{readCount}
 use Rattle.stations.specs.FlatLaws.{flat-step, read-most, read-within}
@@ -172,8 +172,8 @@ module _ {M : Type 1} (𝓤 : URA M) (H : Heap 𝓤) (A : Atoms 𝓤) (W : Given
       qed W (‵ Own ∷ (‵ (flft κ q) ⊛ ‵ ftrue) ∷ []) ∵ says ! l $ move ! (1 ∷ 0 ∷ []) $ frame ! $
       nothing ! $ owned ! usize (Is usize) (uint-makes 𝓤 H A W w64) i _ (refl, g) $ fjoin ! $ move ! (1 ∷ 0 ∷ []) $ fjoin ! $ done !
 
-  station-of : (i : ℕ) (r : Station) → ent 𝓤 (ensured 𝓤 H A station-at.ended (station-at.clauses 𝓤 H A mem run) (κ, tt) (x, (i, tt)) tt r) (fact 𝓤 (r ≡ getD ys i blank))
-  station-of i r = exE 𝓤 _ (λ ws. snd∗ 𝓤 (sem 𝓤 H A (lasts station-at.ended (κ, tt) (x, (i, tt)) ws)) (fact 𝓤 (r ≡ getD ys i blank)))
+  station-of : (i : ℕ) (r : Station) → ent 𝓤 (ensured 𝓤 H A station-at.ended (station-at.clauses 𝓤 H A mem run) (κ, tt) (x, (i, tt)) tt r) (fact 𝓤 (r ≡ getD ys i blankStation))
+  station-of i r = exE 𝓤 _ (λ ws. snd∗ 𝓤 (sem 𝓤 H A (lasts station-at.ended (κ, tt) (x, (i, tt)) ws)) (fact 𝓤 (r ≡ getD ys i blankStation)))
 
   abbrev to-put : List ℤ → Val → ℕ → Station → Val → Put 𝓤 H A mem run .Ghost
   to-put w v i r u = ((tt, tt, tt, (w, (i, (r, tt))), (v ∷ [], (vint w64 i ∷ [], (u ∷ [], tt)))), tt)
@@ -236,7 +236,7 @@ module _ {M : Type 1} (𝓤 : URA M) (H : Heap 𝓤) (A : Atoms 𝓤) (W : Given
           use2 W (raw (StationAt 𝓤 H A mem run .pre (to-station (t .0)))) (goes-station (t .0) (in-list less) (fits t)) $
           calls-at ! fm (StationAt 𝓤 H A mem run) known-station (to-station (t .0)) (and-then ! (load ! (from ! (stop !)) (look ! 17 refl)) (and-then ! (load ! (from ! (stop !)) (look ! 11 refl)) (no-more !))) (λ u.
           use1 W (later (some (λ (r : Station). ((‵ (flft κ q) ⊛ ‵ ftrue) ⊛ ‵ (S.the-row .own r (u ∷ []))) ⊛ raw (ensured 𝓤 H A station-at.ended (station-at.clauses 𝓤 H A mem run) (κ, tt) (x, (t .0, tt)) tt r)))) (id⊢ 𝓤 _) $ await ! tt $ pick ! (λ r.
-          split ! $ move ! (1 ∷ []) $ use1 W (raw (fact 𝓤 (r ≡ getD ys (t .0) blank))) (station-of (t .0) r) $ heard ! (r ≡ getD ys (t .0) blank) (λ e. split ! $ move ! (1 ∷ []) $
+          split ! $ move ! (1 ∷ []) $ use1 W (raw (fact 𝓤 (r ≡ getD ys (t .0) blankStation))) (station-of (t .0) r) $ heard ! (r ≡ getD ys (t .0) blankStation) (λ e. split ! $ move ! (1 ∷ []) $
           -- [the station; the token; the slice; w; _8; …]
           peeks ! S.the-row (Is S.the-row) (shows 𝓤 H A S.the-row) r (u ∷ []) (λ is. land ! (from ! (stop !)) (init ! 10 refl (LL.lawful S.the-type S′.the-laws 𝓤 H A W .typed r _ is .0)) $
           -- `put`
@@ -266,7 +266,7 @@ module _ {M : Type 1} (𝓤 : URA M) (H : Heap 𝓤) (A : Atoms 𝓤) (W : Given
           in-32 : Holds (ltb (t .0) n) → t .0 < 32
           in-32 less = omega (arith, ltb→lt (t .0) n less, read-most (length ys))
 
-          next : Holds (ltb (t .0) n) → (r : Station) (w : List ℤ) → Val → r ≡ getD ys (t .0) blank → After (t .0) (t .1) r w → State
+          next : Holds (ltb (t .0) n) → (r : Station) (w : List ℤ) → Val → r ≡ getD ys (t .0) blankStation → After (t .0) (t .1) r w → State
           next less r w v e e′ = (t .0 + 1, w, v, omega (arith, ltb→lt (t .0) n less), flat-step ys (t .0) (t .1) w r (in-list less) e (t .4) e′)
 
           ended : Holds (not (ltb (t .0) n)) → t .0 ≡ n

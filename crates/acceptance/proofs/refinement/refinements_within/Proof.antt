@@ -13,7 +13,7 @@ use mir.Val.{toZ, ofZ}
 use Rattle.integers.specs.Sums.{sum}
 use Rattle.lists.specs.All.{allBelow, all-none, all-more, all-fails, all-done}
 use Rattle.acceptance.specs.Tests.{at, byRows}
-use Rattle.acceptance.specs.Loops.{small-factors, vector-dot, dot-small, back, row-next, row-end}
+use Rattle.acceptance.specs.Loops.{small-factors, vector-dot, dot-small, read-back, row-next, row-end}
 use Rattle.acceptance.proofs.refinement.refinements_within.Statement.{statement}
 use Rattle.acceptance.proofs.refinement.refinements_within.Tie as tie
 
@@ -42,7 +42,7 @@ product c =
     let t = c .before .before .before in
     let s = t .before in
     let b : natAbs (c .dot .result) ≤ 48 * 2 ^ 57 = rw (c .dot .ensures) (dot-small (small-factors (s .pre) _ (t .loop .i) (t .loop .inv .1 .0) (c .before .before .loop-test .taken))) in
-    back (c .dot .result) (omega arith)
+    read-back (c .dot .result) (omega arith)
     ∙ (c .dot .ensures ∙ vector-dot (s .args .n) (s .args .m .now) (s .args .r .now) (t .loop .row) (t .loop .i) (s .args .n) (t .loop .inv .1 .0))
 
 -- what the test told is of row i

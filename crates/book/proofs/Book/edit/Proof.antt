@@ -9,7 +9,7 @@ use Rattle.network.specs.RuleLaws.{network-few, network-coordinates}
 use Rattle.book.specs.declared.Call.the-variants.{Edit}
 use Rattle.book.specs.Calls.{placeOf}
 use Rattle.book.specs.Book.{bookSays}
-use Rattle.book.specs.Sound.{Sound, sound-parts}
+use Rattle.book.specs.Sound.{SoundParts, sound-parts}
 use Rattle.book.specs.SoundLaws.{enters-edit}
 use Rattle.book.specs.Numbers.{edit-number}
 use Rattle.book.proofs.Done.{edit-done}
@@ -17,7 +17,7 @@ use borrow.Author.Needs.{needs}
 use Rattle.book.proofs.Book.edit.Statement.{statement}
 use Rattle.book.proofs.Book.edit.Tie as tie
 
-sound-self : (c : tie.Start) → Sound (c .args .self)
+sound-self : (c : tie.Start) → SoundParts (c .args .self)
 sound-self c = sound-parts _ (record { places = search (needs, length-mapped); entries = search (needs, length-mapped); matrix = search needs; right = search needs }) (c .pre)
 
 -- where the number is known, and the record

@@ -7,16 +7,16 @@ use Rattle.book.specs.declared.Book.{Book}
 use Rattle.book.specs.declared.Call.the-variants.{Undo}
 use Rattle.book.specs.Calls.{callNo}
 use Rattle.book.specs.Book.{bookAccepts}
-use Rattle.book.specs.Sound.{Sound, sound-parts}
+use Rattle.book.specs.Sound.{SoundParts, sound-parts}
 use Rattle.book.specs.SoundLaws.{latest-undoes}
 use Rattle.book.proofs.Done.{call-done, undone-is, undo-refused, undo-done}
 use Rattle.book.proofs.Book.undo.Statement.{statement}
 use Rattle.book.proofs.Book.undo.Tie as tie
 
-sound-self : (c : tie.Start) → Sound (c .args .self)
+sound-self : (c : tie.Start) → SoundParts (c .args .self)
 sound-self c = sound-parts _ (record { places = search (needs, length-mapped); entries = search (needs, length-mapped); matrix = search needs; right = search needs }) (c .pre)
 
-some : (c : tie.Else1) → 0 < c .before .before .args .self .journal .held
+some : (c : tie.Else1) → 0 < c .before .before .args .self .journal .count
 some c = search needs
 
 returns : tie.Need-returns

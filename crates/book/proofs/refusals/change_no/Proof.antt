@@ -1,7 +1,7 @@
 -- `refusals::change_no` meets its contract. Assumes nothing.
 use mathlib.Core.Path.{ap, _∙_}
 use Rattle.book.specs.Calls.{first}
-use Rattle.book.specs.Numbers.{heldNo}
+use Rattle.book.specs.Numbers.{changeNoOf}
 use borrow.Author.Needs.{needs}
 use Rattle.book.proofs.refusals.change_no.Statement.{statement}
 use Rattle.book.proofs.refusals.change_no.Tie as tie
@@ -28,16 +28,16 @@ enum-told : tie.Need-enum-told
 enum-told c = search needs
 
 returns : tie.Need-returns
-unfolding heldNo
+unfolding changeNoOf
 returns c =
     rw (c .before .before .change .given .1) (c .entry-no .ensures ∙ ap (first _) (c .before .before .before .before .before .filled-no .ensures))
 
 returns-2 : tie.Need-returns-2
-unfolding heldNo
+unfolding changeNoOf
 returns-2 c = rw (c .before .before .change2 .given .1) (c .entry-no2 .ensures ∙ ap (first _) (c .before .before .before .before .empty-no .ensures))
 
 returns-3 : tie.Need-returns-3
-unfolding heldNo
+unfolding changeNoOf
 returns-3 c = rw (c .enum-told .given .1) (c .before .before .empty-no .ensures)
 
 pub change-no-spec : {M : Type 1} → statement M

@@ -16,13 +16,13 @@ use Rattle.book.proofs.soundness.slots_fit.Tie as tie
 
 -- the test of a slot
 abbrev test : List Reversal → ℕ → ℕ → ℕ → Bool
-test entries next held slot = ltb (age next slot) held || isFree (getD entries slot free)
+test entries next count slot = ltb (age next slot) count || isFree (getD entries slot free)
 
 abbrev Inv-loop : tie.InvT-loop
-Inv-loop entries next held slot₀ slot = (slot ≤ journalSize) × (allBelow slot (test entries next held) ≡ true)
+Inv-loop entries next count slot₀ slot = (slot ≤ journalSize) × (allBelow slot (test entries next count) ≡ true)
 
 abbrev μ-loop : tie.MeasureT-loop
-μ-loop entries next held slot₀ slot = journalSize - slot
+μ-loop entries next count slot₀ slot = journalSize - slot
 
 loop-holds : tie.Need-loop-holds Inv-loop μ-loop
 loop-holds c = (search needs, all-none _)
@@ -41,7 +41,7 @@ returns c =
     let b = c .before in
     let t = b .before .before .before in
     let j = t .before .before .args .journal in
-    sym (all-fails journalSize (test (j .entries) (j .next) (j .held)) (t .loop .slot) (omega arith) (sym (b .slot-fits .ensures) ∙ not-true _ (c .if1 .taken)))
+    sym (all-fails journalSize (test (j .entries) (j .next) (j .count)) (t .loop .slot) (omega arith) (sym (b .slot-fits .ensures) ∙ not-true _ (c .if1 .taken)))
 
 add-slot : tie.Need-add-slot Inv-loop μ-loop
 add-slot c = search needs
@@ -54,13 +54,13 @@ loop-again c =
     let b = c .before in
     let t = b .before .before .before in
     let j = t .before .before .args .journal in
-    (search needs, all-more _ (test (j .entries) (j .next) (j .held)) (t .loop .inv .1) (sym (b .slot-fits .ensures) ∙ not-false _ (c .if1 .left)))
+    (search needs, all-more _ (test (j .entries) (j .next) (j .count)) (t .loop .inv .1) (sym (b .slot-fits .ensures) ∙ not-false _ (c .if1 .left)))
 
 returns-2 : tie.Need-returns-2 Inv-loop μ-loop
 returns-2 c =
     let t = c .before in
     let j = t .before .before .args .journal in
-    all-done journalSize (test (j .entries) (j .next) (j .held)) (t .loop .slot) (t .loop .inv .0) (omega arith) (t .loop .inv .1)
+    all-done journalSize (test (j .entries) (j .next) (j .count)) (t .loop .slot) (t .loop .inv .0) (omega arith) (t .loop .inv .1)
 
 pub slots-fit-spec : {M : Type 1} → statement M
 slots-fit-spec =

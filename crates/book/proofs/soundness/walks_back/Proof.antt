@@ -47,8 +47,8 @@ returns c =
     let s = t .before .before in
     sym (t .loop .inv .2 ∙ undo-beyond (s .args .net) (s .args .journal .entries) (t .loop .state) (t .loop .slot) (t .loop .left) (some (b .before)) _ (entry-is b) (c .if1 .taken))
 
-array-read-held : tie.Need-array-read-held Inv-loop μ-loop
-array-read-held c = search needs
+array-read-current : tie.Need-array-read-current Inv-loop μ-loop
+array-read-current c = search needs
 
 restores-requires : tie.Need-restores-requires Inv-loop μ-loop
 restores-requires c κs = search needs
@@ -105,7 +105,7 @@ walks-back-spec =
     mul-u
     array-copy-out-u
     returns
-    array-read-held
+    array-read-current
     restores-requires
     returns-2
     is-empty-requires

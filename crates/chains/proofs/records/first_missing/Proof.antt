@@ -7,7 +7,7 @@ use borrow.Author.Needs.{needs}
 use borrow.Author.Tests.{not-true, not-false}
 use Rattle.lists.specs.All.{allBelow, all-none, all-more}
 use Rattle.network.specs.Stations.{unknown}
-use Rattle.chains.specs.Scans.{first-is, first-none}
+use Rattle.chains.specs.Scans.{first-is, first-failing-none}
 use Rattle.chains.specs.ChainLaws.{heldOrIn}
 use Rattle.chains.proofs.records.first_missing.Statement.{statement}
 use Rattle.chains.proofs.records.first_missing.Tie as tie
@@ -60,7 +60,7 @@ loop-again c =
 returns-2 : tie.Need-returns-2 Inv-loop μ-loop
 returns-2 c =
     let e : c .before .loop .q ≡ 96 = omega arith in
-    sym (first-none _ 96 (rw e at (c .before .loop .inv .1)))
+    sym (first-failing-none _ 96 (rw e at (c .before .loop .inv .1)))
 
 pub first-missing-spec : {M : Type 1} → statement M
 first-missing-spec =

@@ -37,7 +37,7 @@ small : (a : tie.After-apply) → SFits w64 (pos (a .apply .result))
 small a =
     let b = bookOf (a .before .before .before .before .before .before .args .book .now) in
     let e = a .apply .ensures .number in
-    let h : a .apply .result < 2 ^ 63 = omega (arith, call-small (b .network) (recordAt (b .places)) (b .journal .held) (a .before .before .before .before .before .before .args .call)) in
+    let h : a .apply .result < 2 ^ 63 = omega (arith, call-small (b .network) (recordAt (b .places)) (b .journal .count) (a .before .before .before .before .before .before .args .call)) in
     record { sfits = h }
 
 cast-result : tie.Need-cast-result

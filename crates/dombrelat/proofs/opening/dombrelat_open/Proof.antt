@@ -10,7 +10,7 @@ use mir.Syntax.{w64}
 use mir.Facts.{toZ-ofZ}
 use Rattle.words.specs.Runs.{wordsAt}
 use Rattle.book.specs.Book.{opening}
-use Rattle.dombrelat.specs.Calls.{Returned, settled}
+use Rattle.dombrelat.specs.Calls.{Returned, answeredWith}
 use Rattle.dombrelat.proofs.Openings.{opens-short, opens-odd, opens-many, opens-done}
 use borrow.Author.Needs.{needs, sfits-of}
 use Rattle.dombrelat.proofs.opening.dombrelat_open.Statement.{statement}
@@ -66,7 +66,7 @@ returns-4 c =
     let w = k .station-words in
     let room : length l / 8 - 0 ≤ length (w .result) = omega (arith, w .ensures, e₃ .if3 .left) in
     let n : length (take (length l / 8 - 0) (w .result)) ≡ length l / 8 = length-take-le (length l / 8 - 0) (w .result) room ∙ sub-zero (length l / 8) in
-    let e = ap (λ (k : ℕ). settled b (opening (wordsAt l 0 k))) n ∙ opens-done l b (e₁ .if1 .left) (e₂ .if2 .left) _ refl in
+    let e = ap (λ (k : ℕ). answeredWith b (opening (wordsAt l 0 k))) n ∙ opens-done l b (e₁ .if1 .left) (e₂ .if2 .left) _ refl in
     (toZ-ofZ {w = w64} {z = p .result} (sfits-of (p .ok)) ∙ p .ensures .0 ∙ ap (λ (r : Returned). r .answer) e, p .ensures .1 ∙ ap (λ (r : Returned). r .bytes) e)
 
 pub dombrelat-open-spec : {M : Type 1} → statement M

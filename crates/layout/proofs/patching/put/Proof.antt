@@ -73,7 +73,7 @@ returns c =
     let t = s .args .s .now in
     let b = bookOf t in
     let x = withRecord b (s .args .i) (s .args .r) in
-    put-edit t (room s) b (read-sized t) (x .matrix) (x .right) (length-tabulate 2304 _) (length-tabulate 48 _) (s .args .i) (s .args .r) (s .args .slot) (s .args .u) (s .args .next) (s .args .held) (s .pre .1) (s .pre .3)
+    put-edit t (room s) b (read-sized t) (x .matrix) (x .right) (length-tabulate 2304 _) (length-tabulate 48 _) (s .args .i) (s .args .r) (s .args .slot) (s .args .u) (s .args .next) (s .args .count) (s .pre .1) (s .pre .3)
     _ _ _ _ (e .exchange .ensures) (r .put-record .ensures) (v .put-reversal .ensures) (n .put-counts .ensures)
 
 pub put-spec : {M : Type 1} → statement M

@@ -6,7 +6,7 @@ use mathlib.Core.List.{List}
 use native.Mathlib.Omega.{arith}
 use lib.ListN.{length}
 use Rattle.lists.specs.Filling.{length-mapped}
-use Rattle.book.specs.Sound.{Sized, Sound, sound-parts}
+use Rattle.book.specs.Sound.{Sized, SoundParts, sound-parts}
 use Rattle.layout.specs.Layout.{bookBytes}
 use Rattle.layout.specs.Bytes.{bookOf, bytesFit}
 use Rattle.layout.specs.CodecLaws.{writes-fit, writes-reads}
@@ -25,7 +25,7 @@ returns c =
     let s = c .before .before .before in
     let b = s .args .book in
     let z : Sized b = record { places = search (needs, length-mapped); entries = search (needs, length-mapped); matrix = search needs; right = search needs } in
-    let o : Sound b = sound-parts b z (s .pre) in
+    let o : SoundParts b = sound-parts b z (s .pre) in
     let long : length (b .network .stations) ≡ 32 = search (needs, length-mapped) in
     let e = c .before .write-book .ensures in
     (ap bytesFit e ∙ writes-fit _ b o long (search needs), ap (λ (x : List ℕ). bookOf x) e ∙ writes-reads _ b o long (search needs))

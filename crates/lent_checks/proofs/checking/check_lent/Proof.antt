@@ -10,7 +10,7 @@ use borrow.Author.Tests.{not-true, not-false}
 use denote.Ref.{now}
 use lib.ListN.{length, take}
 use lib.IntN.{ℤ}
-use Rattle.acceptance.specs.Judge.{numberOf, unknownOf}
+use Rattle.acceptance.specs.Judge.{answerNumber, answerUnknown}
 use Rattle.acceptance.specs.declared.Answer.{Answer}
 use Rattle.layout.specs.Bytes.{bookOf}
 use Rattle.layout.specs.CodecLaws.{fits-sound}
@@ -75,7 +75,7 @@ returns-2 c =
     let xs = ap (λ (n : ℕ). take n (x′ .corrections-in .result)) (sub-zero (length x / 8)) ∙ x′ .corrections-in .ensures in
     let ms = ap (λ (n : ℕ). take n (m′ .matrix-in .result)) (sub-zero (length m / 8)) ∙ m′ .matrix-in .ensures in
     let is = c .check-in .ensures ∙ ap₂ (λ (y z : List ℤ). checked b y z true) xs ms ∙ lent-fit b x m true (fit (x′ .before)) in
-    (is, subst (λ (a : Answer). numberOf a + 256 * unknownOf a ≤ answerMost) (sym is) (lent-small b (fits-sound book (s .pre)) x m true))
+    (is, subst (λ (a : Answer). answerNumber a + 256 * answerUnknown a ≤ answerMost) (sym is) (lent-small b (fits-sound book (s .pre)) x m true))
 
 pub check-lent-spec : {M : Type 1} → statement M
 check-lent-spec =

@@ -6,7 +6,7 @@ use native.Mathlib.Omega.{arith}
 use borrow.Author.Needs.{needs}
 use borrow.Author.Tests.{not-true, not-false}
 use denote.Ref.{now}
-use Rattle.acceptance.specs.Judge.{numberOf, unknownOf}
+use Rattle.acceptance.specs.Judge.{answerNumber, answerUnknown}
 use Rattle.acceptance.specs.declared.Answer.{Answer}
 use Rattle.layout.specs.Bytes.{bookOf}
 use Rattle.layout.specs.CodecLaws.{fits-sound}
@@ -65,7 +65,7 @@ returns-3 c =
     let fit = sym (e .before .before .before .before .sizes-fit .ensures) ∙ not-false _ (e .before .before .before .if1 .left) in
     let yes : sheetFits b o ≡ true = sym (sheet-test b o _ _ (e .before .before .room-in .ensures) (e .before .room-fits .ensures)) ∙ not-false _ (e .if2 .left) in
     let is = l .sheet-lent .ensures .0 ∙ ap (checked b (allWords x) (allWords m)) (sym yes) ∙ lent-fit b x m (sheetFits b o) fit in
-    ((is, subst (λ (a : Answer). numberOf a + 256 * unknownOf a ≤ answerMost) (sym is) (lent-small b (fits-sound book (s .pre)) x m (sheetFits b o))), l .sheet-lent .ensures .1)
+    ((is, subst (λ (a : Answer). answerNumber a + 256 * answerUnknown a ≤ answerMost) (sym is) (lent-small b (fits-sound book (s .pre)) x m (sheetFits b o))), l .sheet-lent .ensures .1)
 
 pub check-sheet-lent-spec : {M : Type 1} → statement M
 check-sheet-lent-spec =

@@ -7,8 +7,8 @@ use borrow.Author.Tests.{not-true, not-false}
 use denote.Ref.{now}
 use mir.Syntax.{w64}
 use mir.Facts.{toZ-ofZ}
+use Rattle.network.specs.Stations.{unknownCount}
 use Rattle.network.specs.RuleLaws.{sound-stations}
-use Rattle.acceptance.specs.Exactly.{n}
 use Rattle.layout.specs.Bytes.{bookOf}
 use Rattle.layout.specs.CodecLaws.{fits-room, fits-sound}
 use Rattle.lent_checks.specs.Offers.{lentLengths}
@@ -17,8 +17,8 @@ use borrow.Author.Needs.{needs, sfits-of}
 use Rattle.lent_checks.proofs.proposing.propose_lent.Statement.{statement}
 use Rattle.lent_checks.proofs.proposing.propose_lent.Tie as tie
 
-is : (a : tie.After-number-of) → a .number-of .result ≡ n (bookOf (now (a .before .before .before .before .before .before .args .book)) .network)
-is a = a .number-of .ensures ∙ ap n (a .before .before .network-in .ensures)
+is : (a : tie.After-number-of) → a .number-of .result ≡ unknownCount (bookOf (now (a .before .before .before .before .before .before .args .book)) .network .stations)
+is a = a .number-of .ensures ∙ ap (λ (k : Rattle.network.specs.declared.Network.Network). unknownCount (k .stations)) (a .before .before .network-in .ensures)
 
 few : (a : tie.After-number-of) → a .number-of .result ≤ 48
 few a =

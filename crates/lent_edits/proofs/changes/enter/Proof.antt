@@ -28,8 +28,8 @@ next-in-requires c κs = room (c .before .before .before .before)
 slot-after-requires : tie.Need-slot-after-requires
 slot-after-requires c κs = small c
 
-held-in-requires : tie.Need-held-in-requires
-held-in-requires c κs = room (c .before .before .before .before .before .before .before)
+journal-count-in-requires : tie.Need-journal-count-in-requires
+journal-count-in-requires c κs = room (c .before .before .before .before .before .before .before)
 
 one-more-requires : tie.Need-one-more-requires
 one-more-requires c κs = search needs
@@ -52,7 +52,7 @@ returns c =
     let o = n .before .before in
     let s = o .before .before .before in
     p .put .ensures
-    ∙ entered (s .args .s .now) (bookOf (s .args .s .now)) (s .args .i) _ _ _ _ (s .args .r) _ (o .record-in .ensures) (n .next-in .ensures) (k .before .held-in .ensures) (a .slot-after .ensures) (k .one-more .ensures)
+    ∙ entered (s .args .s .now) (bookOf (s .args .s .now)) (s .args .i) _ _ _ _ (s .args .r) _ (o .record-in .ensures) (n .next-in .ensures) (k .before .journal-count-in .ensures) (a .slot-after .ensures) (k .one-more .ensures)
 
 pub enter-spec : {M : Type 1} → statement M
 enter-spec =
@@ -61,7 +61,7 @@ enter-spec =
     record-in-requires
     next-in-requires
     slot-after-requires
-    held-in-requires
+    journal-count-in-requires
     one-more-requires
     put-requires
     same-length

@@ -64,7 +64,7 @@ returns c =
     let n = a .before in
     let s = n .before .before .before in
     p .put .ensures
-    ∙ restored (s .args .s .now) (bookOf (s .args .s .now)) _ _ (s .args .held) _ (n .next-in .ensures) (a .slot-before .ensures) (s .pre .1) (u .slot-in .ensures)
+    ∙ restored (s .args .s .now) (bookOf (s .args .s .now)) _ _ (s .args .count) _ (n .next-in .ensures) (a .slot-before .ensures) (s .pre .1) (u .slot-in .ensures)
 
 pub restore-spec : {M : Type 1} → statement M
 restore-spec =

@@ -6,19 +6,19 @@ use mathlib.Core.Path.{ap}
 use mathlib.Core.List.{List}
 use lib.ListN.{length}
 use Rattle.network.specs.declared.Station.{Station}
-use Rattle.network.specs.Stations.{blank, stationIn, networkOf}
+use Rattle.network.specs.Stations.{blankStation, stationIn, networkOf}
 use Rattle.lists.specs.Filling.{Mapped, starts, goes-on, finish}
 use Rattle.network.proofs.opening.network_of.Statement.{statement}
 use Rattle.network.proofs.opening.network_of.Tie as tie
 
 abbrev Inv-loop : tie.InvT-loop
-Inv-loop list stations₀ s₀ stations s = (s ≤ 32) × Mapped blank 32 (stationIn list) stations₀ stations s
+Inv-loop list stations₀ s₀ stations s = (s ≤ 32) × Mapped blankStation 32 (stationIn list) stations₀ stations s
 
 abbrev μ-loop : tie.MeasureT-loop
 μ-loop list stations₀ s₀ stations s = 32 - s
 
 loop-holds : tie.Need-loop-holds Inv-loop μ-loop
-loop-holds c = (search needs, starts blank 32 _ _ (search needs))
+loop-holds c = (search needs, starts blankStation 32 _ _ (search needs))
 
 station-in-requires : tie.Need-station-in-requires Inv-loop μ-loop
 station-in-requires c κs = search needs
@@ -38,13 +38,13 @@ loop-less c = search needs
 loop-again : tie.Need-loop-again Inv-loop μ-loop
 loop-again c =
     let t = c .before .before in
-    (search needs, goes-on blank 32 _ _ (t .loop .stations) (t .loop .s) _ (omega arith) (t .loop .inv .1) (c .station-in .ensures))
+    (search needs, goes-on blankStation 32 _ _ (t .loop .stations) (t .loop .s) _ (omega arith) (t .loop .inv .1) (c .station-in .ensures))
 
 returns : tie.Need-returns Inv-loop μ-loop
 unfolding networkOf
 returns c =
     ap (λ (l : List Station). record { count = length (c .before .before .args .list .now) / 4; stations = l })
-    (finish blank 32 _ _ (c .before .loop .stations) (c .before .loop .s) (omega arith) (c .before .loop .inv .1))
+    (finish blankStation 32 _ _ (c .before .loop .stations) (c .before .loop .s) (omega arith) (c .before .loop .inv .1))
 
 pub network-of-spec : {M : Type 1} → statement M
 network-of-spec =

@@ -4,14 +4,14 @@ use native.Mathlib.Omega.{arith}
 use native.Mathlib.Nat.{le-refl, mul-le-mul}
 use Prim.Native.Nat.{_+_, _-_, _*_, _≤_}
 use mathlib.Core.Path.{_≡_, sym, ap₂, _∙_}
-use Rattle.network.specs.Stations.{unknown, number, place}
+use Rattle.network.specs.Stations.{unknown, number, unknownIndex}
 use Rattle.network.specs.StationLaws.{bit-in, number-0, number-+1, number-small}
 use Rattle.lists.specs.Filling.{Mapped, starts, goes-on, finish}
 use Rattle.network.proofs.stations.numbers_of.Statement.{statement}
 use Rattle.network.proofs.stations.numbers_of.Tie as tie
 
 abbrev Inv-loop : tie.InvT-loop
-Inv-loop stations out₀ n₀ q₀ out n q = (q ≤ 96) × (n ≡ number stations q) × Mapped 0 96 (place stations) out₀ out q
+Inv-loop stations out₀ n₀ q₀ out n q = (q ≤ 96) × (n ≡ number stations q) × Mapped 0 96 (unknownIndex stations) out₀ out q
 
 abbrev μ-loop : tie.MeasureT-loop
 μ-loop stations out₀ n₀ q₀ out n q = 96 - q
@@ -58,7 +58,7 @@ loop-less : tie.Need-loop-less Inv-loop μ-loop
 loop-less c = search needs
 
 loop-again : tie.Need-loop-again Inv-loop μ-loop
-unfolding unknown place
+unfolding unknown unknownIndex
 loop-again c =
     let t = c .before .before .before in
     let e = t .loop .inv .1 in

@@ -7,7 +7,7 @@ use lib.IntN.{pos, natAbs}
 use mir.Syntax.{w64}
 use mir.Val.{toZ}
 use Rattle.network.specs.Stations.{unknown}
-use Rattle.network.specs.StationLaws.{bit, bit-in}
+use Rattle.network.specs.StationLaws.{unknown-bit, bit-in}
 use Rattle.lists.specs.Stored.{bit-cast, fits-by}
 use Rattle.lists.specs.Filling.{Mapped, starts, goes-on, finish}
 use Rattle.network.proofs.stations.unknowns_of.Statement.{statement}
@@ -54,7 +54,7 @@ loop-again c =
     let t = c .before .before .before in (
       search needs,
       goes-on (pos 0) 96 _ _ (t .loop .out) (t .loop .q) _ (omega arith) (t .loop .inv .1)
-          (ap (λ (z : ℕ). toZ w64 z) (c .unknown-in .ensures) ∙ bit-cast _ (bit (t .before .args .t1) (t .loop .q))),
+          (ap (λ (z : ℕ). toZ w64 z) (c .unknown-in .ensures) ∙ bit-cast _ (unknown-bit (t .before .args .t1) (t .loop .q))),
     )
 
 returns : tie.Need-returns Inv-loop μ-loop

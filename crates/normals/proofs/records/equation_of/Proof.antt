@@ -6,7 +6,7 @@ use mathlib.Core.Path.{_≡_, ap₂, _∙_}
 use lib.IntN.{natAbs}
 use Rattle.network.specs.Stations.{unknown}
 use Rattle.network.specs.Records.{fromOf, toOf, joins, joins-one}
-use Rattle.normals.specs.Equations.{ends, coefs}
+use Rattle.normals.specs.Equations.{endIndices, coefs}
 use Rattle.lists.specs.Stored.{back, kept}
 use Rattle.normals.proofs.records.equation_of.Statement.{statement}
 use Rattle.normals.proofs.records.equation_of.Tie as tie
@@ -43,7 +43,7 @@ returns c =
     let e = c .before .before .before .before .before .before .from-of .ensures in let g = c .before .before .before .before .before .to-of .ensures in
     let j : natAbs (c .before .before .before .joins-of .result) ≤ 1 = rw (c .before .before .before .joins-of .ensures) (joins-one r) in
     let h = back (c .before .before .before .joins-of .result) j tt ∙ c .before .before .before .joins-of .ensures in
-    let a : c .before .before .before .before .ends-of .result ≡ ends (s .args .at .now) (fromOf r) (toOf r) = c .before .before .before .before .ends-of .ensures ∙ ap₂ (ends (s .args .at .now)) e g in
+    let a : c .before .before .before .before .ends-of .result ≡ endIndices (s .args .at .now) (fromOf r) (toOf r) = c .before .before .before .before .ends-of .ensures ∙ ap₂ (endIndices (s .args .at .now)) e g in
     let k : c .before .before .coefs-of .result ≡ coefs (s .args .unknown .now) (joins r) (fromOf r) (toOf r) = c .before .before .coefs-of .ensures ∙ (λ i. coefs (s .args .unknown .now) (h i) (e i) (g i)) in
     let w = c .before .weights-of .ensures in let m = c .misclosures-of .ensures in
     λ i. record { at = a i; coef = k i; weight = w i; misclosure = m i }

@@ -8,7 +8,7 @@ use lib.ListN.{length}
 use Rattle.network.specs.Places.{placesIn}
 use Rattle.network.specs.declared.Place.{Place}
 use Rattle.network.specs.declared.Record.{Record}
-use Rattle.sheet.specs.Sheet.{wordsOf}
+use Rattle.sheet.specs.Sheet.{lineLength}
 use Rattle.text.specs.Writing.{Written, _then_, written-as}
 use Rattle.printing.specs.Rooms.{baselineRoom}
 use Rattle.printing.specs.SheetText.{recordLine, recordLines, recordStart}
@@ -28,12 +28,12 @@ abbrev placesOf : tie.At-loop Inv-loop μ-loop → List Place
 placesOf a = placesIn (a .before .before .args .places .now)
 
 next-start : (c : tie.After-record-at Inv-loop μ-loop)
-    → c .before .before .loop .word + wordsOf (c .record-at .result) ≡ recordStart (c .before .before .before .before .args .o) (placesOf (c .before .before)) (c .before .before .loop .p + 1)
+    → c .before .before .loop .word + lineLength (c .record-at .result) ≡ recordStart (c .before .before .before .before .args .o) (placesOf (c .before .before)) (c .before .before .loop .p + 1)
 next-start c =
     let a = c .before .before in
-    ap₂ _+_ (a .loop .inv .3) (ap wordsOf (c .record-at .ensures)) ∙ start-more (a .before .before .args .o) (placesOf a) (a .loop .p)
+    ap₂ _+_ (a .loop .inv .3) (ap lineLength (c .record-at .ensures)) ∙ start-more (a .before .before .args .o) (placesOf a) (a .loop .p)
 
-next-fits : (c : tie.After-record-at Inv-loop μ-loop) → c .before .before .loop .word + wordsOf (c .record-at .result) ≤ length (c .before .before .before .before .args .w .now)
+next-fits : (c : tie.After-record-at Inv-loop μ-loop) → c .before .before .loop .word + lineLength (c .record-at .result) ≤ length (c .before .before .before .before .args .w .now)
 next-fits c =
     let a = c .before .before in let s = a .before .before in
     omega (arith, next-start c, start-rises (s .args .o) (placesOf a) (a .loop .p + 1) 256 (omega (arith, c .before .loop-test .taken)), s .pre .1)

@@ -9,10 +9,10 @@ use lib.IntN.{pos, natAbs, _*ℤ_}
 use Rattle.integers.specs.Code.{fit, code-bounds, ringm, code-shapes}
 use Rattle.integers.specs.Tables.{getD-tabulate, tabulate-ext}
 use Rattle.lists.specs.Filling.{Mapped, starts, goes-on, finish}
-use Rattle.network.specs.Stations.{unknown, place}
-use Rattle.network.specs.StationLaws.{bit}
+use Rattle.network.specs.Stations.{unknown, unknownIndex}
+use Rattle.network.specs.StationLaws.{unknown-bit}
 use Rattle.residuals.specs.Residuals.{correction}
-use Rattle.residuals.specs.Components.{place-below, correction-in}
+use Rattle.residuals.specs.Components.{unknown-index-below, correction-in}
 use Rattle.residuals.proofs.components.corrections_of.Statement.{statement}
 use Rattle.residuals.proofs.components.corrections_of.Tie as tie
 
@@ -27,12 +27,12 @@ abbrev μ-loop : tie.MeasureT-loop
 below : (c : tie.After-unknowns-of Inv-loop μ-loop) (q : ℕ) → q < 96 → getD (c .before .numbers-of .result) q 0 < length (c .before .before .args .x .now)
 below c q h =
     let s = c .before .before in
-    rw (c .before .numbers-of .ensures, getD-tabulate 96 (place (s .args .stations)) q 0 h, s .pre .1 .long) (place-below (s .args .stations) q h (s .pre .0))
+    rw (c .before .numbers-of .ensures, getD-tabulate 96 (unknownIndex (s .args .stations)) q 0 h, s .pre .1 .long) (unknown-index-below (s .args .stations) q h (s .pre .0))
 
 bits : (c : tie.After-unknowns-of Inv-loop μ-loop) (q : ℕ) → q < 96 → natAbs (getD (c .unknowns-of .result) q (pos 0)) ≤ 1
 bits c q h =
     let s = c .before .before in
-    rw (c .unknowns-of .ensures, getD-tabulate 96 (λ i. pos (unknown (s .args .stations) i)) q (pos 0) h) (bit (s .args .stations) q)
+    rw (c .unknowns-of .ensures, getD-tabulate 96 (λ i. pos (unknown (s .args .stations) i)) q (pos 0) h) (unknown-bit (s .args .stations) q)
 
 numbers-of-requires : tie.Need-numbers-of-requires Inv-loop μ-loop
 numbers-of-requires c κs = search needs

@@ -5,18 +5,18 @@ use mathlib.Core.Path.{_≡_, sym, ap, _∙_}
 use lib.ListN.{length}
 use Rattle.lists.specs.Pasted.{pasted, pasted-none}
 use Rattle.network.specs.Records.{observations, isEmpty}
-use Rattle.sheet.specs.Sheet.{wordsOf}
+use Rattle.sheet.specs.Sheet.{lineLength}
 use Rattle.sheet.specs.Lines.{sevenWords, threeWords, lineOf, three-observed}
 use Rattle.sheet.proofs.lines.put_record.Statement.{statement}
 use Rattle.sheet.proofs.lines.put_record.Tie as tie
 
 -- how many words the record takes, where it observes one component or three
-short : (c : tie.Then2) → (observations (c .before .before .before .args .r) ≡ 1) × (wordsOf (c .before .before .before .args .r) ≡ 3)
-unfolding wordsOf isEmpty
+short : (c : tie.Then2) → (observations (c .before .before .before .args .r) ≡ 1) × (lineLength (c .before .before .before .args .r) ≡ 3)
+unfolding lineLength isEmpty
 short c = let e = sym (c .before .before .observations-of .ensures) ∙ c .if2 .taken in (e, rw e)
 
-whole : (c : tie.Else2) → (observations (c .before .before .before .args .r) ≡ 3) × (wordsOf (c .before .before .before .args .r) ≡ 7)
-unfolding wordsOf isEmpty
+whole : (c : tie.Else2) → (observations (c .before .before .before .args .r) ≡ 3) × (lineLength (c .before .before .before .args .r) ≡ 7)
+unfolding lineLength isEmpty
 whole c =
     let o = c .before .before in
     let e = three-observed (o .before .args .r) (λ z. c .before .if1 .left (o .observations-of .ensures ∙ z)) (λ z. c .if2 .left (o .observations-of .ensures ∙ z)) in
@@ -26,7 +26,7 @@ observations-of-requires : tie.Need-observations-of-requires
 observations-of-requires c κs = search needs
 
 returns : tie.Need-returns
-unfolding wordsOf isEmpty lineOf
+unfolding lineLength isEmpty lineOf
 returns c =
     let s = c .before .before in let e = sym (c .before .observations-of .ensures) ∙ c .if1 .taken in
     rw e (omega arith, sym (pasted-none (s .args .sheet .now) (s .args .at)))

@@ -14,15 +14,15 @@ use Rattle.network.specs.declared.Record.{Record}
 use Rattle.residuals.specs.Components.{Closes, residualsIn}
 use Rattle.residuals.specs.Ranges.{some-unknowns, lookup, sound-at, closes-at}
 use Rattle.residuals.specs.Weights.{weights-by-rules}
-use Rattle.sheet.specs.Sheet.{wordsOf}
+use Rattle.sheet.specs.Sheet.{lineLength}
 use Rattle.sheet.specs.Totals.{residuals-within}
-use Rattle.sheet.specs.Lines.{lineOf, recordWordsIn, record-length, recordLinesIn, records-none, records-more, records-room, records-in, Put, put-none, put-more}
+use Rattle.sheet.specs.Lines.{lineOf, recordLineWordsIn, record-length, recordLinesWordsIn, record-words-none, record-words-more, record-words-room, records-in, Put, put-none, put-more}
 use Rattle.sheet.proofs.sheet.put_records.Statement.{statement}
 use Rattle.sheet.proofs.sheet.put_records.Tie as tie
 
 abbrev Inv-loop : tie.InvT-loop
 Inv-loop sheet₀ from places x m n number unknown coordinate correction at₀ p₀ sheet at p =
-    (p ≤ 256) × (length sheet ≡ length sheet₀) × Put sheet₀ from (recordLinesIn coordinate correction number unknown m n (placesIn places) p) sheet at
+    (p ≤ 256) × (length sheet ≡ length sheet₀) × Put sheet₀ from (recordLinesWordsIn coordinate correction number unknown m n (placesIn places) p) sheet at
 
 abbrev μ-loop : tie.MeasureT-loop
 μ-loop sheet₀ from places x m n number unknown coordinate correction at₀ p₀ sheet at p = 256 - p
@@ -35,7 +35,7 @@ abbrev now-at : tie.At-loop Inv-loop μ-loop → Record
 now-at t = recordAt (placesOf t) (t .loop .p)
 
 abbrev lineAt : tie.At-loop Inv-loop μ-loop → Record → List ℤ
-lineAt t r = recordWordsIn (t .before .before .before .before .numbers-of .result) (t .before .before .before .unknowns-of .result) (t .before .before .before .before .before .before .before .args .m .now) (t .before .before .before .before .before .number-of .result) (t .loop .p) r (residualsIn (t .before .before .coordinates-of .result) (t .before .corrections-of .result) r)
+lineAt t r = recordLineWordsIn (t .before .before .before .before .numbers-of .result) (t .before .before .before .unknowns-of .result) (t .before .before .before .before .before .before .before .args .m .now) (t .before .before .before .before .before .number-of .result) (t .loop .p) r (residualsIn (t .before .before .coordinates-of .result) (t .before .corrections-of .result) r)
 
 -- the tables in the loop are those of the stations
 closes : (t : tie.At-loop Inv-loop μ-loop) → t .loop .p < 256 → Closes (t .before .before .coordinates-of .result) (t .before .corrections-of .result) (now-at t)
@@ -44,7 +44,7 @@ closes t h = rw (t .before .before .coordinates-of .ensures, t .before .correcti
 -- what a turn stores is that line
 line : (c : tie.After-verdicts-of Inv-loop μ-loop)
     → lineOf (observations (c .before .before .before .before .before .before .record-at .result)) (c .before .before .before .before .before .before .before .before .loop .p) (c .before .before .before .residuals-of .result) (c .verdicts-of .result) ≡ lineAt (c .before .before .before .before .before .before .before .before) (now-at (c .before .before .before .before .before .before .before .before))
-unfolding recordWordsIn
+unfolding recordLineWordsIn
 line c =
     let v = c .before .before .before .residuals-of in let a = c .before .before .before .before .before .before .record-at in let t = c .before .before .before .before .before .before .before .before in
     rw (c .verdicts-of .ensures, v .ensures, a .ensures)
@@ -70,7 +70,7 @@ loop-holds c =
       omega arith,
       refl,
       subst (λ (w : List ℤ). Put (s .args .sheet .now) (s .args .from) w (s .args .sheet .now) (s .args .from))
-          (sym (records-none (c .before .coordinates-of .result) (c .corrections-of .result) (c .before .before .before .numbers-of .result) (c .before .before .unknowns-of .result) (s .args .m .now) (c .before .before .before .before .number-of .result) (placesIn (s .args .places .now))))
+          (sym (record-words-none (c .before .coordinates-of .result) (c .corrections-of .result) (c .before .before .before .numbers-of .result) (c .before .before .unknowns-of .result) (s .args .m .now) (c .before .before .before .before .number-of .result) (placesIn (s .args .places .now))))
           (put-none (s .args .sheet .now) (s .args .from)),
     )
 
@@ -95,8 +95,8 @@ verdicts-of-requires c κs =
 put-record-requires : tie.Need-put-record-requires Inv-loop μ-loop
 put-record-requires c κs =
     let a = c .before .before .before .before .before .before .before in let i = a .before in let t = i .before in let s = t .before .before .before .before .before .before .before in let h = i .loop-test .taken in (
-      subst (λ (r : Record). t .loop .at + wordsOf r ≤ length (t .loop .sheet)) (sym (a .record-at .ensures))
-          (records-room (t .before .before .coordinates-of .result) (t .before .corrections-of .result) (t .before .before .before .before .numbers-of .result) (t .before .before .before .unknowns-of .result) (t .before .before .before .before .before .before .before .args .m .now) (t .before .before .before .before .before .number-of .result) (placesOf t) (s .args .from) (t .loop .at) (length (t .loop .sheet)) (t .loop .p) (rw (t .loop .inv .1) (s .pre .3)) (t .loop .inv .2 .next) h),
+      subst (λ (r : Record). t .loop .at + lineLength r ≤ length (t .loop .sheet)) (sym (a .record-at .ensures))
+          (record-words-room (t .before .before .coordinates-of .result) (t .before .corrections-of .result) (t .before .before .before .before .numbers-of .result) (t .before .before .before .unknowns-of .result) (t .before .before .before .before .before .before .before .args .m .now) (t .before .before .before .before .before .number-of .result) (placesOf t) (s .args .from) (t .loop .at) (length (t .loop .sheet)) (t .loop .p) (rw (t .loop .inv .1) (s .pre .3)) (t .loop .inv .2 .next) h),
       h,
     )
 
@@ -111,9 +111,9 @@ loop-again c =
     let q = c .before .put-record in let w = c .before .before .before in let a = w .before .before .before .before .before .before in let i = a .before in let t = i .before in let s = t .before .before .before .before .before .before .before in (
       omega (arith, i .loop-test .taken),
       q .kept .0 ∙ t .loop .inv .1,
-      subst (λ (l : List ℤ). Put (s .args .sheet .now) (s .args .from) l (q .last .0) (q .result)) (sym (records-more (t .before .before .coordinates-of .result) (t .before .corrections-of .result) (t .before .before .before .before .numbers-of .result) (t .before .before .before .unknowns-of .result) (t .before .before .before .before .before .before .before .args .m .now) (t .before .before .before .before .before .number-of .result) (placesOf t) (t .loop .p)))
+      subst (λ (l : List ℤ). Put (s .args .sheet .now) (s .args .from) l (q .last .0) (q .result)) (sym (record-words-more (t .before .before .coordinates-of .result) (t .before .corrections-of .result) (t .before .before .before .before .numbers-of .result) (t .before .before .before .unknowns-of .result) (t .before .before .before .before .before .before .before .args .m .now) (t .before .before .before .before .before .number-of .result) (placesOf t) (t .loop .p)))
           (put-more (t .loop .inv .2) (lineAt t (now-at t)) (q .last .0) (q .result) (q .ensures .1 ∙ ap (pasted (t .loop .sheet) (t .loop .at)) (line w))
-          (q .ensures .0 ∙ ap (λ (r : Record). t .loop .at + wordsOf r) (a .record-at .ensures) ∙ ap (λ (k : ℕ). t .loop .at + k)
+          (q .ensures .0 ∙ ap (λ (r : Record). t .loop .at + lineLength r) (a .record-at .ensures) ∙ ap (λ (k : ℕ). t .loop .at + k)
           (sym (record-length (t .before .before .before .before .numbers-of .result) (t .before .before .before .unknowns-of .result) (t .before .before .before .before .before .before .before .args .m .now) (t .before .before .before .before .before .number-of .result) (t .loop .p) (now-at t) (residualsIn (t .before .before .coordinates-of .result) (t .before .corrections-of .result) (now-at t)))))),
     )
 

@@ -9,29 +9,29 @@ use lib.IntN.{ℤ}
 use Rattle.lists.specs.Pasted.{pasted}
 use Rattle.network.specs.RuleLaws.{sound-stations, network-few}
 use Rattle.residuals.specs.Ranges.{some-unknowns, corrections-within, lookup}
-use Rattle.sheet.specs.Lines.{sevenWords, stationWordsIn, station-length, stationLinesIn, stations-none, stations-more, stations-length, stations-in, Put, put-none, put-more}
+use Rattle.sheet.specs.Lines.{sevenWords, stationLineWordsIn, station-length, stationLinesWordsIn, station-words-none, station-words-more, station-words-length, stations-in, Put, put-none, put-more}
 use Rattle.sheet.proofs.sheet.put_stations.Statement.{statement}
 use Rattle.sheet.proofs.sheet.put_stations.Tie as tie
 
 abbrev Inv-loop : tie.InvT-loop
 Inv-loop sheet₀ from x m count n number unknown coordinate correction at₀ s₀ sheet at s =
-    (s ≤ count) × (length sheet ≡ length sheet₀) × Put sheet₀ from (stationLinesIn coordinate correction number unknown m n s) sheet at
+    (s ≤ count) × (length sheet ≡ length sheet₀) × Put sheet₀ from (stationLinesWordsIn coordinate correction number unknown m n s) sheet at
 
 abbrev μ-loop : tie.MeasureT-loop
 μ-loop sheet₀ from x m count n number unknown coordinate correction at₀ s₀ sheet at s = count - s
 
 -- the line of station s, and the first s lines, over the loop's tables
 abbrev lineAt : tie.At-loop Inv-loop μ-loop → ℕ → List ℤ
-lineAt t = stationWordsIn (t .before .before .coordinates-of .result) (t .before .corrections-of .result) (t .before .before .before .before .numbers-of .result) (t .before .before .before .unknowns-of .result) (t .before .before .before .before .before .before .before .args .m .now) (t .before .before .before .before .before .number-of .result)
+lineAt t = stationLineWordsIn (t .before .before .coordinates-of .result) (t .before .corrections-of .result) (t .before .before .before .before .numbers-of .result) (t .before .before .before .unknowns-of .result) (t .before .before .before .before .before .before .before .args .m .now) (t .before .before .before .before .before .number-of .result)
 
 abbrev linesAt : tie.At-loop Inv-loop μ-loop → ℕ → List ℤ
-linesAt t = stationLinesIn (t .before .before .coordinates-of .result) (t .before .corrections-of .result) (t .before .before .before .before .numbers-of .result) (t .before .before .before .unknowns-of .result) (t .before .before .before .before .before .before .before .args .m .now) (t .before .before .before .before .before .number-of .result)
+linesAt t = stationLinesWordsIn (t .before .before .coordinates-of .result) (t .before .corrections-of .result) (t .before .before .before .before .numbers-of .result) (t .before .before .before .unknowns-of .result) (t .before .before .before .before .before .before .before .args .m .now) (t .before .before .before .before .before .number-of .result)
 
 long : (t : tie.At-loop Inv-loop μ-loop) → length (linesAt t (t .loop .s)) ≡ 7 * t .loop .s
-long t = stations-length (t .before .before .coordinates-of .result) (t .before .corrections-of .result) (t .before .before .before .before .numbers-of .result) (t .before .before .before .unknowns-of .result) (t .before .before .before .before .before .before .before .args .m .now) (t .before .before .before .before .before .number-of .result) (t .loop .s)
+long t = station-words-length (t .before .before .coordinates-of .result) (t .before .corrections-of .result) (t .before .before .before .before .numbers-of .result) (t .before .before .before .unknowns-of .result) (t .before .before .before .before .before .before .before .args .m .now) (t .before .before .before .before .before .number-of .result) (t .loop .s)
 
 line : (c : tie.After-seven-words Inv-loop μ-loop) → c .seven-words .result ≡ lineAt (c .before .before .before .before .before .before .before .before) (c .before .before .before .before .before .before .before .before .loop .s)
-unfolding stationWordsIn
+unfolding stationLineWordsIn
 line c = c .seven-words .ensures ∙ ap₂ (sevenWords (c .before .before .before .before .before .before .before .before .loop .s)) (c .before .before .before .before .position-of .ensures) (c .before .variances-of .ensures)
 
 line-long : (c : tie.After-seven-words Inv-loop μ-loop) → length (c .seven-words .result) ≡ 7
@@ -61,7 +61,7 @@ loop-holds c =
       omega arith,
       refl,
       subst (λ (w : List ℤ). Put (s .args .sheet .now) (s .args .from) w (s .args .sheet .now) (s .args .from))
-          (sym (stations-none (c .before .coordinates-of .result) (c .corrections-of .result) (c .before .before .before .numbers-of .result) (c .before .before .unknowns-of .result) (s .args .m .now) (c .before .before .before .before .number-of .result)))
+          (sym (station-words-none (c .before .coordinates-of .result) (c .corrections-of .result) (c .before .before .before .numbers-of .result) (c .before .before .unknowns-of .result) (s .args .m .now) (c .before .before .before .before .number-of .result)))
           (put-none (s .args .sheet .now) (s .args .from)),
     )
 
@@ -100,7 +100,7 @@ loop-again c =
     let q = c .before .put-line in let k = c .before .before .before .before in let i = k .before .before .before .before .before .before .before in let t = i .before in let s = t .before .before .before .before .before .before .before in (
       omega (arith, i .loop-test .taken),
       q .kept .0 ∙ t .loop .inv .1,
-      subst (λ (w : List ℤ). Put (s .args .sheet .now) (s .args .from) w (q .last .0) (q .result)) (sym (stations-more (t .before .before .coordinates-of .result) (t .before .corrections-of .result) (t .before .before .before .before .numbers-of .result) (t .before .before .before .unknowns-of .result) (t .before .before .before .before .before .before .before .args .m .now) (t .before .before .before .before .before .number-of .result) (t .loop .s)))
+      subst (λ (w : List ℤ). Put (s .args .sheet .now) (s .args .from) w (q .last .0) (q .result)) (sym (station-words-more (t .before .before .coordinates-of .result) (t .before .corrections-of .result) (t .before .before .before .before .numbers-of .result) (t .before .before .before .unknowns-of .result) (t .before .before .before .before .before .before .before .args .m .now) (t .before .before .before .before .before .number-of .result) (t .loop .s)))
           (put-more (t .loop .inv .2) (lineAt t (t .loop .s)) (q .last .0) (q .result)
           (q .ensures .1 ∙ ap (pasted (t .loop .sheet) (t .loop .at)) (line k)) (q .ensures .0 ∙ ap (λ (l : List ℤ). t .loop .at + length l) (line k))),
     )

@@ -5,8 +5,8 @@ use Prim.Native.Nat.{_-_, _≤_}
 use mathlib.Core.Path.{_≡_, ap, _∙_}
 use Rattle.network.specs.Places.{placesIn}
 use Rattle.residuals.specs.Residuals.{isRecord}
-use Rattle.sheet.specs.Sheet.{wordsOf}
-use Rattle.sheet.specs.Totals.{record-one, words-few, Counted, counted-none, counted-more, counted-few, counted-all}
+use Rattle.sheet.specs.Sheet.{lineLength}
+use Rattle.sheet.specs.Totals.{record-one, words-few, Counted, none-counted, counted-more, counted-few, counted-all}
 use Rattle.sheet.proofs.totals.counts_of.Statement.{statement}
 use Rattle.sheet.proofs.totals.counts_of.Tie as tie
 
@@ -17,7 +17,7 @@ abbrev μ-loop : tie.MeasureT-loop
 μ-loop places records₀ words₀ p₀ records words p = 256 - p
 
 loop-holds : tie.Need-loop-holds Inv-loop μ-loop
-loop-holds c = (search needs, counted-none (placesIn (c .args .places .now)))
+loop-holds c = (search needs, none-counted (placesIn (c .args .places .now)))
 
 record-at-requires : tie.Need-record-at-requires Inv-loop μ-loop
 record-at-requires c κs = search needs
@@ -47,7 +47,7 @@ loop-less c = search needs
 loop-again : tie.Need-loop-again Inv-loop μ-loop
 loop-again c =
     let k = c .before in let r = k .before in let t = r .before .before in
-    (search needs, counted-more (placesIn (t .before .args .places .now)) (t .loop .inv .1) (k .is-record .ensures ∙ ap isRecord (r .record-at .ensures)) (c .words-in .ensures ∙ ap wordsOf (r .record-at .ensures)))
+    (search needs, counted-more (placesIn (t .before .args .places .now)) (t .loop .inv .1) (k .is-record .ensures ∙ ap isRecord (r .record-at .ensures)) (c .words-in .ensures ∙ ap lineLength (r .record-at .ensures)))
 
 returns : tie.Need-returns Inv-loop μ-loop
 returns c =

@@ -13,7 +13,7 @@ use Rattle.network.specs.Records.{recordAt}
 use Rattle.network.specs.Places.{placesIn}
 use Rattle.network.specs.declared.Place.{Place}
 use Rattle.network.specs.declared.Record.{Record}
-use Rattle.normals.specs.Sound.{record-sound}
+use Rattle.normals.specs.ByRules.{record-sound}
 use Rattle.sheet.specs.Totals.{shareDIn, shareD-few, freedom, D-in}
 use Rattle.sheet.proofs.totals.d_of.Statement.{statement}
 use Rattle.sheet.proofs.totals.d_of.Tie as tie

@@ -3,7 +3,7 @@ use borrow.Author.Needs.{needs}
 use Prim.Native.Nat.{_≤_}
 use mathlib.Core.Path.{sym, _∙_}
 use Rattle.network.specs.RecordLaws.{observations-few}
-use Rattle.sheet.specs.Sheet.{wordsOf}
+use Rattle.sheet.specs.Sheet.{lineLength}
 use Rattle.sheet.proofs.totals.words_in.Statement.{statement}
 use Rattle.sheet.proofs.totals.words_in.Tie as tie
 
@@ -23,11 +23,11 @@ add-result : tie.Need-add-result
 add-result c = let h = few (c .before .before) in search needs
 
 returns : tie.Need-returns
-unfolding wordsOf
+unfolding lineLength
 returns c = rw (sym (c .before .is-empty .ensures) ∙ c .if1 .taken)
 
 returns-2 : tie.Need-returns-2
-unfolding wordsOf
+unfolding lineLength
 returns-2 c = rw (sym (c .before .is-empty .ensures) ∙ c .if1 .left, c .before .before .observations-of .ensures)
 
 pub words-in-spec : {M : Type 1} → statement M

@@ -6,7 +6,7 @@ use borrow.Author.Needs.{needs, sfits-of}
 use mir.Syntax.{w64}
 use mir.ValLaws.{toZ-ofZ}
 use Rattle.network.specs.StationWords.{stationWords}
-use Rattle.stations.specs.FlatLaws.{put-four}
+use Rattle.stations.specs.FlatLaws.{put-flat}
 use Rattle.stations.proofs.numbers.put.Statement.{statement}
 use Rattle.stations.proofs.numbers.put.Tie as tie
 
@@ -53,7 +53,7 @@ returns : tie.Need-returns
 unfolding stationWords
 returns c =
     let x = c .before .before .before .before .args in
-    put-four (x .out) (x .i * 4) ((x .i + 1) * 4) (omega arith) (search needs)
+    put-flat (x .out) (x .i * 4) ((x .i + 1) * 4) (omega arith) (search needs)
     (toZ-ofZ w64 (c .before .before .before .kind-word .result) (sfits-of (c .before .before .before .kind-word .ok)) ∙ c .before .before .before .kind-word .ensures)
     (toZ-ofZ w64 (x .s .east) (search needs)) (toZ-ofZ w64 (x .s .north) (search needs)) (toZ-ofZ w64 (x .s .up) (search needs))
 

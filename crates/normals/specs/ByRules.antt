@@ -15,14 +15,14 @@ use Rattle.network.specs.declared.Record.{Record}
 use Rattle.network.specs.declared.Place.{Place}
 
 -- the network passes what opening tests, and each of the 256 places is empty or holds a record that is not refused
-pub record Sound (net : Network) (places : List Place) : Type 0 where
+pub record ByRules (net : Network) (places : List Place) : Type 0 where
   pub network : networkFits net ≡ true
   pub each : (p : ℕ) → p < 256 → recordFits net (recordAt places p) ≡ true
 
 -- the record r put in place p
-abbrev pub changed : List Place → ℕ → Record → List Place
-changed places p r = set places p (record { entry = r })
+abbrev pub placesWith : List Place → ℕ → Record → List Place
+placesWith places p r = set places p (record { entry = r })
 
-module _ (net : Network) (places : List Place) (g : Sound net places) where
+module _ (net : Network) (places : List Place) (g : ByRules net places) where
   pub record-sound : (p : ℕ) → p < 256 → SoundRecord (net .stations) (recordAt places p)
   record-sound p h = sound-record net (recordAt places p) (g .network) (g .each p h)
