@@ -7,6 +7,7 @@ use native.Mathlib.Omega.{arith}
 use lib.Dec.{leb}
 use lib.IntN.{ℤ, natAbs, _-ℤ_, _*ℤ_}
 use Rattle.integers.specs.Sums.{sum-ext, sumN-ext, δ}
+use Rattle.integers.specs.Inverses.{S}
 use Rattle.network.specs.Stations.{unknownCount}
 use Rattle.network.specs.RuleLaws.{sound-stations, network-few}
 use Rattle.network.specs.declared.Network.{Network}
@@ -14,7 +15,7 @@ use Rattle.network.specs.declared.Place.{Place}
 use Rattle.normals.specs.ByRules.{ByRules, record-sound}
 use Rattle.normals.specs.Formulas.{entryN, entryU, matrixOf, rightOf}
 use Rattle.normals.specs.Entries.{matrix-at, right-at, matrix-within, right-within}
-use Rattle.acceptance.specs.Tests.{S, at, byRows, normalResidual, defectSmall, residualSmall, refinementSmall}
+use Rattle.acceptance.specs.Tests.{at, byRows, normalResidual, defectSmall, residualSmall, refinementSmall}
 use Rattle.acceptance.specs.Judge.{judgeNumbers, judge}
 use Rattle.acceptance.specs.JudgeLaws.{BookInRange, all-same}
 use Rattle.acceptance.specs.declared.Answer.{Answer}

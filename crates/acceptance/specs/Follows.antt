@@ -6,9 +6,9 @@ use borrow.Author.Tests.{leb-true, le-leb}
 use lib.IntN.{ℤ, pos, natAbs, _-ℤ_, _*ℤ_}
 use lib.Signed.{_≤ℤ_, _<ℤ_}
 use Rattle.integers.specs.Sums.{sum, sumN, sumN-swap, δ}
-use Rattle.integers.specs.Inverses.{largest as largestOf, ≤-largest, approx, approx-column, rounded-passes-5, rounded-passes-6, rounded-passes-7}
+use Rattle.integers.specs.Inverses.{S, defect, largest, ≤-largest, approx, approx-column, rounded-passes-5, rounded-passes-6, rounded-passes-7}
 use Rattle.lists.specs.All.{all-at, all-by}
-use Rattle.acceptance.specs.Tests.{S, defect, refinement, defectSmall, residualSmall, refinementSmall}
+use Rattle.acceptance.specs.Tests.{refinement, defectSmall, residualSmall, refinementSmall}
 use Rattle.acceptance.specs.LeftInverse.{left-inverse}
 
 -- ════ the hypotheses in document 01's words
@@ -16,10 +16,6 @@ use Rattle.acceptance.specs.LeftInverse.{left-inverse}
 pub record Solves (n : ℕ) (N : ℕ → ℕ → ℤ) (b y : ℕ → ℤ) (d : ℤ) : Type 0 where
   pub positive : pos 0 <ℤ d
   pub solves : (i : ℕ) → i < n → sum n (λ j. N i j *ℤ y j) ≡ d *ℤ b i
-
--- "the largest |z|", of the first n
-abbrev pub largest : ℕ → (ℕ → ℤ) → ℕ
-largest n z = largestOf n (λ i. natAbs (z i))
 
 -- "x is the exact answer, … rounded to nearest": the answer is y over d
 pub record RoundedAnswer (n : ℕ) (N : ℕ → ℕ → ℤ) (u x : ℕ → ℤ) : Type 0 where
@@ -60,8 +56,8 @@ module _ (n : ℕ) (N M : ℕ → ℕ → ℤ) (u x : ℕ → ℤ) where
 
   -- "For all whole z and d > 0 with Nz = d times unit column j, 16·|d·M_ij − S·z_i| ≤ S times the largest |z|"
   pub column-bound : defectSmall n N M ≡ true
-      → (z : ℕ → ℤ) (d : ℤ) (j : ℕ) → j < n → Solves n N (λ k. δ k j) z d → (i : ℕ) → i < n → 16 * natAbs (d *ℤ M i j -ℤ S *ℤ z i) ≤ 2 ^ 30 * largest n z
-  column-bound e z d j lj s i li = approx-column n M N z d j lj (s .solves) (largest n z) (≤-largest n (λ k. natAbs (z k))) i li (row-sums n N M e i li)
+      → (z : ℕ → ℤ) (d : ℤ) (j : ℕ) → j < n → Solves n N (λ k. δ k j) z d → (i : ℕ) → i < n → 16 * natAbs (d *ℤ M i j -ℤ S *ℤ z i) ≤ 2 ^ 30 * largest n (λ k. natAbs (z k))
+  column-bound e z d j lj s i li = approx-column n M N z d j lj (s .solves) (largest n (λ k. natAbs (z k))) (≤-largest n (λ k. natAbs (z k))) i li (row-sums n N M e i li)
 
   -- "if x is the exact answer, and M is S times the exact inverse, both rounded to nearest, … then 5 to 7 hold"
   pub rounded-defect : Moderate n N → RoundedInverse n N M → defectSmall n N M ≡ true

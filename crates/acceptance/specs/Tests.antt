@@ -6,12 +6,9 @@ use mathlib.Core.List.{List}
 use lib.Dec.{eqb, leb}
 use lib.ListN.{length, getD}
 use lib.IntN.{ℤ, pos, natAbs, _-ℤ_, _*ℤ_}
-use Rattle.integers.specs.Sums.{sum, sumN, δ}
+use Rattle.integers.specs.Sums.{sum, sumN}
+use Rattle.integers.specs.Inverses.{defect}
 use Rattle.lists.specs.All.{allBelow}
-
--- "S = 2^30"
-abbrev pub S : ℤ
-S = pos (2 ^ 30)
 
 -- ════ lists as vectors, and as matrices by rows: N has rows of 48, M rows of n
 abbrev pub at : List ℤ → ℕ → ℤ
@@ -20,11 +17,7 @@ at l i = getD l i (pos 0)
 abbrev pub byRows : ℕ → List ℤ → ℕ → ℕ → ℤ
 byRows stride l i j = at l (i * stride + j)
 
--- ════ the vectors and matrices that the tests bound
--- entry (i, j) of S·I − MN
-abbrev pub defect : ℕ → (ℕ → ℕ → ℤ) → (ℕ → ℕ → ℤ) → ℕ → ℕ → ℤ
-defect n N M i j = S *ℤ δ i j -ℤ sum n (λ k. M i k *ℤ N k j)
-
+-- ════ the vectors that the tests bound; the matrix S·I − MN is `defect`
 -- "r = u − Nx", the residual of the normal equations
 abbrev pub normalResidual : ℕ → (ℕ → ℕ → ℤ) → (ℕ → ℤ) → (ℕ → ℤ) → ℕ → ℤ
 normalResidual n N u x i = u i -ℤ sum n (λ j. N i j *ℤ x j)

@@ -7,7 +7,8 @@ ghost use Prim.Native.Nat.{_*_, _<_, _^_};
 ghost use lib.Dec.{leb};
 ghost use lib.IntN.{natAbs};
 ghost use Rattle.integers.specs.Sums.{sumN};
-ghost use Rattle.acceptance.specs.Tests.{byRows, defect, defectSmall};
+ghost use Rattle.integers.specs.Inverses.{defect};
+ghost use Rattle.acceptance.specs.Tests.{byRows, defectSmall};
 ghost use Rattle.acceptance.specs.Loops.{DefectRange};
 
 // The size of the entry of S·I − MN in row i and column j; the row of M starts at `row`.

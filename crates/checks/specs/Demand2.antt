@@ -18,13 +18,14 @@ use lib.ListN.{length, drop}
 use lib.IntN.{ℤ, pos, natAbs, _-ℤ_, _*ℤ_}
 use lib.Signed.{_≤ℤ_}
 use Rattle.integers.specs.Sums.{δ}
+use Rattle.integers.specs.Inverses.{S, largest}
 use Rattle.network.specs.Stations.{unknown, unknownCount, coordinate}
 use Rattle.network.specs.Records.{recordAt, acts}
 use Rattle.normals.specs.Formulas.{entryN, entryU}
 use Rattle.chains.specs.Chains.{EachTied, FirstWithoutChain}
-use Rattle.acceptance.specs.Tests.{S, at, byRows, lengthsFit, correctionsSmall, inverseSmall, defectSmall, residualSmall, refinementSmall}
+use Rattle.acceptance.specs.Tests.{at, byRows, lengthsFit, correctionsSmall, inverseSmall, defectSmall, residualSmall, refinementSmall}
 use Rattle.acceptance.specs.Judge.{answerNumber, answerUnknown}
-use Rattle.acceptance.specs.Follows.{Solves, largest, RoundedAnswer, RoundedInverse}
+use Rattle.acceptance.specs.Follows.{Solves, RoundedAnswer, RoundedInverse}
 use Rattle.acceptance.specs.Exact.{Solution}
 use Rattle.acceptance.specs.declared.Answer.{Answer}
 use Rattle.book.specs.declared.Book.{Book}
@@ -78,7 +79,7 @@ pub record Promises (b : Book) (x m : List ℤ) : Type 0 where
   pub one : (p q : Solution (n b) (N b) (u b)) (i : ℕ) → i < n b → q .d *ℤ p .y i ≡ p .d *ℤ q .y i
   -- "For all whole z and d > 0 with Nz = d times unit column j, 16·|d·M_ij − S·z_i| ≤ S times the largest |z|", and there are such z and d for each column
   pub columns : (z : ℕ → ℤ) (d : ℤ) (j : ℕ) → j < n b → Solves (n b) (N b) (λ k. δ k j) z d
-      → (i : ℕ) → i < n b → 16 * natAbs (d *ℤ M b m i j -ℤ S *ℤ z i) ≤ 2 ^ 30 * largest (n b) z
+      → (i : ℕ) → i < n b → 16 * natAbs (d *ℤ M b m i j -ℤ S *ℤ z i) ≤ 2 ^ 30 * largest (n b) (λ k. natAbs (z k))
   pub inverse : (j : ℕ) → j < n b → Solution (n b) (N b) (λ k. δ k j)
   -- held components do not move, and have the variance 0
   pub held : (q : ℕ) → unknown (b .network .stations) q ≡ 0 → (adjusted (b .network .stations) x q ≡ coordinate (b .network .stations) q) × (variance (b .network .stations) m q ≡ pos 0)

@@ -16,7 +16,8 @@ use Rattle.normals.specs.Sizes.{N-row, N-all}
 use Rattle.normals.specs.Symmetry.{N-sym}
 use Rattle.chains.specs.Chains.{FirstWithoutChain}
 use Rattle.chains.specs.ChainLaws.{EndsInRange, all-tied, tied-all, first-untied}
-use Rattle.acceptance.specs.Tests.{S, at, defectSmall, refinementSmall}
+use Rattle.integers.specs.Inverses.{S}
+use Rattle.acceptance.specs.Tests.{at, defectSmall, refinementSmall}
 use Rattle.acceptance.specs.Judge.{refusalNumber, refusalUnknown, answerNumber}
 use Rattle.acceptance.specs.JudgeLaws.{refusal-least}
 use Rattle.acceptance.specs.Follows.{RoundedAnswer, RoundedInverse, Moderate, correction-bound, column-bound, rounded-defect, rounded-residual, rounded-refinement}

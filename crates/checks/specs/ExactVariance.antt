@@ -28,7 +28,8 @@ use Rattle.network.specs.declared.Record.the-variants.{Empty, Baseline as basel
 use Rattle.normals.specs.Formulas.{A, entryN}
 use Rattle.acceptance.specs.Tests.{byRows}
 use Rattle.acceptance.specs.Follows.{RoundedInverse}
-use Rattle.residuals.specs.Residuals.{S, covariance, differenceVariance, residualVariance}
+use Rattle.integers.specs.Inverses.{S}
+use Rattle.residuals.specs.Residuals.{covariance, differenceVariance, residualVariance}
 use Rattle.residuals.specs.Components.{atEnd, A-sum}
 use Rattle.checks.specs.InverseWeights.{InverseWeights, weightAdjugate, weightDeterminant, inverse-weights, observation-quotient, proportional}
 

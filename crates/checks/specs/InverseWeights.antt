@@ -24,7 +24,8 @@ use Rattle.network.specs.declared.Record.the-variants.{Empty, Baseline as basel
 use Rattle.normals.specs.Formulas.{P}
 use Rattle.normals.specs.Symmetry.{P-sym}
 use Rattle.normals.specs.Acting.{P-not-acting}
-use Rattle.residuals.specs.Residuals.{S, observationVariance}
+use Rattle.integers.specs.Inverses.{S}
+use Rattle.residuals.specs.Residuals.{observationVariance}
 use Rattle.residuals.specs.Weights.{weights-by-rules}
 
 -- PQ = p·I where the record acts: of a baseline the whole of it, of a height difference weight·Q_UU = p

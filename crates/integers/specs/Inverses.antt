@@ -18,17 +18,18 @@ use Rattle.integers.specs.Solvers.{ring, shapes}
 use Rattle.integers.specs.Bounds.{abs-+, abs--, abs-*, abs-sub-comm}
 use Rattle.integers.specs.Sums.{sum, sumN, sum-ext, sum--, sum-*l, sum-δ, δ, δ-sym, abs-dot, mat-assoc, sumN-mono, sumN-*l}
 
-abbrev S : ℤ
+-- "S = 2^30" (document 01, "Accepting a solution")
+abbrev pub S : ℤ
 S = pos (2 ^ 30)
 
-module _ (n : ℕ) (M N : ℕ → ℕ → ℤ) where
-  -- the entry of S I − M N
-  abbrev defect : ℕ → ℕ → ℤ
-  defect i j = S *ℤ δ i j -ℤ sum n (λ k. M i k *ℤ N k j)
+-- entry (i, j) of S·I − MN, which test 5 bounds
+abbrev pub defect : ℕ → (ℕ → ℕ → ℤ) → (ℕ → ℕ → ℤ) → ℕ → ℕ → ℤ
+defect n N M i j = S *ℤ δ i j -ℤ sum n (λ k. M i k *ℤ N k j)
 
+module _ (n : ℕ) (M N : ℕ → ℕ → ℤ) where
   -- (S I − M N) v = S v − M (N v)
   defect-mul : (v : ℕ → ℤ) (i : ℕ) → i < n
-      → sum n (λ j. defect i j *ℤ v j) ≡ S *ℤ v i -ℤ sum n (λ k. M i k *ℤ sum n (λ j. N k j *ℤ v j))
+      → sum n (λ j. defect n N M i j *ℤ v j) ≡ S *ℤ v i -ℤ sum n (λ k. M i k *ℤ sum n (λ j. N k j *ℤ v j))
   defect-mul v i l =
       sum-ext n (λ j q. ring (δ i j ∷ sum n (λ k. M i k *ℤ N k j) ∷ v j ∷ []) (search shapes) tt)
       ∙ sum-- n (λ j. S *ℤ (δ i j *ℤ v j)) (λ j. sum n (λ k. M i k *ℤ N k j) *ℤ v j)
@@ -54,7 +55,7 @@ module _ (n : ℕ) (M N : ℕ → ℕ → ℤ) (x u y : ℕ → ℤ) (d : ℤ) w
 
   -- d M r = S e − (S I − M N) e
   M-rest : (i : ℕ) → i < n → ((k : ℕ) → k < n → sum n (λ j. N k j *ℤ y j) ≡ d *ℤ u k)
-      → d *ℤ sum n (λ k. M i k *ℤ rest k) ≡ S *ℤ error i -ℤ sum n (λ j. defect n M N i j *ℤ error j)
+      → d *ℤ sum n (λ k. M i k *ℤ rest k) ≡ S *ℤ error i -ℤ sum n (λ j. defect n N M i j *ℤ error j)
   M-rest i l h =
       sym (sum-*l n d (λ k. M i k *ℤ rest k))
       ∙ sum-ext n (λ k q. ring (d ∷ M i k ∷ rest k ∷ []) (search shapes) tt ∙ ap (λ (z : ℤ). M i k *ℤ z) (sym (N-error k (h k q))))
@@ -91,7 +92,7 @@ module _ (n : ℕ) (M N : ℕ → ℕ → ℤ) (x u y : ℕ → ℤ) (d : ℤ) w
   -- at each i, where E bounds every |e j|
   row : (E i : ℕ) → i < n → ((k : ℕ) → k < n → sum n (λ j. N k j *ℤ y j) ≡ d *ℤ u k)
       → ((j : ℕ) → j < n → natAbs (err j) ≤ E)
-      → sumN n (λ j. natAbs (defect n M N i j)) ≤ 2 ^ 26 → natAbs (sum n (λ k. M i k *ℤ res k)) ≤ 15 * 2 ^ 26
+      → sumN n (λ j. natAbs (defect n N M i j)) ≤ 2 ^ 26 → natAbs (sum n (λ k. M i k *ℤ res k)) ≤ 15 * 2 ^ 26
       → 2 ^ 30 * natAbs (err i) ≤ 2 ^ 26 * E + natAbs d * (15 * 2 ^ 26)
   row E i l h b o t =
       omega (
@@ -99,14 +100,14 @@ module _ (n : ℕ) (M N : ℕ → ℕ → ℤ) (x u y : ℕ → ℤ) (d : ℤ) w
         abs-* S (err i),
         ap natAbs split,
         abs-+ De (d *ℤ Mr),
-        abs-dot n (defect n M N i) err E b,
+        abs-dot n (defect n N M i) err E b,
         mul-le-mul o (le-refl E),
         abs-* d Mr,
         mul-le-mul (le-refl (natAbs d)) t,
       )
     where
       De : ℤ
-      De = sum n (λ j. defect n M N i j *ℤ err j)
+      De = sum n (λ j. defect n N M i j *ℤ err j)
 
       Mr : ℤ
       Mr = sum n (λ k. M i k *ℤ res k)
@@ -115,7 +116,7 @@ module _ (n : ℕ) (M N : ℕ → ℕ → ℤ) (x u y : ℕ → ℤ) (d : ℤ) w
       split = ring (err i ∷ De ∷ []) (search shapes) tt ∙ ap (λ (z : ℤ). De +ℤ z) (sym (M-rest n M N x u y d i l h))
 
   within : ((k : ℕ) → k < n → sum n (λ j. N k j *ℤ y j) ≡ d *ℤ u k)
-      → ((i : ℕ) → i < n → sumN n (λ j. natAbs (defect n M N i j)) ≤ 2 ^ 26)
+      → ((i : ℕ) → i < n → sumN n (λ j. natAbs (defect n N M i j)) ≤ 2 ^ 26)
       → ((i : ℕ) → i < n → natAbs (sum n (λ k. M i k *ℤ res k)) ≤ 15 * 2 ^ 26)
       → (i : ℕ) → i < n → natAbs (err i) ≤ natAbs d
   within h o t i l = omega (arith, largest-≤ n sizeE ((E + 15 * natAbs d) / 16) each, ≤-largest n sizeE i l)
@@ -132,7 +133,7 @@ module _ (n : ℕ) (M N : ℕ → ℕ → ℤ) (x u y : ℕ → ℤ) (d : ℤ) w
 -- For y and d > 0 with N y = d u, tests 5 and 7 give |y − d x| ≤ d in each place.
 pub approx : (n : ℕ) (M N : ℕ → ℕ → ℤ) (x u y : ℕ → ℤ) (d : ℤ) → pos 0 <ℤ d
     → ((i : ℕ) → i < n → sum n (λ j. N i j *ℤ y j) ≡ d *ℤ u i)
-    → ((i : ℕ) → i < n → sumN n (λ j. natAbs (pos (2 ^ 30) *ℤ δ i j -ℤ sum n (λ k. M i k *ℤ N k j))) ≤ 2 ^ 26)
+    → ((i : ℕ) → i < n → sumN n (λ j. natAbs (defect n N M i j)) ≤ 2 ^ 26)
     → ((i : ℕ) → i < n → natAbs (sum n (λ k. M i k *ℤ (u k -ℤ sum n (λ j. N k j *ℤ x j)))) ≤ 15 * 2 ^ 26)
     → (i : ℕ) → i < n → pos (natAbs (y i -ℤ d *ℤ x i)) ≤ℤ d
 approx n M N x u y d p h o r i l = rw (pos-abs (<ℤ→≤ℤ p)) at (pos-mono (within n M N x u y d h o r i l))
@@ -142,10 +143,10 @@ approx n M N x u y d p h o r i l = rw (pos-abs (<ℤ→≤ℤ p)) at (pos-mono (
 pub approx-column : (n : ℕ) (M N : ℕ → ℕ → ℤ) (z : ℕ → ℤ) (d : ℤ) (j : ℕ) → j < n
     → ((k : ℕ) → k < n → sum n (λ m. N k m *ℤ z m) ≡ d *ℤ δ k j)
     → (Z : ℕ) → ((k : ℕ) → k < n → natAbs (z k) ≤ Z)
-    → (i : ℕ) → i < n → sumN n (λ m. natAbs (pos (2 ^ 30) *ℤ δ i m -ℤ sum n (λ k. M i k *ℤ N k m))) ≤ 2 ^ 26
-    → 16 * natAbs (d *ℤ M i j -ℤ pos (2 ^ 30) *ℤ z i) ≤ 2 ^ 30 * Z
+    → (i : ℕ) → i < n → sumN n (λ m. natAbs (defect n N M i m)) ≤ 2 ^ 26
+    → 16 * natAbs (d *ℤ M i j -ℤ S *ℤ z i) ≤ 2 ^ 30 * Z
 approx-column n M N z d j lj h Z b i l o =
-    omega (arith, abs-sub-comm (d *ℤ M i j) (S *ℤ z i), ap natAbs eq, abs-dot n (defect n M N i) z Z b, mul-le-mul o (le-refl Z))
+    omega (arith, abs-sub-comm (d *ℤ M i j) (S *ℤ z i), ap natAbs eq, abs-dot n (defect n N M i) z Z b, mul-le-mul o (le-refl Z))
   where
     Mz : sum n (λ k. M i k *ℤ sum n (λ m. N k m *ℤ z m)) ≡ d *ℤ M i j
     Mz =
@@ -153,7 +154,7 @@ approx-column n M N z d j lj h Z b i l o =
         ∙ sum-*l n d (λ k. δ j k *ℤ M i k)
         ∙ ap (λ (y : ℤ). d *ℤ y) (sum-δ n j (λ k. M i k) lj)
 
-    eq : S *ℤ z i -ℤ d *ℤ M i j ≡ sum n (λ m. defect n M N i m *ℤ z m)
+    eq : S *ℤ z i -ℤ d *ℤ M i j ≡ sum n (λ m. defect n N M i m *ℤ z m)
     eq = sym (defect-mul n M N z i l ∙ ap (λ (y : ℤ). S *ℤ z i -ℤ y) Mz)
 
 -- ════ rounding to nearest implies tests 5 to 7
@@ -171,14 +172,14 @@ half-dot n a e D h =
 -- The exact inverse is Z over D: row i of Z N = D I. Row i of M is S Z over D, rounded to nearest. Where the sizes of N's entries add up to at most 2 ^ 27, row i passes test 5.
 pub rounded-passes-5 : (n : ℕ) (M N Z : ℕ → ℕ → ℤ) (D : ℕ) → 0 < D → (i : ℕ)
     → ((j : ℕ) → j < n → sum n (λ k. Z i k *ℤ N k j) ≡ pos D *ℤ δ i j)
-    → ((k : ℕ) → k < n → 2 * natAbs (pos (2 ^ 30) *ℤ Z i k -ℤ pos D *ℤ M i k) ≤ D)
+    → ((k : ℕ) → k < n → 2 * natAbs (S *ℤ Z i k -ℤ pos D *ℤ M i k) ≤ D)
     → sumN n (λ j. sumN n (λ k. natAbs (N k j))) ≤ 2 ^ 27
-    → sumN n (λ j. natAbs (pos (2 ^ 30) *ℤ δ i j -ℤ sum n (λ k. M i k *ℤ N k j))) ≤ 2 ^ 26
+    → sumN n (λ j. natAbs (defect n N M i j)) ≤ 2 ^ 26
 rounded-passes-5 n M N Z D p i h e b = small (le-of-mul-le-mul-left all p)
   where
     -- D (S I − M N) = (S Z − D M) N
     entry : (j : ℕ) → sum n (λ k. Z i k *ℤ N k j) ≡ pos D *ℤ δ i j
-        → pos D *ℤ defect n M N i j ≡ sum n (λ k. N k j *ℤ (S *ℤ Z i k -ℤ pos D *ℤ M i k))
+        → pos D *ℤ defect n N M i j ≡ sum n (λ k. N k j *ℤ (S *ℤ Z i k -ℤ pos D *ℤ M i k))
     entry j h =
         sym
         (sum-ext n (λ k l. ring (N k j ∷ Z i k ∷ pos D ∷ M i k ∷ []) (search shapes depth 8) tt)
@@ -187,13 +188,13 @@ rounded-passes-5 n M N Z D p i h e b = small (le-of-mul-le-mul-left all p)
         ∙ ring (pos D ∷ δ i j ∷ sum n (λ k. M i k *ℤ N k j) ∷ []) (search shapes) tt)
 
     o : ℕ → ℕ
-    o j = natAbs (defect n M N i j)
+    o j = natAbs (defect n N M i j)
 
     c : ℕ → ℕ
     c j = sumN n (λ k. natAbs (N k j))
 
     one : (j : ℕ) → j < n → D * (2 * o j) ≤ D * c j
-    one j l = omega (arith, abs-* (pos D) (defect n M N i j), ap natAbs (entry j (h j l)), half-dot n (λ k. N k j) (λ k. S *ℤ Z i k -ℤ pos D *ℤ M i k) D e)
+    one j l = omega (arith, abs-* (pos D) (defect n N M i j), ap natAbs (entry j (h j l)), half-dot n (λ k. N k j) (λ k. S *ℤ Z i k -ℤ pos D *ℤ M i k) D e)
 
     all : D * (2 * sumN n o) ≤ D * sumN n c
     all = omega (arith, sumN-mono n one, sumN-*l n D (λ j. 2 * o j), sumN-*l n 2 o, sumN-*l n D c, ap (λ (m : ℕ). D * m) (sumN-*l n 2 o))
@@ -222,7 +223,7 @@ rounded-passes-6 n N x u y d p i h e b = small (le-of-mul-le-mul-left all p)
 pub rounded-passes-7 : (n : ℕ) (M N : ℕ → ℕ → ℤ) (x u y : ℕ → ℤ) (d : ℕ) → 0 < d → (i : ℕ) → i < n
     → ((k : ℕ) → k < n → sum n (λ j. N k j *ℤ y j) ≡ pos d *ℤ u k)
     → ((j : ℕ) → j < n → 2 * natAbs (y j -ℤ pos d *ℤ x j) ≤ d)
-    → sumN n (λ j. natAbs (pos (2 ^ 30) *ℤ δ i j -ℤ sum n (λ k. M i k *ℤ N k j))) ≤ 2 ^ 26
+    → sumN n (λ j. natAbs (defect n N M i j)) ≤ 2 ^ 26
     → natAbs (sum n (λ k. M i k *ℤ (u k -ℤ sum n (λ j. N k j *ℤ x j)))) ≤ 15 * 2 ^ 26
 rounded-passes-7 n M N x u y d p i l h e b = small (le-of-mul-le-mul-left all p)
   where
@@ -230,7 +231,7 @@ rounded-passes-7 n M N x u y d p i l h e b = small (le-of-mul-le-mul-left all p)
     v j = y j -ℤ pos d *ℤ x j
 
     De : ℤ
-    De = sum n (λ j. defect n M N i j *ℤ v j)
+    De = sum n (λ j. defect n N M i j *ℤ v j)
 
     Mr : ℤ
     Mr = sum n (λ k. M i k *ℤ (u k -ℤ sum n (λ j. N k j *ℤ x j)))
@@ -244,7 +245,7 @@ rounded-passes-7 n M N x u y d p i l h e b = small (le-of-mul-le-mul-left all p)
           abs-- (S *ℤ v i) De,
           abs-* S (v i),
           e i l,
-          half-dot n (defect n M N i) v d e,
+          half-dot n (defect n N M i) v d e,
           mul-le-mul (le-refl d) b,
         )
 

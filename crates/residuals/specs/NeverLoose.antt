@@ -22,7 +22,8 @@ use Rattle.network.specs.RuleLaws.{baseline-weights, height-weight}
 use Rattle.network.specs.declared.Network.{Network}
 use Rattle.network.specs.declared.Record.{Record}
 use Rattle.network.specs.declared.Record.the-variants.{Empty, Baseline as baseline, Height as height}
-use Rattle.residuals.specs.Residuals.{residual, inAdjustment, S, observationVariance, residualVariance}
+use Rattle.integers.specs.Inverses.{S}
+use Rattle.residuals.specs.Residuals.{residual, inAdjustment, observationVariance, residualVariance}
 use Rattle.residuals.specs.Verdicts.{verdictWord, localVerdict}
 use Rattle.residuals.specs.CheckOnly.{check-only}
 use Rattle.residuals.specs.declared.Verdict.the-variants.{Loose}

@@ -16,7 +16,8 @@ use Rattle.network.specs.Records.{weightMatrixOf, acts, actsOf, observations, i
 use Rattle.network.specs.declared.Baseline.{Baseline}
 use Rattle.network.specs.declared.Record.{Record}
 use Rattle.network.specs.declared.Record.the-variants.{Empty, Baseline as baseline, Height as height}
-use Rattle.residuals.specs.Residuals.{S, observationVariance}
+use Rattle.integers.specs.Inverses.{S}
+use Rattle.residuals.specs.Residuals.{observationVariance}
 use Rattle.residuals.specs.Verdicts.{verdictWord, localVerdict}
 use Rattle.residuals.specs.Components.{differenceIn}
 use Rattle.residuals.specs.declared.Observation.{Observation}

@@ -16,7 +16,7 @@ use Rattle.network.specs.RuleLaws.{baseline-weights, height-weight}
 use Rattle.network.specs.declared.Network.{Network}
 use Rattle.network.specs.declared.Record.{Record}
 use Rattle.network.specs.declared.Record.the-variants.{Empty, Baseline as baseline, Height as height}
-use Rattle.residuals.specs.Residuals.{S}
+use Rattle.integers.specs.Inverses.{S}
 
 -- ════ the variance of an observation, from an entry of the adjugate and the determinant
 module _ {adj det : ℤ} (q : Quotient adj det) where

@@ -7,7 +7,7 @@ ghost use Prim.Native.Nat.{_+_, _*_, _<_, _≤_};
 ghost use lib.IntN.{natAbs, _*ℤ_};
 ghost use Rattle.integers.specs.Division.{floorDiv};
 ghost use Rattle.weights.specs.Quotients.{Quotient};
-ghost use Rattle.residuals.specs.Residuals.{S};
+ghost use Rattle.integers.specs.Inverses.{S};
 ghost use Rattle.residuals.specs.Components.{covarianceIn, variancesIn, differenceIn, Lookup};
 ghost use Rattle.residuals.specs.Observations.{Testable, verdictOf};
 

@@ -4,7 +4,8 @@ use mathlib.Core.Path.{_≡_, sym}
 use native.Mathlib.Omega.{arith}
 use lib.IntN.{natAbs}
 use Rattle.integers.specs.Sums.{sumN, sumN-zero}
-use Rattle.acceptance.specs.Tests.{byRows, defect}
+use Rattle.integers.specs.Inverses.{defect}
+use Rattle.acceptance.specs.Tests.{byRows}
 use Rattle.acceptance.specs.Loops.{total-more, total-over, total-under}
 use Rattle.acceptance.proofs.inverse.row_near.Statement.{statement}
 use Rattle.acceptance.proofs.inverse.row_near.Tie as tie

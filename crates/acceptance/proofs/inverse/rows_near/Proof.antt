@@ -10,7 +10,8 @@ use lib.Dec.{leb}
 use lib.IntN.{natAbs}
 use Rattle.integers.specs.Sums.{sumN}
 use Rattle.lists.specs.All.{allBelow, all-none, all-more, all-fails, all-done}
-use Rattle.acceptance.specs.Tests.{byRows, defect, defectSmall}
+use Rattle.integers.specs.Inverses.{defect}
+use Rattle.acceptance.specs.Tests.{byRows, defectSmall}
 use Rattle.acceptance.specs.Loops.{row-next, row-end}
 use Rattle.acceptance.proofs.inverse.rows_near.Statement.{statement}
 use Rattle.acceptance.proofs.inverse.rows_near.Tie as tie

@@ -9,7 +9,7 @@ use Rattle.integers.specs.Code.{fit, code-bounds, ringm, code-shapes}
 use Rattle.integers.specs.Division.{floorDiv}
 use Rattle.lists.specs.Stored.{stored, back, fits-by}
 use Rattle.weights.specs.Quotients.{Quotient, divisor-bits}
-use Rattle.residuals.specs.Residuals.{S}
+use Rattle.integers.specs.Inverses.{S}
 use Rattle.residuals.specs.Weights.{observation-size, quotient}
 use Rattle.residuals.proofs.variances.observation_variance.Statement.{statement}
 use Rattle.residuals.proofs.variances.observation_variance.Tie as tie

@@ -11,7 +11,7 @@ use Rattle.integers.specs.Bounds.{bounds, absle}
 use Rattle.integers.specs.Code.{fit, code-bounds, ringm, code-shapes}
 use Rattle.integers.specs.Division.{floorDiv}
 use Rattle.lists.specs.Stored.{stored, back, kept}
-use Rattle.residuals.specs.Residuals.{S}
+use Rattle.integers.specs.Inverses.{S}
 use Rattle.residuals.specs.Verdicts.{verdictWord}
 use Rattle.residuals.specs.Components.{difference-size}
 use Rattle.residuals.specs.Weights.{observation-size}
