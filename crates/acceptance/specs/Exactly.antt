@@ -20,22 +20,9 @@ use Rattle.acceptance.specs.Judge.{judgeNumbers, judge}
 use Rattle.acceptance.specs.JudgeLaws.{BookInRange, all-same}
 use Rattle.acceptance.specs.declared.Answer.{Answer}
 
--- ════ n, N and u of the book, and M by rows
-abbrev pub n : Network → ℕ
-n net = unknownCount (net .stations)
-
-abbrev pub N : Network → List Place → ℕ → ℕ → ℤ
-N net places = entryN (net .stations) places
-
-abbrev pub u : Network → List Place → ℕ → ℤ
-u net places = entryU (net .stations) places
-
-abbrev pub rows : Network → List ℤ → ℕ → ℕ → ℤ
-rows net m = byRows (n net) m
-
 -- ════ the answer on the book's own N = AᵀPA and u = AᵀPl
 unfoldable pub answer : Network → List Place → List ℤ → List ℤ → Bool → Answer
-answer net places x m room = judge net places (N net places) (u net places) x m room
+answer net places x m room = judge net places (entryN (net .stations) places) (entryU (net .stations) places) x m room
 
 -- ════ the tests look at N and u below n alone
 module _ (n : ℕ) (N N′ M : ℕ → ℕ → ℤ) (u u′ x : ℕ → ℤ)
@@ -60,24 +47,24 @@ module _ (n : ℕ) (N N′ M : ℕ → ℕ → ℤ) (u u′ x : ℕ → ℤ)
 
 -- the answer looks at N and u below n alone
 pub judge-same : (net : Network) (places : List Place) (N N′ : ℕ → ℕ → ℤ) (u u′ : ℕ → ℤ)
-    → ((i j : ℕ) → i < n net → j < n net → N i j ≡ N′ i j) → ((i : ℕ) → i < n net → u i ≡ u′ i)
+    → ((i j : ℕ) → i < unknownCount (net .stations) → j < unknownCount (net .stations) → N i j ≡ N′ i j) → ((i : ℕ) → i < unknownCount (net .stations) → u i ≡ u′ i)
     → (x m : List ℤ) (room : Bool) → judge net places N u x m room ≡ judge net places N′ u′ x m room
 unfolding judge judgeNumbers
 judge-same net places N N′ u u′ same side x m room =
     rw (
-      defect-same (n net) N N′ (rows net m) u u′ (at x) same side,
-      residual-same (n net) N N′ (rows net m) u u′ (at x) same side,
-      refinement-same (n net) N N′ (rows net m) u u′ (at x) same side,
+      defect-same (unknownCount (net .stations)) N N′ (byRows (unknownCount (net .stations)) m) u u′ (at x) same side,
+      residual-same (unknownCount (net .stations)) N N′ (byRows (unknownCount (net .stations)) m) u u′ (at x) same side,
+      refinement-same (unknownCount (net .stations)) N N′ (byRows (unknownCount (net .stations)) m) u u′ (at x) same side,
     )
 
 module _ (net : Network) (places : List Place) (g : ByRules net places) where
-  few : n net ≤ 48
+  few : unknownCount (net .stations) ≤ 48
   few = sound-stations net (g .network) .few
 
-  N-is : (i j : ℕ) → i < n net → j < n net → byRows 48 (matrixOf (net .stations) places) i j ≡ N net places i j
+  N-is : (i j : ℕ) → i < unknownCount (net .stations) → j < unknownCount (net .stations) → byRows 48 (matrixOf (net .stations) places) i j ≡ entryN (net .stations) places i j
   N-is i j h k = let f = few in matrix-at (net .stations) places i j (omega arith) (omega arith)
 
-  u-is : (i : ℕ) → i < n net → at (rightOf (net .stations) places) i ≡ u net places i
+  u-is : (i : ℕ) → i < unknownCount (net .stations) → at (rightOf (net .stations) places) i ≡ entryU (net .stations) places i
   u-is i h = let f = few in right-at (net .stations) places i (omega arith)
 
   -- what `accept` asks holds of every sound book

@@ -10,11 +10,13 @@ use lib.IntN.{ℤ}
 use Rattle.words.specs.Bools.{true-or-false}
 use Rattle.network.specs.declared.Network.{Network}
 use Rattle.network.specs.declared.Place.{Place}
+use Rattle.network.specs.Stations.{unknownCount}
+use Rattle.normals.specs.Formulas.{entryN, entryU}
 use Rattle.chains.specs.Chains.{allTied, firstUntied}
-use Rattle.acceptance.specs.Tests.{at, lengthsFit, correctionsSmall, inverseSmall, defectSmall, residualSmall, refinementSmall}
+use Rattle.acceptance.specs.Tests.{at, byRows, lengthsFit, correctionsSmall, inverseSmall, defectSmall, residualSmall, refinementSmall}
 use Rattle.acceptance.specs.Judge.{refusalNumber, answerNumber, refuseUnless, judgeNumbers, judge}
 use Rattle.acceptance.specs.JudgeLaws.{refusal-least}
-use Rattle.acceptance.specs.Exactly.{answer, n, N, u, rows}
+use Rattle.acceptance.specs.Exactly.{answer}
 use Rattle.acceptance.specs.declared.Answer.{Answer}
 use Rattle.acceptance.specs.declared.Answer.the-variants.{Accepted, Refused}
 use Rattle.acceptance.specs.declared.Refusal.{Refusal}
@@ -47,13 +49,13 @@ tests-answer test refusal all (suc left) k e h = go (λ p. tests-answer test ref
 module _ (net : Network) (places : List Place) (x m : List ℤ) (room : Bool) where
   -- test k + 1, and its refusal
   unfoldable pub computed : ℕ → Bool
-  computed zero = lengthsFit (n net) x m room
+  computed zero = lengthsFit (unknownCount (net .stations)) x m room
   computed (suc zero) = allTied net places
   computed (suc (suc zero)) = correctionsSmall x
   computed (suc (suc (suc zero))) = inverseSmall m
-  computed (suc (suc (suc (suc zero)))) = defectSmall (n net) (N net places) (rows net m)
-  computed (suc (suc (suc (suc (suc zero))))) = residualSmall (n net) (N net places) (u net places) (at x)
-  computed (suc (suc (suc (suc (suc (suc k)))))) = refinementSmall (n net) (N net places) (rows net m) (u net places) (at x)
+  computed (suc (suc (suc (suc zero)))) = defectSmall (unknownCount (net .stations)) (entryN (net .stations) places) (byRows (unknownCount (net .stations)) m)
+  computed (suc (suc (suc (suc (suc zero))))) = residualSmall (unknownCount (net .stations)) (entryN (net .stations) places) (entryU (net .stations) places) (at x)
+  computed (suc (suc (suc (suc (suc (suc k)))))) = refinementSmall (unknownCount (net .stations)) (entryN (net .stations) places) (byRows (unknownCount (net .stations)) m) (entryU (net .stations) places) (at x)
 
   unfoldable pub refusal : ℕ → Refusal
   refusal zero = Lengths

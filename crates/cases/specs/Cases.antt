@@ -7,15 +7,15 @@ use mathlib.Core.Bool.{true}
 use mathlib.Core.List.{List, [], _∷_, _++_, map}
 use lib.IntN.{ℤ, pos}
 use lib.ListN.{length, getD, drop, replicate}
-use Rattle.network.specs.Stations.{networkOf, opens}
+use Rattle.network.specs.Stations.{unknownCount, networkOf, opens}
 use Rattle.network.specs.declared.Network.{Network}
 use Rattle.network.specs.Records.{vacant}
 use Rattle.network.specs.declared.Record.{Record}
 use Rattle.network.specs.declared.Place.{Place}
+use Rattle.normals.specs.Formulas.{entryN, entryU}
 use Rattle.acceptance.specs.declared.Answer.{Answer}
-use Rattle.acceptance.specs.Tests.{at, refinement}
+use Rattle.acceptance.specs.Tests.{at, byRows, refinement}
 use Rattle.acceptance.specs.Judge.{answerNumber, answerUnknown}
-use Rattle.acceptance.specs.Exactly.{n, N, u, rows}
 use Rattle.book.specs.declared.Book.{Book}
 use Rattle.book.specs.Book as spec
 use Rattle.book.specs.Run.{final, answers}
@@ -43,7 +43,8 @@ mOf c = c .m ∷ []
 
 -- entry i of Mr, on a network and its places
 abbrev pub refinedAt : Network → List Place → List ℤ → List ℤ → ℕ → ℤ
-refinedAt net places x m i = refinement (n net) (N net places) (rows net m) (u net places) (at x) i
+refinedAt net places x m i =
+    refinement (unknownCount (net .stations)) (entryN (net .stations) places) (byRows (unknownCount (net .stations)) m) (entryU (net .stations) places) (at x) i
 
 -- the 256 places that hold these records from the first on, and nothing beyond
 unfoldable pub filledPlaces : List Record → List Place

@@ -10,6 +10,7 @@ use lib.ListN.{length, drop}
 use lib.IntN.{ℤ}
 use Rattle.words.specs.Bools.{and-both, and-right}
 use Rattle.lists.specs.All.{all-at}
+use Rattle.network.specs.Stations.{unknownCount}
 use Rattle.network.specs.Records.{recordAt}
 use Rattle.network.specs.Rules.{recordFits}
 use Rattle.normals.specs.ByRules.{ByRules}
@@ -18,7 +19,7 @@ use Rattle.normals.specs.Formulas.{matrixOf, rightOf}
 use Rattle.acceptance.specs.Tests.{at, byRows, lengthsFit}
 use Rattle.acceptance.specs.JudgeLaws.{BookInRange, lengths-of, corrections-small, inverse-small}
 use Rattle.acceptance.specs.Judge.{judge}
-use Rattle.acceptance.specs.Exactly.{n, answer, book-in-range, kept-answer}
+use Rattle.acceptance.specs.Exactly.{answer, book-in-range, kept-answer}
 use Rattle.acceptance.specs.InTurn.{computed, accepted-tests}
 use Rattle.acceptance.specs.declared.Answer.{Answer}
 use Rattle.acceptance.specs.declared.Answer.the-variants.{Accepted, Refused}
@@ -62,7 +63,7 @@ module _ (b : Book) (sure : sound b ≡ true) where
       tests : (k : ℕ) → k < 7 → computed (b .network) (b .places) x m r k ≡ true
       tests = accepted-tests (b .network) (b .places) x m r e
 
-      lengths : lengthsFit (n (b .network)) x m r ≡ true
+      lengths : lengthsFit (unknownCount (b .network .stations)) x m r ≡ true
       unfolding computed
       lengths = tests 0 (omega arith)
 
