@@ -56,6 +56,13 @@ componentOf stations i = componentFrom stations i 0 96
 unfoldable pub unknownIndex : List Station → ℕ → ℕ
 unknownIndex stations q = unknown stations q * number stations q
 
+-- the tables over the components: 1 at each unknown one and 0 at each held one; the number of each unknown, and 0 at a held one
+abbrev pub unknownTable : List Station → List ℤ
+unknownTable stations = tabulate 96 (λ q. pos (unknown stations q))
+
+abbrev pub indexTable : List Station → List ℕ
+indexTable stations = tabulate 96 (unknownIndex stations)
+
 -- ════ provisional coordinates
 unfoldable pub coordinateIn : Station → ℕ → ℤ
 coordinateIn s c = cond (eqb c 0) (s .east) (cond (eqb c 1) (s .north) (s .up))

@@ -4,8 +4,7 @@ use super::Station;
 use super::Unit;
 ghost use mathlib.Core.Path.{_≡_};
 ghost use Prim.Native.Nat.{_≤_};
-ghost use lib.IntN.{pos};
-ghost use Rattle.network.specs.Stations.{unknownIn, unknown, number, unknownIndex, componentOf, coordinateIn, coordinates};
+ghost use Rattle.network.specs.Stations.{unknownIn, unknownTable, number, indexTable, componentOf, coordinateIn, coordinates};
 ghost use Rattle.integers.specs.Tables.{tabulate};
 
 // 1 where the kind leaves component c unknown.
@@ -26,7 +25,7 @@ pub fn unknown_in(k: Kind, c: usize) -> usize
 
 // 1 at each unknown component, 0 at each held one.
 pub fn unknowns_of(stations: [Station; Unit::STATIONS]) -> [i64; Unit::COMPONENTS]
-    ensures { λ r. ⌜ r ≡ tabulate 96 (λ q. pos (unknown stations q)) ⌝ }
+    ensures { λ r. ⌜ r ≡ unknownTable stations ⌝ }
 {
     let mut out = [0i64; Unit::COMPONENTS];
     let mut q = 0;
@@ -43,7 +42,7 @@ pub fn unknowns_of(stations: [Station; Unit::STATIONS]) -> [i64; Unit::COMPONENT
 
 // The number of each unknown, from 0, and 0 at a held component.
 pub fn numbers_of(stations: [Station; Unit::STATIONS]) -> [usize; Unit::COMPONENTS]
-    ensures { λ r. ⌜ r ≡ tabulate 96 (unknownIndex stations) ⌝ }
+    ensures { λ r. ⌜ r ≡ indexTable stations ⌝ }
 {
     let mut out = [0usize; Unit::COMPONENTS];
     let mut n = 0;

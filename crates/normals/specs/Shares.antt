@@ -11,8 +11,8 @@ use lib.IntN.{ℤ, pos, natAbs, _+ℤ_, _-ℤ_, _*ℤ_, zero-*ℤ, *ℤ-zero}
 use Rattle.integers.specs.Solvers.{ring, shapes}
 use Rattle.integers.specs.Bounds.{bounds, absle}
 use Rattle.integers.specs.Sums.{sum, sum-ext, sum-*r, δ, δ-same, δ-other}
-use Rattle.integers.specs.Tables.{tabulate, getD-tabulate, Within, within-tabulate}
-use Rattle.network.specs.Stations.{unknown, number, unknownIndex, coordinates}
+use Rattle.integers.specs.Tables.{getD-tabulate, Within, within-tabulate}
+use Rattle.network.specs.Stations.{unknown, number, unknownIndex, unknownTable, indexTable, coordinates}
 use Rattle.network.specs.StationLaws.{unknown-bit, unknown-cases, number-below}
 use Rattle.network.specs.Records.{acts, joins, joins-one, fromOf, toOf}
 use Rattle.network.specs.RecordLaws.{Observed}
@@ -40,18 +40,12 @@ pub δ-pair : (a b k : ℕ) → b < 48 → δ (a * 48 + b) k ≡ δ a (k / 48) *
     go (yes e) (no f) = δ-other (a * 48 + b) k (λ g. f (omega arith)) ∙ sym (ap (λ (z : ℤ). δ a (k / 48) *ℤ z) (δ-other b (k % 48) f) ∙ *ℤ-zero (δ a (k / 48)))
     go (no e) f = δ-other (a * 48 + b) k (λ g. e (omega arith)) ∙ sym (ap (λ (z : ℤ). z *ℤ δ b (k % 48)) (δ-other a (k / 48) e) ∙ zero-*ℤ (δ b (k % 48)))
 
--- ════ the tables over the 96 components, and a record's equations by them
-abbrev pub numbers : List Station → List ℕ
-numbers st = tabulate 96 (unknownIndex st)
-
-abbrev pub unknowns : List Station → List ℤ
-unknowns st = tabulate 96 (λ q. pos (unknown st q))
-
+-- ════ a record's equations by the tables over the components
 abbrev pub equation : List Station → Record → Equation
-equation st r = equationOf (numbers st) (unknowns st) (coordinates st) r
+equation st r = equationOf (indexTable st) (unknownTable st) (coordinates st) r
 
 -- what the code makes of the tables is the record's equations
-pub equation-by : {at : List ℕ} {un co : List ℤ} {q : Equation} (st : List Station) (r : Record) → at ≡ numbers st → un ≡ unknowns st → co ≡ coordinates st
+pub equation-by : {at : List ℕ} {un co : List ℤ} {q : Equation} (st : List Station) (r : Record) → at ≡ indexTable st → un ≡ unknownTable st → co ≡ coordinates st
     → q ≡ equationOf at un co r → q ≡ equation st r
 equation-by st r a b c e = e ∙ (λ i. equationOf (a i) (b i) (c i) r)
 
@@ -73,17 +67,17 @@ module _ (st : List Station) where
       go (inr e) = let g : unknown st q * number st q ≡ number st q = rw e (omega arith) in ap (λ (j : ℕ). pos (unknown st q) *ℤ δ j i) g
 
   -- what the tables hold at component q
-  table-at : (p q i : ℕ) → p ≡ q → q < 96 → getD (unknowns st) p (pos 0) *ℤ δ (getD (numbers st) p 0) i ≡ isUnknown st q i
+  table-at : (p q i : ℕ) → p ≡ q → q < 96 → getD (unknownTable st) p (pos 0) *ℤ δ (getD (indexTable st) p 0) i ≡ isUnknown st q i
   table-at p q i e h =
-      ap (λ (j : ℕ). getD (unknowns st) j (pos 0) *ℤ δ (getD (numbers st) j 0) i) e
+      ap (λ (j : ℕ). getD (unknownTable st) j (pos 0) *ℤ δ (getD (indexTable st) j 0) i) e
       ∙ ap₂ _*ℤ_ (getD-tabulate 96 (λ q. pos (unknown st q)) q (pos 0) h) (ap (λ (j : ℕ). δ j i) (getD-tabulate 96 (unknownIndex st) q 0 h))
       ∙ held-or-not q i
 
   -- the from end and the to end of one component
   two-ends : (g : ℤ) (p q p′ q′ i : ℕ) → p ≡ q → q < 96 → p′ ≡ q′ → q′ < 96
-      → (pos 0 -ℤ g *ℤ getD (unknowns st) p (pos 0)) *ℤ δ (getD (numbers st) p 0) i +ℤ getD (unknowns st) p′ (pos 0) *ℤ δ (getD (numbers st) p′ 0) i ≡ isUnknown st q′ i -ℤ g *ℤ isUnknown st q i
+      → (pos 0 -ℤ g *ℤ getD (unknownTable st) p (pos 0)) *ℤ δ (getD (indexTable st) p 0) i +ℤ getD (unknownTable st) p′ (pos 0) *ℤ δ (getD (indexTable st) p′ 0) i ≡ isUnknown st q′ i -ℤ g *ℤ isUnknown st q i
   two-ends g p q p′ q′ i e h e′ h′ =
-      ring (g ∷ getD (unknowns st) p (pos 0) ∷ δ (getD (numbers st) p 0) i ∷ getD (unknowns st) p′ (pos 0) ∷ δ (getD (numbers st) p′ 0) i ∷ []) (search shapes depth 8) tt
+      ring (g ∷ getD (unknownTable st) p (pos 0) ∷ δ (getD (indexTable st) p 0) i ∷ getD (unknownTable st) p′ (pos 0) ∷ δ (getD (indexTable st) p′ 0) i ∷ []) (search shapes depth 8) tt
       ∙ ap₂ _-ℤ_ (table-at p′ q′ i e′ h′) (ap (λ (z : ℤ). g *ℤ z) (table-at p q i e h))
 
   module _ (r : Record) (hf : fromOf r < 32) (ht : toOf r < 32) where
@@ -141,15 +135,15 @@ module _ (st : List Station) (g : SoundStations st) where
       go (inl e) = rw e (omega arith)
       go (inr e) = rw e (let few = g .few in omega (arith, number-below st q 96 h e))
 
-  number-at : (p : ℕ) → p < 96 → getD (numbers st) p 0 < 48
+  number-at : (p : ℕ) → p < 96 → getD (indexTable st) p 0 < 48
   number-at p h = rw (getD-tabulate 96 (unknownIndex st) p 0 h) (unknown-index-below p h)
 
-  pub within-unknowns : Within 96 1 (unknowns st)
+  pub within-unknowns : Within 96 1 (unknownTable st)
   within-unknowns = within-tabulate 96 1 (λ q. pos (unknown st q)) (λ q h. unknown-bit st q)
 
   -- a coefficient at a from end
-  from-unit : (r : Record) (p : ℕ) → natAbs (pos 0 -ℤ joins r *ℤ getD (unknowns st) p (pos 0)) ≤ 1
-  from-unit r p = let h = within-unknowns .bound p in let j = joins-one r in absle (pos 0 -ℤ joins r *ℤ getD (unknowns st) p (pos 0)) (search bounds depth 8) (omega arith)
+  from-unit : (r : Record) (p : ℕ) → natAbs (pos 0 -ℤ joins r *ℤ getD (unknownTable st) p (pos 0)) ≤ 1
+  from-unit r p = let h = within-unknowns .bound p in let j = joins-one r in absle (pos 0 -ℤ joins r *ℤ getD (unknownTable st) p (pos 0)) (search bounds depth 8) (omega arith)
 
   module _ (r : Record) (s : SoundRecord st r) where
     ends-fit : (e : ℕ) → atOf (equation st r) e < 48

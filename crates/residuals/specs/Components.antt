@@ -13,7 +13,7 @@ use Rattle.integers.specs.Bounds.{bounds, absle}
 use Rattle.integers.specs.Solvers.{ring, shapes}
 use Rattle.integers.specs.Sums.{sum, sum-ext, sum--, sum-*l, sum-δ, δ}
 use Rattle.integers.specs.Tables.{tabulate, getD-tabulate, Within}
-use Rattle.network.specs.Stations.{unknown, number, unknownIndex, unknownCount, coordinate, coordinates}
+use Rattle.network.specs.Stations.{unknown, number, unknownIndex, unknownTable, indexTable, unknownCount, coordinate, coordinates}
 use Rattle.network.specs.StationLaws.{unknown-cases, number-below}
 use Rattle.network.specs.Records.{acts, fromOf, toOf, joins, joins-one, misclosures, l}
 use Rattle.network.specs.RecordLaws.{Observed}
@@ -23,15 +23,7 @@ use Rattle.normals.specs.Formulas.{A, isUnknown}
 use Rattle.normals.specs.Acting.{A-acting}
 use Rattle.residuals.specs.Residuals.{correction, adjusted, covariance, residual, differenceVariance}
 
--- ════ the tables
--- 1 at each unknown component, 0 at each held one
-abbrev pub unknownsOf : List Station → List ℤ
-unknownsOf stations = tabulate 96 (λ q. pos (unknown stations q))
-
--- the number of each unknown, and 0 at a held component
-abbrev pub numbersOf : List Station → List ℕ
-numbersOf stations = tabulate 96 (unknownIndex stations)
-
+-- ════ the tables: beside those of the station list the corrections, 0 at each held component
 abbrev pub correctionsOf : List Station → List ℤ → List ℤ
 correctionsOf stations x = tabulate 96 (correction stations x)
 
@@ -74,7 +66,7 @@ module _ (stations : List Station) where
 
   -- the corrections as the code has them, from the tables
   pub correction-in : (x : List ℤ) (q : ℕ) → q < 96
-      → getD (unknownsOf stations) q (pos 0) *ℤ getD x (getD (numbersOf stations) q 0) (pos 0) ≡ correction stations x q
+      → getD (unknownTable stations) q (pos 0) *ℤ getD x (getD (indexTable stations) q 0) (pos 0) ≡ correction stations x q
   correction-in x q h =
       rw (getD-tabulate 96 (λ i. pos (unknown stations i)) q (pos 0) h, getD-tabulate 96 (unknownIndex stations) q 0 h) (correction-index x q)
 
@@ -180,7 +172,7 @@ held-both u v a b c e f =
     ∙ ring (u ∷ v ∷ c ∷ []) (search shapes) tt
 
 module _ (stations : List Station) (m : List ℤ) where
-  pub covariance-in : (q k : ℕ) → q < 96 → k < 96 → covarianceIn (numbersOf stations) (unknownsOf stations) m (unknownCount stations) q k ≡ covariance stations m q k
+  pub covariance-in : (q k : ℕ) → q < 96 → k < 96 → covarianceIn (indexTable stations) (unknownTable stations) m (unknownCount stations) q k ≡ covariance stations m q k
   unfolding covarianceIn covariance
   covariance-in q k h g =
       rw (
@@ -203,7 +195,7 @@ module _ (stations : List Station) (m : List ℤ) where
       at i j = getD m (i * unknownCount stations + j) (pos 0)
 
   pub difference-in : (r : Record) → fromOf r < 32 → toOf r < 32 → (a : ℕ) → a < 3
-      → differenceIn (numbersOf stations) (unknownsOf stations) m (unknownCount stations) (toOf r * 3 + a) (fromOf r * 3 + a) (joins r) ≡ differenceVariance stations m r a
+      → differenceIn (indexTable stations) (unknownTable stations) m (unknownCount stations) (toOf r * 3 + a) (fromOf r * 3 + a) (joins r) ≡ differenceVariance stations m r a
   unfolding differenceIn differenceVariance
   difference-in r f t a h =
       let p : toOf r * 3 + a < 96 = omega arith in

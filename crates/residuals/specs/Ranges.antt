@@ -8,7 +8,7 @@ use lib.ListN.{getD}
 use lib.IntN.{ℤ, pos, natAbs, _*ℤ_}
 use Rattle.integers.specs.Bounds.{bounds, absle}
 use Rattle.integers.specs.Tables.{getD-tabulate, Within, within-tabulate}
-use Rattle.network.specs.Stations.{unknown, number, unknownIndex, unknownCount, coordinates, networkFits}
+use Rattle.network.specs.Stations.{unknown, number, unknownIndex, unknownCount, coordinates, networkFits, unknownTable, indexTable}
 use Rattle.network.specs.StationLaws.{unknown-bit}
 use Rattle.network.specs.Records.{recordAt}
 use Rattle.network.specs.Rules.{recordFits}
@@ -16,7 +16,7 @@ use Rattle.network.specs.RuleLaws.{SoundRecord, sound-record, sound-stations}
 use Rattle.network.specs.declared.Network.{Network}
 use Rattle.network.specs.declared.Place.{Place}
 use Rattle.residuals.specs.Residuals.{correction}
-use Rattle.residuals.specs.Components.{unknownsOf, numbersOf, correctionsOf, unknown-index-below, Closes, Lookup}
+use Rattle.residuals.specs.Components.{correctionsOf, unknown-index-below, Closes, Lookup}
 
 -- a network by the rules, with corrections of its unknowns
 pub record Moved (net : Network) (x : List ℤ) : Type 0 where
@@ -46,7 +46,7 @@ module _ {net : Network} {x : List ℤ} (g : Moved net x) where
       let u : natAbs (pos (unknown (net .stations) q)) ≤ 1 = a in
       absle (pos (unknown (net .stations) q) *ℤ getD x (number (net .stations) q) (pos 0)) (search bounds) (omega arith))
 
-  pub lookup : (m : List ℤ) → Inverse net m → Lookup (numbersOf (net .stations)) (unknownsOf (net .stations)) m (unknownCount (net .stations))
+  pub lookup : (m : List ℤ) → Inverse net m → Lookup (indexTable (net .stations)) (unknownTable (net .stations)) m (unknownCount (net .stations))
   lookup m w =
       record {
         below = λ q h. rw (getD-tabulate 96 (unknownIndex (net .stations)) q 0 h) (unknown-index-below (net .stations) q h some-unknowns);

@@ -9,7 +9,7 @@ use lib.IntN.{ℤ, pos}
 use Rattle.integers.specs.Sums.{sumN, sumN-suc, sumN-ext, sumN-first}
 use Rattle.lists.specs.Pasted.{pasted, pasted-none, pasted-then}
 use Rattle.words.specs.Concat.{concatBelow, concatBelow-none, concatBelow-+1, length-concatBelow, concatBelow-ext}
-use Rattle.network.specs.Stations.{unknownCount, coordinate, coordinates}
+use Rattle.network.specs.Stations.{unknownCount, coordinate, coordinates, unknownTable, indexTable}
 use Rattle.network.specs.Records.{acts, fromOf, toOf, recordAt, observations, actsOf, isEmpty}
 use Rattle.network.specs.declared.Station.{Station}
 use Rattle.network.specs.declared.Place.{Place}
@@ -17,7 +17,7 @@ use Rattle.network.specs.declared.Record.{Record}
 use Rattle.network.specs.declared.Record.the-variants.{Empty, Baseline as baseline, Height as height}
 use Rattle.residuals.specs.Residuals.{residual, residualVariance}
 use Rattle.sheet.specs.Sheet.{stationLineWords, stationLinesWords, recordLineWords, recordLinesWords, verdictAt, lineLength}
-use Rattle.residuals.specs.Components.{unknownsOf, numbersOf, correctionsOf, positionIn, adjusted-in, variancesIn, covariance-in, difference-in, residualsIn, residual-in}
+use Rattle.residuals.specs.Components.{correctionsOf, positionIn, adjusted-in, variancesIn, covariance-in, difference-in, residualsIn, residual-in}
 use Rattle.residuals.specs.Observations.{verdictIn, verdictsIn}
 
 -- ════ lines one after the other
@@ -142,7 +142,7 @@ module _ (coordinate corrections : List ℤ) (numbers : List ℕ) (unknowns m : 
 -- ════ over the tables of a station list they are the sheet's
 module _ (stations : List Station) (x m : List ℤ) where
   station-in : (s : ℕ) → s < 32
-      → stationLineWordsIn (coordinates stations) (correctionsOf stations x) (numbersOf stations) (unknownsOf stations) m (unknownCount stations) s ≡ stationLineWords stations x m s
+      → stationLineWordsIn (coordinates stations) (correctionsOf stations x) (indexTable stations) (unknownTable stations) m (unknownCount stations) s ≡ stationLineWords stations x m s
   unfolding stationLineWordsIn sevenWords positionIn variancesIn stationLineWords
   station-in s h =
       let e : s * 3 < 96 = omega arith in let n : s * 3 + 1 < 96 = omega arith in let u : s * 3 + 2 < 96 = omega arith in
@@ -156,12 +156,12 @@ module _ (stations : List Station) (x m : List ℤ) where
       )
 
   verdict-in : (r : Record) → fromOf r < 32 → toOf r < 32 → (a : ℕ) → a < 3
-      → verdictIn (numbersOf stations) (unknownsOf stations) m (unknownCount stations) r a (residual stations x r a) ≡ verdictAt stations x m r a
+      → verdictIn (indexTable stations) (unknownTable stations) m (unknownCount stations) r a (residual stations x r a) ≡ verdictAt stations x m r a
   unfolding verdictIn verdictAt residualVariance
   verdict-in r f t a h = rw (difference-in stations m r f t a h)
 
   record-in : (p : ℕ) (r : Record) → fromOf r < 32 → toOf r < 32
-      → recordLineWordsIn (numbersOf stations) (unknownsOf stations) m (unknownCount stations) p r (residualsIn (coordinates stations) (correctionsOf stations x) r)
+      → recordLineWordsIn (indexTable stations) (unknownTable stations) m (unknownCount stations) p r (residualsIn (coordinates stations) (correctionsOf stations x) r)
       ≡ recordLineWords stations x m p r
   unfolding recordLineWordsIn lineOf sevenWords threeWords verdictsIn recordLineWords acts observations actsOf
   record-in p Empty f t = refl
@@ -187,12 +187,12 @@ module _ (stations : List Station) (x m : List ℤ) where
   record-lines places (suc k) = ap (λ (l : List ℤ). l ++ recordLineWords stations x m k (recordAt places k)) (record-lines places k)
 
   pub stations-in : (k : ℕ) → k ≤ 32
-      → stationLinesWordsIn (coordinates stations) (correctionsOf stations x) (numbersOf stations) (unknownsOf stations) m (unknownCount stations) k ≡ stationLinesWords stations x m k
+      → stationLinesWordsIn (coordinates stations) (correctionsOf stations x) (indexTable stations) (unknownTable stations) m (unknownCount stations) k ≡ stationLinesWords stations x m k
   unfolding stationLinesWordsIn
   stations-in k h = concatBelow-ext k _ (stationLineWords stations x m) (λ s l. station-in s (omega arith)) ∙ sym (station-lines k)
 
   pub records-in : (places : List Place) → ((p : ℕ) → p < 256 → (fromOf (recordAt places p) < 32) × (toOf (recordAt places p) < 32))
-      → recordLinesWordsIn (coordinates stations) (correctionsOf stations x) (numbersOf stations) (unknownsOf stations) m (unknownCount stations) places 256 ≡ recordLinesWords stations x m places 256
+      → recordLinesWordsIn (coordinates stations) (correctionsOf stations x) (indexTable stations) (unknownTable stations) m (unknownCount stations) places 256 ≡ recordLinesWords stations x m places 256
   unfolding recordLinesWordsIn recordLineIn
   records-in places h =
       concatBelow-ext 256 _ (λ p. recordLineWords stations x m p (recordAt places p)) (λ p l. record-in p (recordAt places p) (h p l .0) (h p l .1)) ∙ sym (record-lines places 256)

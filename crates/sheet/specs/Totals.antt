@@ -14,7 +14,7 @@ use Rattle.integers.specs.Bounds.{bounds, absle}
 use Rattle.integers.specs.Sums.{sum, sum-zero, sum-+1, sum-ext, sumN, sumN-zero, sumN-+1, sumN-ext, sumN-const, abs-sum-const, abs-sum-sum-const}
 use Rattle.integers.specs.Tables.{getD-tabulate, Within}
 use Rattle.words.specs.Signed.{eqZ}
-use Rattle.network.specs.Stations.{unknownIn, unknown, unknownCount, stationAt, coordinates}
+use Rattle.network.specs.Stations.{unknownIn, unknown, unknownCount, stationAt, coordinates, unknownTable}
 use Rattle.network.specs.StationLaws.{unknown-at}
 use Rattle.network.specs.Records.{recordAt, acts, fromOf, toOf, weights, observations, actsOf, isEmpty}
 use Rattle.network.specs.RecordLaws.{observations-few}
@@ -32,7 +32,7 @@ use Rattle.normals.specs.ByRules.{ByRules, record-sound}
 use Rattle.sheet.specs.declared.totals.Counts.{Counts}
 use Rattle.residuals.specs.Residuals.{residual, unknownAtEnd, inAdjustment, weightedSquares, shareT, T, shareD, D, isRecord, recordCount}
 use Rattle.sheet.specs.Sheet.{lineLength, room}
-use Rattle.residuals.specs.Components.{residualIn, residualsIn, residual-in, residual-size, unknownsOf, correctionsOf, Closes}
+use Rattle.residuals.specs.Components.{residualIn, residualsIn, residual-in, residual-size, correctionsOf, Closes}
 use Rattle.residuals.specs.Ranges.{Solved, closes-at, sound-at}
 
 -- ════ counts
@@ -126,7 +126,7 @@ by-kinds (baseline b) Height Free = refl
 by-kinds (baseline b) Height Height = refl
 by-kinds (height h) f t = refl
 
-pub in-adjustment-in : (stations : List Station) (r : Record) → fromOf r < 32 → toOf r < 32 → inAdjustmentIn (unknownsOf stations) r ≡ inAdjustment stations r
+pub in-adjustment-in : (stations : List Station) (r : Record) → fromOf r < 32 → toOf r < 32 → inAdjustmentIn (unknownTable stations) r ≡ inAdjustment stations r
 unfolding inAdjustmentIn inAdjustment unknownAtEnd
 in-adjustment-in stations r f t =
     rw (
@@ -156,7 +156,7 @@ shareD-few unknowns r = go (inAdjustmentIn unknowns r)
     go false = lit≤ tt
 
 pub D-in : {net : Network} {places : List Place} → ByRules net places
-    → freedom (sumN 256 (λ p. shareDIn (unknownsOf (net .stations)) (recordAt places p))) (unknownCount (net .stations)) ≡ D (net .stations) places
+    → freedom (sumN 256 (λ p. shareDIn (unknownTable (net .stations)) (recordAt places p))) (unknownCount (net .stations)) ≡ D (net .stations) places
 unfolding D shareD
 D-in {net} {places} g =
     ap (λ (k : ℕ). freedom k (unknownCount (net .stations))) (sumN-ext 256 (λ p h.
@@ -202,7 +202,7 @@ shares-size unknowns {coordinate} {corrections} places g n h =
     le-trans (abs-sum-const n (λ p. shareTIn unknowns coordinate corrections (recordAt places p)) 8100000000000000 (λ p l. share-size unknowns (g p (omega arith)))) (omega arith)
 
 share-in : {net : Network} {places : List Place} {x : List ℤ} → Solved net places x → (p : ℕ) → p < 256
-    → shareTIn (unknownsOf (net .stations)) (coordinates (net .stations)) (correctionsOf (net .stations) x) (recordAt places p) ≡ shareT (net .stations) x (recordAt places p)
+    → shareTIn (unknownTable (net .stations)) (coordinates (net .stations)) (correctionsOf (net .stations) x) (recordAt places p) ≡ shareT (net .stations) x (recordAt places p)
 unfolding shareTIn weightedSquaresIn shareT weightedSquares
 share-in {net} {places} {x} g p h =
     let r = recordAt places p in
@@ -212,7 +212,7 @@ share-in {net} {places} {x} g p h =
     (acting-only r _ (residual (net .stations) x r) _ (residual (net .stations) x r) v v)
 
 pub T-in : {net : Network} {places : List Place} {x : List ℤ} → Solved net places x
-    → sum 256 (λ p. shareTIn (unknownsOf (net .stations)) (coordinates (net .stations)) (correctionsOf (net .stations) x) (recordAt places p)) ≡ T (net .stations) places x
+    → sum 256 (λ p. shareTIn (unknownTable (net .stations)) (coordinates (net .stations)) (correctionsOf (net .stations) x) (recordAt places p)) ≡ T (net .stations) places x
 unfolding T
 T-in g = sum-ext 256 (λ p h. share-in g p h)
 

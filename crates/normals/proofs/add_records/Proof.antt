@@ -8,7 +8,7 @@ use lib.Dec.{lit≤}
 use lib.IntN.{ℤ, pos}
 use denote.Ref.{now}
 use Rattle.integers.specs.Tables.{plus}
-use Rattle.network.specs.Stations.{coordinates}
+use Rattle.network.specs.Stations.{unknownTable, indexTable, coordinates}
 use Rattle.network.specs.Records.{recordAt}
 use Rattle.network.specs.Places.{placesIn}
 use Rattle.network.specs.RuleLaws.{sound-stations}
@@ -18,7 +18,7 @@ use Rattle.network.specs.declared.Place.{Place}
 use Rattle.normals.specs.Formulas.{entryN, entryU}
 use Rattle.normals.specs.ByRules.{ByRules, record-sound}
 use Rattle.normals.specs.Equations.{blockN, blockU}
-use Rattle.normals.specs.Shares.{numbers, unknowns, equation, equation-by, is-observed, within-unknowns}
+use Rattle.normals.specs.Shares.{equation, equation-by, is-observed, within-unknowns}
 use Rattle.normals.specs.FirstPlaces.{firstN, firstU, firstN-0, firstU-0, firstN-more, firstU-more, fits-at, within-firstN, within-firstU}
 use Rattle.normals.proofs.add_records.Statement.{statement}
 use Rattle.normals.proofs.add_records.Tie as tie
@@ -26,7 +26,7 @@ use Rattle.normals.proofs.add_records.Tie as tie
 -- of the network that the tables are of, which the code no longer holds
 abbrev Holds : List Place → List ℕ → List ℤ → List ℤ → List ℤ → List ℤ → ℕ → Type 0
 Holds places at un co n u p =
-    (net : Network) → ByRules net places → at ≡ numbers (net .stations) → un ≡ unknowns (net .stations) → co ≡ coordinates (net .stations)
+    (net : Network) → ByRules net places → at ≡ indexTable (net .stations) → un ≡ unknownTable (net .stations) → co ≡ coordinates (net .stations)
     → (n ≡ firstN (net .stations) places p) × (u ≡ firstU (net .stations) places p)
 
 abbrev Inv-loop : tie.InvT-loop
