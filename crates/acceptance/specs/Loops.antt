@@ -1,19 +1,20 @@
--- One law for every loop that adds up products of two numbers in an i64.
-use mathlib.Core.Path.{_≡_, ap, ap₂, _∙_}
+-- What the loops of tests 5 to 7 ask of their numbers, and what `dot` gives there. Assumes nothing.
+use mathlib.Core.Path.{_≡_, ap₂}
 use mathlib.Core.Bool.{true, false}
 use mathlib.Core.List.{List}
-use Prim.Native.Nat.{ℕ, suc, _+_, _*_, _≤_, _<_, _^_}
+use Prim.Native.Nat.{ℕ, _+_, _*_, _≤_, _<_, _^_}
 use native.Mathlib.Nat.{mul-le-mul-right, add-mul, one-mul, add-comm}
 use native.Mathlib.Omega.{arith}
 use borrow.Author.Tests.{lt-leb, le-leb}
 use lib.Dec.{lit<, leb}
 use lib.ListN.{length}
-use lib.IntN.{ℤ, natAbs, _+ℤ_, _-ℤ_, _*ℤ_}
+use lib.IntN.{ℤ, natAbs, _-ℤ_, _*ℤ_}
 use mir.Syntax.{w64}
 use mir.Val.{ofZ, toZ, SFits}
 use mir.ValLaws.{toZ-ofZ}
-use Rattle.integers.specs.Bounds.{bounds, fits, absle, abs--}
-use Rattle.integers.specs.Sums.{sum, sumN, sum-ext, abs-sum-const, sumN-+1, sumN-first}
+use Rattle.integers.specs.Bounds.{bounds, fits, abs--}
+use Rattle.integers.specs.Sums.{sum, sumN, sum-ext, sumN-+1, sumN-first}
+use Rattle.integers.specs.Products.{Terms, sum-size}
 use Rattle.integers.specs.Tables.{Within}
 use Rattle.acceptance.specs.Tests.{at, byRows}
 
@@ -23,57 +24,6 @@ small-fits z h = let l : natAbs z ≤ natAbs z = omega arith in fits (search bou
 
 pub read-back : (z : ℤ) → natAbs z < 2 ^ 63 → toZ w64 (ofZ w64 z) ≡ z
 read-back z h = toZ-ofZ w64 z (small-fits z h)
-
--- One turn of such a loop. s is the sum so far and x its bits; a and b are the factors, as the machine reads them back:
--- the product and the sum fit, and the bits afterwards are those of the new sum.
-pub record Turn (s a b : ℤ) (x : ℕ) : Type 0 where
-  pub mul : SFits w64 (toZ w64 (ofZ w64 a) *ℤ toZ w64 (ofZ w64 b))
-  pub add : SFits w64 (toZ w64 x +ℤ toZ w64 (ofZ w64 (toZ w64 (ofZ w64 a) *ℤ toZ w64 (ofZ w64 b))))
-  pub is : ofZ w64 (toZ w64 x +ℤ toZ w64 (ofZ w64 (toZ w64 (ofZ w64 a) *ℤ toZ w64 (ofZ w64 b)))) ≡ ofZ w64 (s +ℤ a *ℤ b)
-
-pub turn : (s a b : ℤ) (x A B C : ℕ) → x ≡ ofZ w64 s → natAbs s ≤ C → natAbs a ≤ A → natAbs b ≤ B → A < 2 ^ 63 → B < 2 ^ 63 → C + A * B < 2 ^ 63 → Turn s a b x
-turn s a b x A B C e hs ha hb la lb room =
-    let hp : natAbs (a *ℤ b) ≤ A * B = absle (a *ℤ b) (search bounds) (omega arith) in
-    let ht : natAbs (s +ℤ a *ℤ b) ≤ C + A * B = absle (s +ℤ a *ℤ b) (search bounds) (omega arith) in
-    let fa : toZ w64 (ofZ w64 a) ≡ a = read-back a (omega arith) in
-    let fb : toZ w64 (ofZ w64 b) ≡ b = read-back b (omega arith) in
-    let q : toZ w64 x +ℤ toZ w64 (ofZ w64 (toZ w64 (ofZ w64 a) *ℤ toZ w64 (ofZ w64 b))) ≡ s +ℤ a *ℤ b =
-    rw (e, fa, fb, read-back s (omega arith), read-back (a *ℤ b) (omega arith)) in
-    record {
-      mul = rw (fa, fb) (small-fits (a *ℤ b) (omega arith));
-      add = rw q (small-fits (s +ℤ a *ℤ b) (omega arith));
-      is = ap (ofZ w64) q;
-    }
-
--- the terms of a sum of n products: a k at most A in size, b k at most B, and n of them fit
-pub record Terms (a b : ℕ → ℤ) (A B n : ℕ) : Type 0 where
-  pub left : (k : ℕ) → k < n → natAbs (a k) ≤ A
-  pub right : (k : ℕ) → k < n → natAbs (b k) ≤ B
-  pub leftFits : A < 2 ^ 63
-  pub rightFits : B < 2 ^ 63
-  pub allFit : n * (A * B) < 2 ^ 63
-
-module _ {a b : ℕ → ℤ} {A B n : ℕ} (t : Terms a b A B n) where
-  pub sum-small : (k : ℕ) → k ≤ n → natAbs (sum k (λ k. a k *ℤ b k)) ≤ k * (A * B)
-  sum-small k h =
-      abs-sum-const k _ (A * B) (λ i l.
-      let x = t .left i (omega arith) in let y = t .right i (omega arith) in absle (a i *ℤ b i) (search bounds) (omega arith))
-
-  small-enough : (k : ℕ) → k ≤ n → k * (A * B) < 2 ^ 63
-  small-enough k h = let m = mul-le-mul-right (A * B) h in omega (arith, t .allFit)
-
-  -- a turn: x holds the sum of the first k terms
-  pub sum-turn : {x k : ℕ} → k < n → x ≡ ofZ w64 (sum k (λ k. a k *ℤ b k)) → Turn (sum k (λ k. a k *ℤ b k)) (a k) (b k) x
-  sum-turn {x} {k} h e =
-      turn (sum k (λ k. a k *ℤ b k)) (a k) (b k) x A B (k * (A * B)) e (sum-small k (omega arith)) (t .left k h) (t .right k h) (t .leftFits) (t .rightFits)
-      (let m : suc k * (A * B) < 2 ^ 63 = small-enough (suc k) h in omega arith)
-
-  -- and at the end
-  pub sum-done : {x k : ℕ} → k ≤ n → x ≡ ofZ w64 (sum k (λ k. a k *ℤ b k)) → toZ w64 x ≡ sum k (λ k. a k *ℤ b k)
-  sum-done {x} {k} h e =
-      let s = sum-small k h in
-      let m = small-enough k h in
-      ap (toZ w64) e ∙ read-back (sum k (λ k. a k *ℤ b k)) (omega arith)
 
 -- what `dot` asks: at most 48 products of numbers of at most 2^34 and 2^23 in size. The rows of M against the columns of N, those of N against x and
 -- those of M against r are all such.
@@ -89,7 +39,7 @@ module _ {a : List ℤ} {row : ℕ} {b : List ℤ} {column stride n : ℕ} (f : 
   factors = record { left = f .left; right = f .right; leftFits = lit< tt; rightFits = lit< tt; allFit = let h = f .few in omega arith }
 
   pub dot-small : natAbs (sum n (λ k. at a (row + k) *ℤ at b (column + k * stride))) ≤ 48 * 2 ^ 57
-  dot-small = let h = f .few in let s = sum-small factors n (omega arith) in omega arith
+  dot-small = let h = f .few in let s = sum-size factors n (omega arith) in omega arith
 
 -- rows of n entries lie within n of them
 pub row-next : (i n : ℕ) → i * n + n ≡ (i + 1) * n

@@ -1,18 +1,19 @@
 -- `dot` has the sum of the first k products at each turn. Assumes nothing.
 use Prim.Native.Nat.{ℕ, _≤_, _<_, _-_, _+_, _*_}
-use mathlib.Core.Path.{_≡_, sym, ap, _∙_}
+use mathlib.Core.Path.{_≡_, sym, _∙_}
 use native.Mathlib.Omega.{arith}
 use lib.IntN.{ℤ, _*ℤ_}
 use mir.Syntax.{w64}
-use mir.Val.{ofZ}
-use Rattle.integers.specs.Sums.{sum as Sum, sum-+1, sum-zero}
-use Rattle.acceptance.specs.Loops.{Turn, factors, sum-turn, sum-done}
+use mir.Val.{toZ}
+use Rattle.integers.specs.Sums.{sum as Sum, sum-zero}
+use Rattle.integers.specs.Products.{Turn, turn}
+use Rattle.acceptance.specs.Loops.{factors}
 use Rattle.acceptance.specs.Tests.{at}
 use Rattle.acceptance.proofs.products.dot.Statement.{statement}
 use Rattle.acceptance.proofs.products.dot.Tie as tie
 
 abbrev Inv-loop : tie.InvT-loop
-Inv-loop a row b column stride n sum₀ k₀ sum k = (k ≤ n) × (sum ≡ ofZ w64 (Sum k (λ k. at a (row + k) *ℤ at b (column + k * stride))))
+Inv-loop a row b column stride n sum₀ k₀ sum k = (k ≤ n) × (toZ w64 sum ≡ Sum k (λ k. at a (row + k) *ℤ at b (column + k * stride)))
 
 abbrev μ-loop : tie.MeasureT-loop
 μ-loop a row b column stride n sum₀ k₀ sum k = n - k
@@ -27,16 +28,14 @@ right s k = at (s .args .b .now) (s .args .column + k * s .args .stride)
 inside : (c : tie.In-loop Inv-loop μ-loop) → c .before .before .args .column + c .before .loop .k * c .before .before .args .stride < lib.ListN.length (c .before .before .args .b .now)
 inside c = c .before .before .pre .inside (c .before .loop .k) (c .loop-test .taken)
 
-turn : (c : tie.After-sum2 Inv-loop μ-loop)
-    → Turn (Sum (c .before .before .before .loop .k) (λ k. left (c .before .before .before .before) k *ℤ right (c .before .before .before .before) k))
-    (left (c .before .before .before .before) (c .before .before .before .loop .k))
-    (right (c .before .before .before .before) (c .before .before .before .loop .k))
+this-turn : (c : tie.After-sum2 Inv-loop μ-loop)
+    → Turn (left (c .before .before .before .before) (c .before .before .before .loop .k)) (right (c .before .before .before .before) (c .before .before .before .loop .k))
     (c .before .before .before .loop .sum)
-turn c =
-    sum-turn (factors (c .before .before .before .before .pre)) (c .before .before .loop-test .taken) (c .before .before .before .loop .inv .1)
+    (Sum (c .before .before .before .loop .k + 1) (λ k. left (c .before .before .before .before) k *ℤ right (c .before .before .before .before) k))
+this-turn c = turn (factors (c .before .before .before .before .pre)) (c .before .before .loop-test .taken) (c .before .before .before .loop .inv .1)
 
 loop-holds : tie.Need-loop-holds Inv-loop μ-loop
-loop-holds c = (omega arith, ap (ofZ w64) (sym (sum-zero _)))
+loop-holds c = (omega arith, sym (sum-zero _))
 
 add-sum : tie.Need-add-sum Inv-loop μ-loop
 add-sum c = omega (arith, c .before .before .pre .along)
@@ -60,10 +59,10 @@ shared-slice-copy-out-sum-2 : tie.Need-shared-slice-copy-out-sum-2 Inv-loop μ-l
 shared-slice-copy-out-sum-2 c = omega (arith, inside (c .before))
 
 mul-sum-4 : tie.Need-mul-sum-4 Inv-loop μ-loop
-mul-sum-4 c = turn c .mul
+mul-sum-4 c = this-turn c .mul
 
 add-sum-3 : tie.Need-add-sum-3 Inv-loop μ-loop
-add-sum-3 c = turn c .add
+add-sum-3 c = this-turn c .add
 
 add-k : tie.Need-add-k Inv-loop μ-loop
 add-k c = omega arith
@@ -72,12 +71,12 @@ loop-less : tie.Need-loop-less Inv-loop μ-loop
 loop-less c = omega arith
 
 loop-again : tie.Need-loop-again Inv-loop μ-loop
-loop-again c = (omega arith, turn c .is ∙ ap (ofZ w64) (sym (sum-+1 _ _)))
+loop-again c = (omega arith, this-turn c .next)
 
 returns : tie.Need-returns Inv-loop μ-loop
 returns c =
     let e : c .before .loop .k ≡ c .before .before .args .n = omega arith in
-    sum-done (factors (c .before .before .pre)) (c .before .loop .inv .0) (c .before .loop .inv .1) ∙ rw e
+    c .before .loop .inv .1 ∙ rw e
 
 pub dot-spec : {M : Type 1} → statement M
 dot-spec =
