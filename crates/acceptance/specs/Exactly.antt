@@ -8,6 +8,7 @@ use lib.Dec.{leb}
 use lib.IntN.{ℤ, natAbs, _-ℤ_, _*ℤ_}
 use Rattle.integers.specs.Sums.{sum-ext, sumN-ext, δ}
 use Rattle.integers.specs.Inverses.{S}
+use Rattle.network.specs.Units.{mostUnknowns}
 use Rattle.network.specs.Stations.{unknownCount}
 use Rattle.network.specs.RuleLaws.{sound-stations, network-few}
 use Rattle.network.specs.declared.Network.{Network}
@@ -58,10 +59,10 @@ judge-same net places N N′ u u′ same side x m room =
     )
 
 module _ (net : Network) (places : List Place) (g : ByRules net places) where
-  few : unknownCount (net .stations) ≤ 48
+  few : unknownCount (net .stations) ≤ mostUnknowns
   few = sound-stations net (g .network) .few
 
-  N-is : (i j : ℕ) → i < unknownCount (net .stations) → j < unknownCount (net .stations) → byRows 48 (matrixOf (net .stations) places) i j ≡ entryN (net .stations) places i j
+  N-is : (i j : ℕ) → i < unknownCount (net .stations) → j < unknownCount (net .stations) → byRows mostUnknowns (matrixOf (net .stations) places) i j ≡ entryN (net .stations) places i j
   N-is i j h k = let f = few in matrix-at (net .stations) places i j (omega arith) (omega arith)
 
   u-is : (i : ℕ) → i < unknownCount (net .stations) → at (rightOf (net .stations) places) i ≡ entryU (net .stations) places i
@@ -82,6 +83,6 @@ module _ (net : Network) (places : List Place) (g : ByRules net places) where
 
   -- the lists that the book keeps give the same answer
   pub kept-answer : (x m : List ℤ) (room : Bool)
-      → judge net places (byRows 48 (matrixOf (net .stations) places)) (at (rightOf (net .stations) places)) x m room ≡ answer net places x m room
+      → judge net places (byRows mostUnknowns (matrixOf (net .stations) places)) (at (rightOf (net .stations) places)) x m room ≡ answer net places x m room
   unfolding answer
   kept-answer x m room = judge-same net places _ _ _ _ N-is u-is x m room

@@ -12,9 +12,11 @@ use Rattle.integers.specs.Sums.{sum, sum-ext}
 use Rattle.integers.specs.Tables.{Within, within-inside}
 use Rattle.words.specs.Bools.{same-test, and-left, and-right}
 use Rattle.lists.specs.All.{allBelow, all-at, all-by}
+use Rattle.network.specs.Units.{mostUnknowns}
 use Rattle.network.specs.Stations.{unknownCount}
 use Rattle.network.specs.declared.Network.{Network}
 use Rattle.network.specs.declared.Place.{Place}
+use Rattle.normals.specs.Formulas.{matrixLength}
 use Rattle.chains.specs.ChainLaws.{EndsInRange}
 use Rattle.acceptance.specs.Tests.{at, byRows, lengthsFit, correctionsSmall, inverseSmall, normalResidual, residualSmall, refinementSmall}
 use Rattle.acceptance.specs.Loops.{Residuals}
@@ -26,18 +28,18 @@ use Rattle.acceptance.specs.declared.Refusal.the-variants.{Lengths, Unti
 
 -- what the answer asks of a book: at most 48 unknowns, ends among the stations, and the sizes of N and u
 pub record BookInRange (net : Network) (places : List Place) (normal right : List ℤ) : Type 0 where
-  pub few : unknownCount (net .stations) ≤ 48
+  pub few : unknownCount (net .stations) ≤ mostUnknowns
   pub ends : EndsInRange net places
-  pub matrix : Within 2304 2560000 normal
-  pub absolute : Within 48 768000000000 right
+  pub matrix : Within matrixLength 2560000 normal
+  pub absolute : Within mostUnknowns 768000000000 right
 
 -- the same of the parts, after test 1
 pub record NumbersInRange (n : ℕ) (normal right x m : List ℤ) : Type 0 where
-  pub few : n ≤ 48
+  pub few : n ≤ mostUnknowns
   pub corrections : length x ≡ n
   pub square : length m ≡ n * n
-  pub matrix : Within 2304 2560000 normal
-  pub absolute : Within 48 768000000000 right
+  pub matrix : Within matrixLength 2560000 normal
+  pub absolute : Within mostUnknowns 768000000000 right
 
 -- a test of every number below n that another one agrees with
 pub all-same : (n : ℕ) (p q : ℕ → Bool) → ((k : ℕ) → k < n → p k ≡ q k) → allBelow n p ≡ allBelow n q
@@ -66,12 +68,12 @@ unfolding inverseSmall
 inverse-small m e = throughout m (2 ^ 34) e
 
 -- tests 6 and 7 over a list whose first n entries are r
-module _ (n : ℕ) (normal right x m r : List ℤ) (h : Residuals n (normalResidual n (byRows 48 normal) (at right) (at x)) r) where
-  pub residual-is : allBelow n (λ k. leb (natAbs (at r k)) (2 ^ 23)) ≡ residualSmall n (byRows 48 normal) (at right) (at x)
+module _ (n : ℕ) (normal right x m r : List ℤ) (h : Residuals n (normalResidual n (byRows mostUnknowns normal) (at right) (at x)) r) where
+  pub residual-is : allBelow n (λ k. leb (natAbs (at r k)) (2 ^ 23)) ≡ residualSmall n (byRows mostUnknowns normal) (at right) (at x)
   unfolding residualSmall
   residual-is = all-same n _ _ (λ k l. ap (λ (z : ℤ). leb (natAbs z) (2 ^ 23)) (h .is k l))
 
-  pub refinement-is : allBelow n (λ i. leb (natAbs (sum n (λ k. byRows n m i k *ℤ at r k))) (15 * 2 ^ 26)) ≡ refinementSmall n (byRows 48 normal) (byRows n m) (at right) (at x)
+  pub refinement-is : allBelow n (λ i. leb (natAbs (sum n (λ k. byRows n m i k *ℤ at r k))) (15 * 2 ^ 26)) ≡ refinementSmall n (byRows mostUnknowns normal) (byRows n m) (at right) (at x)
   unfolding refinementSmall
   refinement-is = all-same n _ _ (λ i l. ap (λ (z : ℤ). leb (natAbs z) (15 * 2 ^ 26)) (sum-ext n (λ k q. ap (λ (z : ℤ). byRows n m i k *ℤ z) (h .is k q))))
 

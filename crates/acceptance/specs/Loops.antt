@@ -16,6 +16,8 @@ use Rattle.integers.specs.Bounds.{bounds, fits, abs--}
 use Rattle.integers.specs.Sums.{sum, sumN, sum-ext, sumN-+1, sumN-first}
 use Rattle.integers.specs.Products.{Terms, sum-size}
 use Rattle.integers.specs.Tables.{Within}
+use Rattle.network.specs.Units.{mostUnknowns}
+use Rattle.normals.specs.Formulas.{matrixLength}
 use Rattle.acceptance.specs.Tests.{at, byRows}
 
 -- a number smaller than 2^63 in size fits 64 bits, and is what is read back
@@ -28,7 +30,7 @@ read-back z h = toZ-ofZ w64 z (small-fits z h)
 -- what `dot` asks: at most 48 products of numbers of at most 2^34 and 2^23 in size. The rows of M against the columns of N, those of N against x and
 -- those of M against r are all such.
 pub record Factors (a : List ℤ) (row : ℕ) (b : List ℤ) (column stride n : ℕ) : Type 0 where
-  pub few : n ≤ 48
+  pub few : n ≤ mostUnknowns
   pub along : row + n ≤ length a
   pub inside : (k : ℕ) → k < n → column + k * stride < length b
   pub left : (k : ℕ) → k < n → natAbs (at a (row + k)) ≤ 2 ^ 34
@@ -38,7 +40,7 @@ module _ {a : List ℤ} {row : ℕ} {b : List ℤ} {column stride n : ℕ} (f : 
   pub factors : Terms (λ k. at a (row + k)) (λ k. at b (column + k * stride)) (2 ^ 34) (2 ^ 23) n
   factors = record { left = f .left; right = f .right; leftFits = lit< tt; rightFits = lit< tt; allFit = let h = f .few in omega arith }
 
-  pub dot-small : natAbs (sum n (λ k. at a (row + k) *ℤ at b (column + k * stride))) ≤ 48 * 2 ^ 57
+  pub dot-small : natAbs (sum n (λ k. at a (row + k) *ℤ at b (column + k * stride))) ≤ mostUnknowns * 2 ^ 57
   dot-small = let h = f .few in let s = sum-size factors n (omega arith) in omega arith
 
 -- rows of n entries lie within n of them
@@ -51,50 +53,50 @@ row-end {i} {n} h = rw row-next (mul-le-mul-right n (let k : i + 1 ≤ n = omega
 -- ════ what the tests ask, each of those before it: the sizes of N and u are those of every sound book
 -- test 5, after 1 and 4
 pub record DefectRange (n : ℕ) (m normal : List ℤ) : Type 0 where
-  pub few : n ≤ 48
+  pub few : n ≤ mostUnknowns
   pub long : length m ≡ n * n
   pub inverse : (k : ℕ) → natAbs (at m k) ≤ 2 ^ 34
-  pub matrix : Within 2304 2560000 normal
+  pub matrix : Within matrixLength 2560000 normal
 
 -- test 6, after 1 and 3
 pub record ResidualRange (n : ℕ) (normal right x : List ℤ) : Type 0 where
-  pub few : n ≤ 48
+  pub few : n ≤ mostUnknowns
   pub long : length x ≡ n
   pub corrections : (k : ℕ) → natAbs (at x k) ≤ 100000
-  pub matrix : Within 2304 2560000 normal
-  pub absolute : Within 48 768000000000 right
+  pub matrix : Within matrixLength 2560000 normal
+  pub absolute : Within mostUnknowns 768000000000 right
 
 -- test 7, after 1, 4 and 6
 pub record RefinementRange (n : ℕ) (m r : List ℤ) : Type 0 where
-  pub few : n ≤ 48
+  pub few : n ≤ mostUnknowns
   pub long : length m ≡ n * n
   pub inverse : (k : ℕ) → natAbs (at m k) ≤ 2 ^ 34
-  pub room : length r ≡ 48
+  pub room : length r ≡ mostUnknowns
   pub residual : (k : ℕ) → k < n → natAbs (at r k) ≤ 2 ^ 23
 
 -- the first n entries of a list of 48 are f's
 pub record Residuals (n : ℕ) (f : ℕ → ℤ) (l : List ℤ) : Type 0 where
-  pub room : length l ≡ 48
+  pub room : length l ≡ mostUnknowns
   pub is : (k : ℕ) → k < n → at l k ≡ f k
 
 -- ════ the factors of each
-pub pair-factors : {n : ℕ} {m normal : List ℤ} → DefectRange n m normal → (row i j : ℕ) → row ≡ i * n → i < n → j < n → Factors m row normal j 48 n
+pub pair-factors : {n : ℕ} {m normal : List ℤ} → DefectRange n m normal → (row i j : ℕ) → row ≡ i * n → i < n → j < n → Factors m row normal j mostUnknowns n
 pair-factors {n} {m} {normal} p row i j e hi hj =
     record {
       few = p .few;
       along = let l = p .long in omega (arith, row-end hi);
       inside = λ k h. let l = p .matrix .long in let f = p .few in omega arith;
       left = λ k h. p .inverse (row + k);
-      right = λ k h. let b = p .matrix .bound (j + k * 48) in omega arith;
+      right = λ k h. let b = p .matrix .bound (j + k * mostUnknowns) in omega arith;
     }
 
-pub normal-factors : {n : ℕ} {normal right x : List ℤ} → ResidualRange n normal right x → (i : ℕ) → i < n → Factors normal (i * 48) x 0 1 n
+pub normal-factors : {n : ℕ} {normal right x : List ℤ} → ResidualRange n normal right x → (i : ℕ) → i < n → Factors normal (i * mostUnknowns) x 0 1 n
 normal-factors {n} {normal} {right} {x} p i hi =
     record {
       few = p .few;
       along = let l = p .matrix .long in let f = p .few in omega arith;
       inside = λ k h. let l = p .long in omega arith;
-      left = λ k h. let b = p .matrix .bound (i * 48 + k) in omega arith;
+      left = λ k h. let b = p .matrix .bound (i * mostUnknowns + k) in omega arith;
       right = λ k h. let b = p .corrections (0 + k * 1) in omega arith;
     }
 
@@ -110,8 +112,8 @@ small-factors {n} {m} {r} p row i e hi =
 
 -- ════ what `dot` gives there, in the tests' words
 pub pair-dot : (n : ℕ) (m normal : List ℤ) (row i j : ℕ) → row ≡ i * n
-    → sum n (λ k. at m (row + k) *ℤ at normal (j + k * 48)) ≡ sum n (λ k. byRows n m i k *ℤ byRows 48 normal k j)
-pair-dot n m normal row i j e = sum-ext n (λ k h. ap₂ (λ (a b : ℕ). at m (a + k) *ℤ at normal b) e (add-comm j (k * 48)))
+    → sum n (λ k. at m (row + k) *ℤ at normal (j + k * mostUnknowns)) ≡ sum n (λ k. byRows n m i k *ℤ byRows mostUnknowns normal k j)
+pair-dot n m normal row i j e = sum-ext n (λ k h. ap₂ (λ (a b : ℕ). at m (a + k) *ℤ at normal b) e (add-comm j (k * mostUnknowns)))
 
 one-by-one : (k : ℕ) → 0 + k * 1 ≡ k
 one-by-one k = omega arith

@@ -14,6 +14,7 @@ ghost use mathlib.Core.Bool.{_&&_};
 ghost use Prim.Native.Nat.{_*_, _≤_};
 ghost use lib.Dec.{eqb};
 ghost use lib.ListN.{length};
+ghost use Rattle.network.specs.Units.{mostUnknowns};
 ghost use Rattle.network.specs.Places.{placesLength, placesIn};
 ghost use Rattle.acceptance.specs.Tests.{at, byRows};
 ghost use Rattle.acceptance.specs.Judge.{refusalNumber, refusalUnknown, answerNumber, answerUnknown, judgeNumbers, judge};
@@ -73,7 +74,7 @@ pub fn unknown(answer: Answer) -> u64
 
 // Test 1: whether x has n numbers and M n·n, and the sheet, where one is lent, has room.
 fn lengths_fit(x: usize, m: usize, n: usize, room: bool) -> bool
-    requires { ⌜ n ≤ 48 ⌝ }
+    requires { ⌜ n ≤ mostUnknowns ⌝ }
     ensures { λ r. ⌜ r ≡ (eqb x n && eqb m (n * n) && room) ⌝ }
 {
     if x == n {
@@ -93,7 +94,7 @@ fn judge_numbers(
     n: usize,
 ) -> Answer
     requires { ⌜ NumbersInRange n (now normal) (now right) (now x) (now m) ⌝ }
-    ensures { λ r. ⌜ r ≡ judgeNumbers n (byRows 48 (now (normal .entry))) (at (now (right .entry))) (now (x .entry)) (now (m .entry)) ⌝ }
+    ensures { λ r. ⌜ r ≡ judgeNumbers n (byRows mostUnknowns (now (normal .entry))) (at (now (right .entry))) (now (x .entry)) (now (m .entry)) ⌝ }
 {
     if !first_within(x, x.len(), limits::CORRECTION) {
         return Answer::Refused(Refusal::Correction);
@@ -125,7 +126,7 @@ pub fn accept(
     room: bool,
 ) -> Answer
     requires { ⌜ (placesLength ≤ length (now places)) × BookInRange net (placesIn (now places)) (now normal) (now right) ⌝ }
-    ensures { λ r. ⌜ r ≡ judge net (placesIn (now (places .entry))) (byRows 48 (now (normal .entry))) (at (now (right .entry))) (now (x .entry)) (now (m .entry)) room ⌝ }
+    ensures { λ r. ⌜ r ≡ judge net (placesIn (now (places .entry))) (byRows mostUnknowns (now (normal .entry))) (at (now (right .entry))) (now (x .entry)) (now (m .entry)) room ⌝ }
 {
     let stations = net.stations;
     let n = network::number_of(stations, Unit::COMPONENTS);

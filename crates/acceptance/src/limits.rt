@@ -1,8 +1,5 @@
 // Document 01's S and the limits of its tests.
 
-// S = 2^30.
-pub const SCALE: i64 = 1_073_741_824;
-
 // Test 3: |x| ≤ 100,000.
 pub const CORRECTION: u64 = 100_000;
 

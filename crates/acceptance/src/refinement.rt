@@ -8,6 +8,7 @@ ghost use lib.Dec.{leb};
 ghost use lib.IntN.{natAbs, _*ℤ_};
 ghost use Rattle.integers.specs.Sums.{sum};
 ghost use Rattle.lists.specs.All.{allBelow};
+ghost use Rattle.network.specs.Units.{mostUnknowns};
 ghost use Rattle.acceptance.specs.Tests.{at, byRows, normalResidual};
 ghost use Rattle.acceptance.specs.Loops.{ResidualRange, Residuals, RefinementRange};
 
@@ -19,7 +20,7 @@ pub fn normal_residual(
     n: usize,
 ) -> [i64; Normals::ROW]
     requires { ⌜ ResidualRange n (now normal) (now right) (now x) ⌝ }
-    ensures { λ r. ⌜ Residuals n (normalResidual n (byRows 48 (now (normal .entry))) (at (now (right .entry))) (at (now (x .entry)))) r ⌝ }
+    ensures { λ r. ⌜ Residuals n (normalResidual n (byRows mostUnknowns (now (normal .entry))) (at (now (right .entry))) (at (now (x .entry)))) r ⌝ }
 {
     let mut out = [0i64; Normals::ROW];
     let mut i: usize = 0;

@@ -8,6 +8,7 @@ use network::Unit;
 use normals::Normals;
 ghost use mathlib.Core.Path.{_≡_};
 ghost use Prim.Native.Nat.{_<_};
+ghost use Rattle.network.specs.Units.{placeCount};
 ghost use Rattle.network.specs.Places.{placesIn};
 ghost use Rattle.normals.specs.Formulas.{normalsOf};
 ghost use Rattle.bench_kernels.specs.Replays.{Replays};
@@ -68,7 +69,7 @@ fn sample_network() -> Network
 }
 
 fn sample_record(p: usize) -> Record
-    requires { ⌜ p < 256 ⌝ }
+    requires { ⌜ p < placeCount ⌝ }
     ensures { λ r. ⌜ r ≡ sampleRecord p ⌝ }
 {
     let f = p % 17 + 1;

@@ -6,13 +6,14 @@ use lib.Dec.{ltb}
 use lib.ListN.{set, replicate}
 use lib.IntN.{ℤ, pos}
 use Rattle.lists.specs.All.{allBelow}
+use Rattle.network.specs.Units.{mostUnknowns, placeCount}
 use Rattle.network.specs.Stations.{networkOf, networkFits, opens}
 use Rattle.network.specs.Records.{vacant, recordAt, isEmpty}
 use Rattle.network.specs.Rules.{recordFits}
 use Rattle.network.specs.declared.Network.{Network}
 use Rattle.network.specs.declared.Record.{Record}
 use Rattle.normals.specs.declared.Normals.{Normals}
-use Rattle.normals.specs.Formulas.{normalsOf}
+use Rattle.normals.specs.Formulas.{normalsOf, matrixLength}
 use Rattle.normals.specs.Same.{sameNormals}
 use Rattle.book.specs.declared.Reversal.{Reversal}
 use Rattle.book.specs.declared.Journal.{Journal}
@@ -28,9 +29,9 @@ abbrev pub openedBook : Network → Book
 openedBook net =
     record {
       network = net;
-      places = replicate 256 vacant;
+      places = replicate placeCount vacant;
       journal = emptyJournal;
-      normals = record { matrix = replicate 2304 (pos 0); right = replicate 48 (pos 0) };
+      normals = record { matrix = replicate matrixLength (pos 0); right = replicate mostUnknowns (pos 0) };
     }
 
 -- "A refused opening makes no book": it gives the book of no stations, which is not sound
@@ -76,10 +77,10 @@ bookNext b c = outcome b c .book
 unfoldable pub undoable : Network → (ℕ → Record) → List Reversal → Bool
 undoable net at [] = true
 undoable net at (u ∷ h) =
-    ltb (u .place) 256 && recordFits net (u .prior) && not (isEmpty (at (u .place)) && isEmpty (u .prior)) && undoable net (changed at (u .place) (u .prior)) h
+    ltb (u .place) placeCount && recordFits net (u .prior) && not (isEmpty (at (u .place)) && isEmpty (u .prior)) && undoable net (changed at (u .place) (u .prior)) h
 
 unfoldable pub recordsFit : Book → Bool
-recordsFit b = allBelow 256 (λ p. recordFits (b .network) (recordAt (b .places) p))
+recordsFit b = allBelow placeCount (λ p. recordFits (b .network) (recordAt (b .places) p))
 
 unfoldable pub sound : Book → Bool
 sound b =

@@ -7,6 +7,7 @@ use lib.Dec.{eqb}
 use lib.IntN.{ℤ}
 use Rattle.integers.specs.Tables.{tabulate}
 use Rattle.words.specs.Signed.{indexIn}
+use Rattle.network.specs.Units.{placeCount}
 use Rattle.network.specs.Records.{isEmpty}
 use Rattle.network.specs.Rules.{inList, recordNo}
 use Rattle.network.specs.declared.Network.{Network}
@@ -25,7 +26,7 @@ historySize = 64
 
 -- the place that a number of 1 to 256 names, counted from 0; 256 for any other number
 abbrev pub placeOf : ℤ → ℕ
-placeOf p = indexIn p 256
+placeOf p = indexIn p placeCount
 
 -- "Where several apply, the lowest number wins; where none does, the call is not refused": 0 is no refusal
 unfoldable pub first : ℕ → ℕ → ℕ
@@ -34,7 +35,7 @@ first (suc m) n = suc m
 
 -- "2 | add, replace, strike | place not 1 to 256"
 unfoldable pub placeNo : ℤ → ℕ
-placeNo p = cond (inList 256 p) 0 2
+placeNo p = cond (inList placeCount p) 0 2
 
 -- "7 | add / replace, strike | place filled / place empty"
 unfoldable pub filledNo : Record → ℕ
@@ -54,7 +55,7 @@ changed at p r k = cond (eqb k p) r (at k)
 
 -- the 256 places that hold them
 abbrev pub placesOf : (ℕ → Record) → List Place
-placesOf at = tabulate 256 (λ p. record { entry = at p })
+placesOf at = tabulate placeCount (λ p. record { entry = at p })
 
 -- "9 | add, replace, check | an entry of N or u … beyond ±2^62": of the records with r at place p
 unfoldable pub sizeNo : Network → (ℕ → Record) → ℕ → Record → ℕ

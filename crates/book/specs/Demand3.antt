@@ -11,6 +11,7 @@ use mathlib.Core.List.{List}
 use mathlib.Core.Logic.{_↔_}
 use lib.IntN.{ℤ, pos}
 use lib.ListN.{length, getD, take}
+use Rattle.network.specs.Units.{placeCount}
 use Rattle.network.specs.Stations.{networkOf, opens}
 use Rattle.network.specs.Records.{recordAt}
 use Rattle.network.specs.declared.Network.{Network}
@@ -42,7 +43,7 @@ pub record Demand (net : Network) (rows : List Row) (said : List ℤ) (after : �
   -- every answer, refusals with it, is the ledger's
   pub answered : said ≡ ledgerAnswers net rows
   -- the record in force at every place is the ledger's
-  pub records : (p : ℕ) → p < 256 → recordAt (left .places) p ≡ standing (ledgerAfter net rows .edits) p
+  pub records : (p : ℕ) → p < placeCount → recordAt (left .places) p ≡ standing (ledgerAfter net rows .edits) p
   -- N and u kept are those of the ledger's records, worked out afresh
   pub normals : left .normals ≡ ledgerNormals net (ledgerAfter net rows)
   -- all along the run the book's own history holds just as many edits as the ledger's count

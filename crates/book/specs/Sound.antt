@@ -11,13 +11,14 @@ use lib.ListN.{length}
 use Rattle.integers.specs.Tables.{length-tabulate}
 use Rattle.words.specs.Bools.{clash, and-left, and-right, and-both}
 use Rattle.lists.specs.All.{allBelow, all-at, all-by}
+use Rattle.network.specs.Units.{mostUnknowns, placeCount}
 use Rattle.network.specs.Stations.{networkFits}
 use Rattle.network.specs.Records.{recordAt, isEmpty}
 use Rattle.network.specs.Rules.{recordFits}
 use Rattle.network.specs.declared.Network.{Network}
 use Rattle.network.specs.declared.Place.{Place}
 use Rattle.network.specs.declared.Record.{Record}
-use Rattle.normals.specs.Formulas.{normalsOf}
+use Rattle.normals.specs.Formulas.{normalsOf, matrixLength}
 use Rattle.normals.specs.Same.{sameNormals, same-equal, equal-same}
 use Rattle.book.specs.declared.Reversal.{Reversal}
 use Rattle.book.specs.declared.Book.{Book}
@@ -30,10 +31,10 @@ use Rattle.book.specs.JournalLaws.{Tidy, fits-tidy, tidy-fits}
 
 -- true of every value: the arrays' lengths
 pub record Sized (b : Book) : Type 0 where
-  pub places : length (b .places) ≡ 256
+  pub places : length (b .places) ≡ placeCount
   pub entries : length (b .journal .entries) ≡ journalSize
-  pub matrix : length (b .normals .matrix) ≡ 2304
-  pub right : length (b .normals .right) ≡ 48
+  pub matrix : length (b .normals .matrix) ≡ matrixLength
+  pub right : length (b .normals .right) ≡ mostUnknowns
 
 pub record SoundParts (b : Book) : Type 0 where
   pub network : networkFits (b .network) ≡ true
@@ -41,20 +42,20 @@ pub record SoundParts (b : Book) : Type 0 where
   pub journal : Tidy (b .journal)
   pub undoes : undoable (b .network) (recordAt (b .places)) (reversals (b .journal)) ≡ true
   pub normals : b .normals ≡ normalsOf (b .network .stations) (b .places)
-  pub places : length (b .places) ≡ 256
+  pub places : length (b .places) ≡ placeCount
   pub entries : length (b .journal .entries) ≡ journalSize
 
 -- ════ the records
-every-record : (net : Network) (l : List Place) → length l ≡ 256 → allBelow 256 (λ p. recordFits net (recordAt l p)) ≡ true → (p : ℕ) → recordFits net (recordAt l p) ≡ true
-every-record net l e f p = go (decLt p 256)
+every-record : (net : Network) (l : List Place) → length l ≡ placeCount → allBelow placeCount (λ p. recordFits net (recordAt l p)) ≡ true → (p : ℕ) → recordFits net (recordAt l p) ≡ true
+every-record net l e f p = go (decLt p placeCount)
   where
-    go : Dec (p < 256) → recordFits net (recordAt l p) ≡ true
-    go (yes h) = all-at 256 (λ k. recordFits net (recordAt l k)) p f h
+    go : Dec (p < placeCount) → recordFits net (recordAt l p) ≡ true
+    go (yes h) = all-at placeCount (λ k. recordFits net (recordAt l k)) p f h
     go (no h) = ap (recordFits net) (record-beyond l p e (omega arith)) ∙ fits-empty net
 
 -- ════ the journal's reversals, the latest first
 pub record Undoes (net : Network) (at : ℕ → Record) (u : Reversal) (h : List Reversal) : Type 0 where
-  pub inside : u .place < 256
+  pub inside : u .place < placeCount
   pub fits : recordFits net (u .prior) ≡ true
   pub real : isEmpty (at (u .place)) && isEmpty (u .prior) ≡ false
   pub rest : undoable net (changed at (u .place) (u .prior)) h ≡ true
@@ -66,25 +67,25 @@ not-true false e = refl
 pub undoable-first : (net : Network) (at : ℕ → Record) (u : Reversal) (h : List Reversal) → undoable net at (u ∷ h) ≡ true → Undoes net at u h
 unfolding undoable
 undoable-first net at u h e =
-    let three = and-left (ltb (u .place) 256 && recordFits net (u .prior) && not (isEmpty (at (u .place)) && isEmpty (u .prior))) _ e in
-    let two = and-left (ltb (u .place) 256 && recordFits net (u .prior)) _ three in
+    let three = and-left (ltb (u .place) placeCount && recordFits net (u .prior) && not (isEmpty (at (u .place)) && isEmpty (u .prior))) _ e in
+    let two = and-left (ltb (u .place) placeCount && recordFits net (u .prior)) _ three in
     record {
-      inside = ltb-true _ _ (and-left (ltb (u .place) 256) _ two);
-      fits = and-right (ltb (u .place) 256) _ two;
-      real = not-true _ (and-right (ltb (u .place) 256 && recordFits net (u .prior)) _ three);
-      rest = and-right (ltb (u .place) 256 && recordFits net (u .prior) && not (isEmpty (at (u .place)) && isEmpty (u .prior))) _ e;
+      inside = ltb-true _ _ (and-left (ltb (u .place) placeCount) _ two);
+      fits = and-right (ltb (u .place) placeCount) _ two;
+      real = not-true _ (and-right (ltb (u .place) placeCount && recordFits net (u .prior)) _ three);
+      rest = and-right (ltb (u .place) placeCount && recordFits net (u .prior) && not (isEmpty (at (u .place)) && isEmpty (u .prior))) _ e;
     }
 
 pub first-undoable : (net : Network) (at : ℕ → Record) (u : Reversal) (h : List Reversal) → Undoes net at u h → undoable net at (u ∷ h) ≡ true
 unfolding undoable
 first-undoable net at u h o =
-    and-both _ _ (and-both _ _ (and-both _ _ (lt-ltb (u .place) 256 (o .inside)) (o .fits)) (ap not (o .real))) (o .rest)
+    and-both _ _ (and-both _ _ (and-both _ _ (lt-ltb (u .place) placeCount (o .inside)) (o .fits)) (ap not (o .real))) (o .rest)
 
 -- ════ both ways
 -- what `sound` tests, one by one
 pub record Tested (b : Book) : Type 0 where
   pub network : networkFits (b .network) ≡ true
-  pub records : allBelow 256 (λ p. recordFits (b .network) (recordAt (b .places) p)) ≡ true
+  pub records : allBelow placeCount (λ p. recordFits (b .network) (recordAt (b .places) p)) ≡ true
   pub journal : journalFits (b .journal) ≡ true
   pub undoes : undoable (b .network) (recordAt (b .places)) (reversals (b .journal)) ≡ true
   pub normals : sameNormals (b .normals) (normalsOf (b .network .stations) (b .places)) ≡ true
@@ -93,7 +94,7 @@ pub tested : (b : Book) → sound b ≡ true → Tested b
 unfolding sound recordsFit
 tested b e =
     let n = networkFits (b .network) in
-    let r = allBelow 256 (λ p. recordFits (b .network) (recordAt (b .places) p)) in
+    let r = allBelow placeCount (λ p. recordFits (b .network) (recordAt (b .places) p)) in
     let j = journalFits (b .journal) in
     let u = undoable (b .network) (recordAt (b .places)) (reversals (b .journal)) in
     let four : n && r && j && u ≡ true = and-left _ _ e in
@@ -111,7 +112,7 @@ sound-parts b z e =
       undoes = t .undoes;
       normals =
           same-equal (b .normals) (normalsOf (b .network .stations) (b .places)) (record { matrix = z .matrix; right = z .right })
-          (record { matrix = length-tabulate 2304 _; right = length-tabulate 48 _ }) (t .normals);
+          (record { matrix = length-tabulate matrixLength _; right = length-tabulate mostUnknowns _ }) (t .normals);
       places = z .places;
       entries = z .entries;
     }
@@ -121,6 +122,6 @@ unfolding sound recordsFit
 parts-sound b o =
     and-both _ _
     (and-both _ _
-    (and-both _ _ (and-both _ _ (o .network) (all-by 256 (λ p. recordFits (b .network) (recordAt (b .places) p)) (λ p h. o .records p))) (tidy-fits (b .journal) (o .journal)))
+    (and-both _ _ (and-both _ _ (o .network) (all-by placeCount (λ p. recordFits (b .network) (recordAt (b .places) p)) (λ p h. o .records p))) (tidy-fits (b .journal) (o .journal)))
     (o .undoes))
     (equal-same (b .normals) (normalsOf (b .network .stations) (b .places)) (o .normals))

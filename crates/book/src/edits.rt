@@ -9,10 +9,12 @@ use super::refusals;
 use network::Network;
 use network::Place;
 use network::Record;
+use network::Unit;
 use normals::Normals;
 ghost use mathlib.Core.Path.{_≡_};
 ghost use mathlib.Core.Bool.{true};
 ghost use Prim.Native.Nat.{_<_};
+ghost use Rattle.network.specs.Units.{placeCount};
 ghost use Rattle.network.specs.Stations.{opens};
 ghost use Rattle.network.specs.Records.{recordAt};
 ghost use Rattle.network.specs.Rules.{recordFits};
@@ -34,7 +36,7 @@ impl Book {
         let normals = Normals::blank();
         Book {
             network: net,
-            places: [vacant; 256],
+            places: [vacant; Unit::PLACES],
             journal: Journal {
                 entries: [free; Journal::SIZE],
                 next: 0,
@@ -62,7 +64,7 @@ impl Book {
     fn record_at(self, i: usize) -> Record
         ensures { λ r. ⌜ r ≡ recordAt (self .places) i ⌝ }
     {
-        if i < 256 {
+        if i < Unit::PLACES {
             let q = self.places[i];
             return q.entry;
         }
@@ -71,7 +73,7 @@ impl Book {
 
     // The one core edit: r at place i, its share of N and u in, that of what the place held out, and the journal given.
     fn put(mut self, i: usize, r: Record, journal: Journal) -> Book
-        requires { ⌜ (i < 256) × (recordFits (self .network) r ≡ true) × SoundParts self ⌝ }
+        requires { ⌜ (i < placeCount) × (recordFits (self .network) r ≡ true) × SoundParts self ⌝ }
         ensures { λ b. ⌜ b ≡ withEntry self i r journal ⌝ }
     {
         let network = self.network;
@@ -112,7 +114,7 @@ impl Book {
         ensures { λ e. ⌜ (e ≡ outcome self (Call.Edit place change)) × (sound (e .book) ≡ true) ⌝ }
     {
         let net = self.network;
-        let i = words::index_in(place, 256);
+        let i = words::index_in(place, Unit::PLACES);
         let current = self.record_at(i);
         let n = refusals::edit_no(net, place, change, current);
         let r = refusals::puts_of(change);

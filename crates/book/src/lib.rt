@@ -11,6 +11,7 @@ pub use history::slot_before;
 use network::Network;
 use network::Place;
 use network::Record;
+use network::Unit;
 use normals::Normals;
 pub use refusals::edit_no;
 pub use refusals::puts_of;
@@ -53,7 +54,7 @@ pub struct Journal {
 // Document 01's record book.
 pub struct Book {
     pub network: Network,
-    pub places: [Place; 256],
+    pub places: [Place; Unit::PLACES],
     pub journal: Journal,
     pub normals: Normals,
 }

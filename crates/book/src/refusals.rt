@@ -5,6 +5,7 @@ use network::Record;
 ghost use mathlib.Core.Path.{_≡_};
 ghost use mathlib.Core.Bool.{true};
 ghost use Prim.Native.Nat.{_≤_};
+ghost use Rattle.network.specs.Units.{mostStations};
 ghost use Rattle.network.specs.Stations.{coordinatesFit};
 ghost use Rattle.network.specs.Rules.{recordNo};
 ghost use Rattle.book.specs.Calls.{first, placeNo, filledNo, emptyNo, puts};
@@ -36,7 +37,7 @@ fn empty_no(r: Record) -> u64
 
 // Of a record that an edit gives: the number of its rules, then that of what its place holds.
 fn entry_no(net: Network, r: Record, holds: u64) -> u64
-    requires { ⌜ (net .count ≤ 32) × (coordinatesFit (net .stations) ≡ true) ⌝ }
+    requires { ⌜ (net .count ≤ mostStations) × (coordinatesFit (net .stations) ≡ true) ⌝ }
     ensures { λ n. ⌜ n ≡ first (recordNo net r) holds ⌝ }
 {
     let rules = network::record_no(net, r);
@@ -45,7 +46,7 @@ fn entry_no(net: Network, r: Record, holds: u64) -> u64
 
 // Of a change to a place that holds this.
 fn change_no(net: Network, change: Change, current: Record) -> u64
-    requires { ⌜ (net .count ≤ 32) × (coordinatesFit (net .stations) ≡ true) ⌝ }
+    requires { ⌜ (net .count ≤ mostStations) × (coordinatesFit (net .stations) ≡ true) ⌝ }
     ensures { λ n. ⌜ n ≡ changeNoOf net current change ⌝ }
 {
     let filled = filled_no(current);
@@ -59,7 +60,7 @@ fn change_no(net: Network, change: Change, current: Record) -> u64
 
 // Of an edit whose place holds this.
 pub fn edit_no(net: Network, place: i64, change: Change, current: Record) -> u64
-    requires { ⌜ (net .count ≤ 32) × (coordinatesFit (net .stations) ≡ true) ⌝ }
+    requires { ⌜ (net .count ≤ mostStations) × (coordinatesFit (net .stations) ≡ true) ⌝ }
     ensures { λ n. ⌜ n ≡ first (placeNo place) (changeNoOf net current change) ⌝ }
 {
     let n = change_no(net, change, current);

@@ -14,10 +14,12 @@ ghost use Prim.Native.Nat.{_<_, _≤_};
 ghost use lib.Dec.{ltb};
 ghost use lib.ListN.{length, getD};
 ghost use Rattle.lists.specs.All.{allBelow};
+ghost use Rattle.network.specs.Units.{mostUnknowns, placeCount};
 ghost use Rattle.network.specs.Stations.{coordinates, networkFits};
 ghost use Rattle.network.specs.Records.{recordAt, isEmpty};
 ghost use Rattle.network.specs.Rules.{recordFits};
 ghost use Rattle.network.specs.Places.{placesLength, placesIn};
+ghost use Rattle.normals.specs.Formulas.{matrixLength};
 ghost use Rattle.book.specs.Journal.{journalSize, age, free, isFree, inUse, journalFits, reversals};
 ghost use Rattle.book.specs.Book.{undoable, sound};
 ghost use Rattle.book.specs.Empties.{empties, undoableBy};
@@ -85,7 +87,7 @@ fn record_fits(net: Network, coordinate: &[i64; Unit::COMPONENTS], r: Record) ->
 
 fn records_fit(net: Network, coordinate: &[i64; Unit::COMPONENTS], places: &[i64]) -> bool
     requires { ⌜ (placesLength ≤ length (now places)) × (networkFits net ≡ true) × (now coordinate ≡ coordinates (net .stations)) ⌝ }
-    ensures { λ t. ⌜ t ≡ allBelow 256 (λ p. recordFits net (recordAt (placesIn (now (places .entry))) p)) ⌝ }
+    ensures { λ t. ⌜ t ≡ allBelow placeCount (λ p. recordFits net (recordAt (placesIn (now (places .entry))) p)) ⌝ }
 {
     let mut p = 0;
     while p < Unit::PLACES {
@@ -179,7 +181,7 @@ pub fn parts_fit(
     matrix: &[i64],
     right: &[i64],
 ) -> bool
-    requires { ⌜ (placesLength ≤ length (now places)) × (length (now matrix) ≡ 2304) × (length (now right) ≡ 48) ⌝ }
+    requires { ⌜ (placesLength ≤ length (now places)) × (length (now matrix) ≡ matrixLength) × (length (now right) ≡ mostUnknowns) ⌝ }
     ensures { λ t. ⌜ t ≡ sound (record { network = network; places = placesIn (now (places .entry)); journal = journal; normals = record { matrix = now (matrix .entry); right = now (right .entry) } }) ⌝ }
 {
     if !network::network_fits(network) {

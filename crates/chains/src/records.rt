@@ -12,6 +12,7 @@ ghost use mathlib.Core.Bool.{true, cond};
 ghost use Prim.Native.Nat.{_<_, _≤_};
 ghost use lib.Dec.{eqb};
 ghost use lib.ListN.{length};
+ghost use Rattle.network.specs.Units.{mostStations, mostComponents};
 ghost use Rattle.network.specs.Stations.{unknownIn};
 ghost use Rattle.network.specs.Records.{fromOf, toOf};
 ghost use Rattle.network.specs.Places.{placesLength, placesIn};
@@ -22,11 +23,11 @@ ghost use Rattle.chains.specs.ChainLaws.{EndsLow, EndsInRange, SameSet, 
 
 // A record's ends in one number, those of station 0 twice where it does not act.
 fn edge_of(r: Record, c: usize) -> usize
-    requires { ⌜ (fromOf r < 32) × (toOf r < 32) ⌝ }
+    requires { ⌜ (fromOf r < mostStations) × (toOf r < mostStations) ⌝ }
     ensures { λ e. ⌜ e ≡ edge c r ⌝ }
 {
     if network::acts_in(r, c) {
-        return network::from_of(r) * 32 + network::to_of(r);
+        return network::from_of(r) * Unit::STATIONS + network::to_of(r);
     }
     0
 }
@@ -49,7 +50,7 @@ fn edges_in(places: &[i64], c: usize) -> [usize; Unit::PLACES]
 
 // The set w, with station s put in where its kind holds component c.
 fn with_held(w: u32, s: usize, k: Kind, c: usize) -> u32
-    requires { ⌜ s < 32 ⌝ }
+    requires { ⌜ s < mostStations ⌝ }
     ensures { λ r. ⌜ r ≡ cond (eqb (unknownIn k c) 0) (setBit w s) w ⌝ }
 {
     if network::unknown_in(k, c) == 0 {
@@ -60,7 +61,7 @@ fn with_held(w: u32, s: usize, k: Kind, c: usize) -> u32
 
 // The first n stations, those of them that are held in component c.
 fn held_in(n: usize, stations: [Station; Unit::STATIONS], c: usize) -> u32
-    requires { ⌜ (n ≤ 32) × (c < 3) ⌝ }
+    requires { ⌜ (n ≤ mostStations) × (c < 3) ⌝ }
     ensures { λ r. ⌜ r ≡ setOf n (isHeld stations c) ⌝ }
 {
     let mut w: u32 = 0;
@@ -88,7 +89,7 @@ fn tied_in(net: Network, places: &[i64], c: usize) -> u32
 
 // Whether a station's kind holds component c, or the station s is in the set w.
 fn held_or_in(k: Kind, c: usize, w: u32, s: usize) -> bool
-    requires { ⌜ s < 32 ⌝ }
+    requires { ⌜ s < mostStations ⌝ }
     ensures { λ r. ⌜ r ≡ cond (eqb (unknownIn k c) 0) true (bit w s) ⌝ }
 {
     if network::unknown_in(k, c) == 0 {
@@ -99,7 +100,7 @@ fn held_or_in(k: Kind, c: usize, w: u32, s: usize) -> bool
 
 // The first component, by station and then E, N, U, that is neither held nor in its set; 96 where there is none.
 fn first_missing(stations: [Station; Unit::STATIONS], found: [u32; 3]) -> usize
-    ensures { λ r. ⌜ r ≡ firstFailing 96 (heldOrIn stations found) ⌝ }
+    ensures { λ r. ⌜ r ≡ firstFailing mostComponents (heldOrIn stations found) ⌝ }
 {
     let mut q: usize = 0;
     while q < Unit::COMPONENTS {
@@ -117,7 +118,7 @@ fn first_missing(stations: [Station; Unit::STATIONS], found: [u32; 3]) -> usize
 // The first component, by station and then E, N, U, that is neither held nor tied; 96 where there is none.
 pub fn first_untied(net: Network, places: &[i64]) -> usize
     requires { ⌜ (placesLength ≤ length (now places)) × EndsInRange net (placesIn (now places)) ⌝ }
-    ensures { λ r. ⌜ r ≡ firstFailing 96 (isTied net (placesIn (now (places .entry)))) ⌝ }
+    ensures { λ r. ⌜ r ≡ firstFailing mostComponents (isTied net (placesIn (now (places .entry)))) ⌝ }
 {
     let east = tied_in(net, places, 0);
     let north = tied_in(net, places, 1);

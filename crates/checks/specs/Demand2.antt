@@ -19,6 +19,7 @@ use lib.IntN.{ℤ, pos, natAbs, _-ℤ_, _*ℤ_}
 use lib.Signed.{_≤ℤ_}
 use Rattle.integers.specs.Sums.{δ}
 use Rattle.integers.specs.Inverses.{S, largest}
+use Rattle.network.specs.Units.{placeCount}
 use Rattle.network.specs.Stations.{unknown, unknownCount, coordinate}
 use Rattle.network.specs.Records.{recordAt, acts}
 use Rattle.normals.specs.Formulas.{entryN, entryU}
@@ -99,7 +100,7 @@ pub record Demand (b : Book) (x m : List ℤ) (fits : Bool) (number unknown : �
   -- "if x is the exact answer, and M is S times the exact inverse, both rounded to nearest, and tests 1 to 4 hold, then 5 to 7 hold"
   pub complete : RoundedAnswer (n b) (N b) (u b) (at x) → RoundedInverse (n b) (N b) (M b m) → FirstHold b x m fits 4 → FirstHold b x m fits 7
   -- "where M is S times the exact inverse, rounded, q is less than 3 from S times the exact residual variance": at each place, in each component in which its record acts
-  pub variances : (g : RoundedInverse (n b) (N b) (M b m)) (p : ℕ) → p < 256 → (Q : ℕ → ℕ → ℤ) (d : ℕ) → InverseWeights (recordAt (b .places) p) Q d
+  pub variances : (g : RoundedInverse (n b) (N b) (M b m)) (p : ℕ) → p < placeCount → (Q : ℕ → ℕ → ℤ) (d : ℕ) → InverseWeights (recordAt (b .places) p) Q d
       → (a : ℕ) → a < 3 → acts a (recordAt (b .places) p) ≡ true
       → natAbs (pos d *ℤ pos (g .divisor) *ℤ residualVariance (b .network .stations) m (recordAt (b .places) p) a
       -ℤ S *ℤ exactResidualVariance (b .network .stations) (recordAt (b .places) p) Q d (g .Z) (g .divisor) a) < 3 * (d * g .divisor)

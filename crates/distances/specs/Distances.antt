@@ -6,6 +6,7 @@ use mathlib.Core.List.{List}
 use lib.IntN.{ℤ, pos, negsuc, _+ℤ_, _-ℤ_, _*ℤ_}
 use lib.Signed.{leZ, ltZ}
 use Rattle.words.specs.Signed.{indexIn}
+use Rattle.network.specs.Units.{mostStations}
 use Rattle.network.specs.Rules.{endsFit}
 use Rattle.network.specs.declared.Network.{Network}
 use Rattle.network.specs.declared.Station.{Station}
@@ -50,7 +51,7 @@ agrees d from to = withinTolerance (d .distance) (d .tolerance) (squaredDistance
 
 -- the sheet's coordinates of the station with the number k, at the corrections x; specs/SheetWords.antt shows that these are the words of the sheet
 unfoldable pub mark : List Station → List ℤ → ℤ → ℕ → ℤ
-mark stations x k c = adjusted stations x (indexIn k 32 * 3 + c)
+mark stations x k c = adjusted stations x (indexIn k mostStations * 3 + c)
 
 abbrev pub agreesAt : List Station → List ℤ → CheckDistance → Bool
 agreesAt stations x d = agrees d (mark stations x (d .from)) (mark stations x (d .to))

@@ -8,14 +8,15 @@ ghost use mathlib.Core.Bool.{true};
 ghost use Prim.Native.Nat.{_<_, _≤_};
 ghost use lib.IntN.{natAbs, _+ℤ_};
 ghost use Rattle.integers.specs.Tables.{Within};
+ghost use Rattle.network.specs.Units.{mostStations, mostComponents, mostCoordinate};
 ghost use Rattle.network.specs.Rules.{endsFit};
 ghost use Rattle.residuals.specs.Ranges.{Moved};
 ghost use Rattle.distances.specs.Distances.{square, distanceInRange, agreesAt};
 ghost use Rattle.distances.specs.Coordinates.{separationIn, squaredDistanceIn};
 
 // The difference of the adjusted coordinates in component c, station t minus station f, both counted from 0.
-fn separation(coordinate: &[i64; 96], correction: &[i64; 96], f: usize, t: usize, c: usize) -> i64
-    requires { ⌜ (f < 32) × (t < 32) × (c < 3) × Within 96 500000000 (now coordinate) × Within 96 100000 (now correction) ⌝ }
+fn separation(coordinate: &[i64; Unit::COMPONENTS], correction: &[i64; Unit::COMPONENTS], f: usize, t: usize, c: usize) -> i64
+    requires { ⌜ (f < mostStations) × (t < mostStations) × (c < 3) × Within mostComponents mostCoordinate (now coordinate) × Within mostComponents 100000 (now correction) ⌝ }
     ensures { λ r. ⌜ (r ≡ separationIn (now (coordinate .entry)) (now (correction .entry)) f t c) × (natAbs r ≤ 1000200000) ⌝ }
 {
     let a = residuals::adjusted(coordinate, correction, t * 3 + c);
@@ -33,13 +34,13 @@ fn sum_of_squares(e: i64, n: i64, u: i64) -> i64
 
 // The squared distance between the stations f and t, the U difference taken plus `rise`.
 fn squared_distance(
-    coordinate: &[i64; 96],
-    correction: &[i64; 96],
+    coordinate: &[i64; Unit::COMPONENTS],
+    correction: &[i64; Unit::COMPONENTS],
     f: usize,
     t: usize,
     rise: i64,
 ) -> i64
-    requires { ⌜ (f < 32) × (t < 32) × (natAbs rise ≤ 600000) × Within 96 500000000 (now coordinate) × Within 96 100000 (now correction) ⌝ }
+    requires { ⌜ (f < mostStations) × (t < mostStations) × (natAbs rise ≤ 600000) × Within mostComponents mostCoordinate (now coordinate) × Within mostComponents 100000 (now correction) ⌝ }
     ensures { λ r. ⌜ r ≡ squaredDistanceIn (now (coordinate .entry)) (now (correction .entry)) f t rise ⌝ }
 {
     let e = separation(coordinate, correction, f, t, 0);

@@ -1,4 +1,5 @@
 -- Document 01: "The engine's proposal is not fixed: it is a pair the check accepts, or no proposal". Assumes nothing.
+use Prim.Native.Nat.{ℕ}
 use mathlib.Core.Path.{_≡_}
 use mathlib.Core.List.{List}
 use lib.IntN.{ℤ}
@@ -12,3 +13,7 @@ use Rattle.engine.specs.declared.Proposal.the-variants.{Made, Nothing}
 abbrev pub Proposed : Proposal → Answer → List ℤ → List ℤ → List ℤ → List ℤ → Type 0
 Proposed Made checked x m x′ m′ = checked ≡ Accepted
 Proposed Nothing checked x m x′ m′ = (x′ ≡ x) × (m′ ≡ m)
+
+-- the f64 work slice holds the inverse and N
+abbrev pub workLength : ℕ
+workLength = 4608

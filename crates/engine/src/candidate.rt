@@ -1,7 +1,10 @@
 // A candidate: corrections and an inverse worked out in f64 from the normal equations, which the check has yet to judge.
 ghost use Prim.Native.Nat.{_≤_};
 ghost use lib.ListN.{length};
+ghost use Rattle.network.specs.Units.{mostUnknowns};
+ghost use Rattle.normals.specs.Formulas.{matrixLength};
 ghost use Rattle.layout.specs.Layout.{bookBytes};
+ghost use Rattle.engine.specs.Proposals.{workLength};
 use super::inverse::invert;
 use super::rounding::load;
 use super::rounding::store;
@@ -12,7 +15,7 @@ use normals::Normals;
 // The corrections to the first n places of x, from the u of the book that the bytes hold.
 fn corrections(s: &[u8], work: &[f64], n: usize, x: &mut [i64])
     requires { ⌜ bookBytes ≤ length (now s) ⌝ }
-    requires { ⌜ (4608 ≤ length (now work)) × (n ≤ 48) × (48 ≤ length (now x)) ⌝ }
+    requires { ⌜ (workLength ≤ length (now work)) × (n ≤ mostUnknowns) × (mostUnknowns ≤ length (now x)) ⌝ }
 {
     let right = layout::right_in(s);
     let mut u = [0.0; Normals::ROW];
@@ -25,7 +28,7 @@ fn corrections(s: &[u8], work: &[f64], n: usize, x: &mut [i64])
 // The corrections to the first n places of x and the inverse to the first n·n of m; false where the book's N is not positive definite in f64.
 pub(crate) fn candidate(s: &[u8], n: usize, x: &mut [i64], m: &mut [i64], work: &mut [f64]) -> bool
     requires { ⌜ bookBytes ≤ length (now s) ⌝ }
-    requires { ⌜ (48 ≤ length (now x)) × ((2304 ≤ length (now m)) × ((4608 ≤ length (now work)) × (n ≤ 48))) ⌝ }
+    requires { ⌜ (mostUnknowns ≤ length (now x)) × ((matrixLength ≤ length (now m)) × ((workLength ≤ length (now work)) × (n ≤ mostUnknowns))) ⌝ }
 {
     let matrix = layout::matrix_in(s);
     load(&matrix, work, 0, Normals::ENTRIES);

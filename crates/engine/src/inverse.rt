@@ -2,32 +2,35 @@
 // entries apart; n rows and columns count. Until `complete`, only the entries on and below the diagonal are read and written.
 //
 // No contract here speaks of rounding: the check decides over every proposal, so only indices and lengths matter.
+use normals::Normals;
 ghost use Prim.Native.Nat.{_≤_, _<_};
 ghost use lib.ListN.{length};
+ghost use Rattle.network.specs.Units.{mostUnknowns};
+ghost use Rattle.normals.specs.Formulas.{matrixLength};
 
 // Entry (i, k) of the symmetric matrix.
 fn entry(a: &[f64], i: usize, k: usize) -> f64
-    requires { ⌜ (2304 ≤ length (now a)) × ((i < 48) × (k < 48)) ⌝ }
+    requires { ⌜ (matrixLength ≤ length (now a)) × ((i < mostUnknowns) × (k < mostUnknowns)) ⌝ }
 {
     if i < k {
-        return a[k * 48 + i];
+        return a[k * Normals::ROW + i];
     }
-    a[i * 48 + k]
+    a[i * Normals::ROW + k]
 }
 
 fn put_entry(a: &mut [f64], i: usize, k: usize, v: f64)
-    requires { ⌜ (2304 ≤ length (now a)) × ((i < 48) × (k < 48)) ⌝ }
+    requires { ⌜ (matrixLength ≤ length (now a)) × ((i < mostUnknowns) × (k < mostUnknowns)) ⌝ }
 {
     if i < k {
-        a[k * 48 + i] = v;
+        a[k * Normals::ROW + i] = v;
         return;
     }
-    a[i * 48 + k] = v;
+    a[i * Normals::ROW + k] = v;
 }
 
 // Column k of the symmetric matrix into `column`.
 fn take_column(a: &[f64], k: usize, n: usize, column: &mut [f64])
-    requires { ⌜ (2304 ≤ length (now a)) × ((k < 48) × ((n ≤ 48) × (48 ≤ length (now column)))) ⌝ }
+    requires { ⌜ (matrixLength ≤ length (now a)) × ((k < mostUnknowns) × ((n ≤ mostUnknowns) × (mostUnknowns ≤ length (now column)))) ⌝ }
 {
     let mut i: usize = 0;
     while i < n {
@@ -38,18 +41,18 @@ fn take_column(a: &[f64], k: usize, n: usize, column: &mut [f64])
 
 // Row i, up to the diagonal, less `factor` times the pivot's column.
 fn subtract(a: &mut [f64], i: usize, factor: f64, column: &[f64])
-    requires { ⌜ (2304 ≤ length (now a)) × ((i < 48) × (48 ≤ length (now column))) ⌝ }
+    requires { ⌜ (matrixLength ≤ length (now a)) × ((i < mostUnknowns) × (mostUnknowns ≤ length (now column))) ⌝ }
 {
     let mut j: usize = 0;
     while j <= i {
-        a[i * 48 + j] = a[i * 48 + j] - factor * column[j];
+        a[i * Normals::ROW + j] = a[i * Normals::ROW + j] - factor * column[j];
         j += 1;
     }
 }
 
 // Every row less its share of the pivot's row. `q` is one over the pivot.
 fn eliminate(a: &mut [f64], column: &[f64], q: f64, n: usize)
-    requires { ⌜ (2304 ≤ length (now a)) × ((48 ≤ length (now column)) × (n ≤ 48)) ⌝ }
+    requires { ⌜ (matrixLength ≤ length (now a)) × ((mostUnknowns ≤ length (now column)) × (n ≤ mostUnknowns)) ⌝ }
 {
     let mut i: usize = 0;
     while i < n {
@@ -60,7 +63,7 @@ fn eliminate(a: &mut [f64], column: &[f64], q: f64, n: usize)
 
 // The pivot's own row and column, over the pivot.
 fn put_column(a: &mut [f64], column: &[f64], q: f64, k: usize, n: usize)
-    requires { ⌜ (2304 ≤ length (now a)) × ((48 ≤ length (now column)) × ((k < 48) × (n ≤ 48))) ⌝ }
+    requires { ⌜ (matrixLength ≤ length (now a)) × ((mostUnknowns ≤ length (now column)) × ((k < mostUnknowns) × (n ≤ mostUnknowns))) ⌝ }
 {
     let mut i: usize = 0;
     while i < n {
@@ -71,16 +74,16 @@ fn put_column(a: &mut [f64], column: &[f64], q: f64, k: usize, n: usize)
 
 // One step; false where the pivot is not positive. The signs are such that the matrix stays symmetric.
 fn step(a: &mut [f64], k: usize, n: usize) -> bool
-    requires { ⌜ (2304 ≤ length (now a)) × ((k < 48) × (n ≤ 48)) ⌝ }
+    requires { ⌜ (matrixLength ≤ length (now a)) × ((k < mostUnknowns) × (n ≤ mostUnknowns)) ⌝ }
 {
-    let pivot = a[k * 48 + k];
+    let pivot = a[k * Normals::ROW + k];
     if pivot > 0.0 {
         let q = 1.0 / pivot;
-        let mut column = [0.0; 48];
+        let mut column = [0.0; Normals::ROW];
         take_column(a, k, n, &mut column);
         eliminate(a, &column, q, n);
         put_column(a, &column, q, k, n);
-        a[k * 48 + k] = -q;
+        a[k * Normals::ROW + k] = -q;
         return true;
     }
     false
@@ -88,7 +91,7 @@ fn step(a: &mut [f64], k: usize, n: usize) -> bool
 
 // All n steps, which leave minus the inverse on and below the diagonal; false where a pivot is not positive.
 fn sweep(a: &mut [f64], n: usize) -> bool
-    requires { ⌜ (2304 ≤ length (now a)) × (n ≤ 48) ⌝ }
+    requires { ⌜ (matrixLength ≤ length (now a)) × (n ≤ mostUnknowns) ⌝ }
 {
     let mut k: usize = 0;
     while k < n {
@@ -102,19 +105,19 @@ fn sweep(a: &mut [f64], n: usize) -> bool
 
 // Row i up to the diagonal with the other sign, and its mirror image above the diagonal.
 fn complete_row(a: &mut [f64], i: usize)
-    requires { ⌜ (2304 ≤ length (now a)) × (i < 48) ⌝ }
+    requires { ⌜ (matrixLength ≤ length (now a)) × (i < mostUnknowns) ⌝ }
 {
     let mut j: usize = 0;
     while j <= i {
-        let v = -a[i * 48 + j];
-        a[i * 48 + j] = v;
-        a[j * 48 + i] = v;
+        let v = -a[i * Normals::ROW + j];
+        a[i * Normals::ROW + j] = v;
+        a[j * Normals::ROW + i] = v;
         j += 1;
     }
 }
 
 fn complete(a: &mut [f64], n: usize)
-    requires { ⌜ (2304 ≤ length (now a)) × (n ≤ 48) ⌝ }
+    requires { ⌜ (matrixLength ≤ length (now a)) × (n ≤ mostUnknowns) ⌝ }
 {
     let mut i: usize = 0;
     while i < n {
@@ -125,7 +128,7 @@ fn complete(a: &mut [f64], n: usize)
 
 // The inverse in place; false where a pivot is not positive, as of a singular matrix.
 pub(crate) fn invert(a: &mut [f64], n: usize) -> bool
-    requires { ⌜ (2304 ≤ length (now a)) × (n ≤ 48) ⌝ }
+    requires { ⌜ (matrixLength ≤ length (now a)) × (n ≤ mostUnknowns) ⌝ }
 {
     if sweep(a, n) {
         complete(a, n);

@@ -15,11 +15,13 @@ ghost use mathlib.Core.Path.{_≡_};
 ghost use mathlib.Core.Bool.{true};
 ghost use Prim.Native.Nat.{_*_, _≤_, _<_};
 ghost use lib.ListN.{length, take};
+ghost use Rattle.network.specs.Units.{mostUnknowns};
+ghost use Rattle.normals.specs.Formulas.{matrixLength};
 ghost use Rattle.acceptance.specs.declared.Answer.the-variants.{Accepted};
 ghost use Rattle.book.specs.Book.{sound};
 ghost use Rattle.layout.specs.Bytes.{bookOf, bytesFit};
 ghost use Rattle.checks.specs.Checks.{checked};
-ghost use Rattle.engine.specs.Proposals.{Proposed};
+ghost use Rattle.engine.specs.Proposals.{Proposed, workLength};
 
 // The answer to a call for a proposal; specs/Proposals says what each case promises.
 pub enum Proposal {
@@ -30,12 +32,12 @@ pub enum Proposal {
 }
 
 // The length of work slice that a proposal needs: the inverse and N, each 48 by 48.
-pub const WORK: usize = 4608;
+pub const WORK: usize = 2 * Normals::ENTRIES;
 
 // The entries of an n×n matrix.
 fn square(n: usize) -> usize
-    requires { ⌜ n ≤ 48 ⌝ }
-    ensures { λ r. ⌜ (r ≡ n * n) × (r ≤ 2304) ⌝ }
+    requires { ⌜ n ≤ mostUnknowns ⌝ }
+    ensures { λ r. ⌜ (r ≡ n * n) × (r ≤ matrixLength) ⌝ }
 {
     n * n
 }
@@ -43,7 +45,7 @@ fn square(n: usize) -> usize
 // Works a pair out in the lent room, and has the check judge its first n and n·n numbers: true where they are accepted. What the room holds is free but for that.
 pub fn work_out(s: &[u8], n: usize, x: &mut [i64], m: &mut [i64], work: &mut [f64]) -> bool
     requires { ⌜ bytesFit (now s) ≡ true ⌝ }
-    requires { ⌜ (n ≤ 48) × (48 ≤ length (now x)) × (2304 ≤ length (now m)) × (4608 ≤ length (now work)) ⌝ }
+    requires { ⌜ (n ≤ mostUnknowns) × (mostUnknowns ≤ length (now x)) × (matrixLength ≤ length (now m)) × (workLength ≤ length (now work)) ⌝ }
     ensures { λ r. ⌜ (r ≡ true → checked (bookOf (now (s .entry))) (take n (now (x .exit))) (take (n * n) (now (m .exit))) true ≡ Accepted) ⌝ }
 {
     if !candidate::candidate(s, n, x, m, work) {
@@ -60,7 +62,7 @@ pub fn work_out(s: &[u8], n: usize, x: &mut [i64], m: &mut [i64], work: &mut [f6
 // A proposal where the lent lengths fit: a pair worked out beside x and m, and copied to them where it is accepted.
 fn propose_beside(s: &[u8], n: usize, x: &mut [i64], m: &mut [i64], work: &mut [f64]) -> Proposal
     requires { ⌜ bytesFit (now s) ≡ true ⌝ }
-    requires { ⌜ (n ≤ 48) × (length (now x) ≡ n) × (length (now m) ≡ n * n) × (4608 ≤ length (now work)) ⌝ }
+    requires { ⌜ (n ≤ mostUnknowns) × (length (now x) ≡ n) × (length (now m) ≡ n * n) × (workLength ≤ length (now work)) ⌝ }
     ensures { λ r. ⌜ Proposed r (checked (bookOf (now (s .entry))) (now (x .exit)) (now (m .exit)) true) (now (x .entry)) (now (m .entry)) (now (x .exit)) (now (m .exit)) ⌝ }
 {
     let entries = m.len();
@@ -79,7 +81,7 @@ fn propose_beside(s: &[u8], n: usize, x: &mut [i64], m: &mut [i64], work: &mut [
 pub fn propose_in(s: &[u8], x: &mut [i64], m: &mut [i64], work: &mut [f64]) -> Proposal
     requires { ⌜ bytesFit (now s) ≡ true ⌝ }
     ensures { λ r. ⌜ Proposed r (checked (bookOf (now (s .entry))) (now (x .exit)) (now (m .exit)) true) (now (x .entry)) (now (m .entry)) (now (x .exit)) (now (m .exit)) ⌝ }
-    ensures short { λ r. ⌜ (length (now (work .entry)) < 4608 → r ≡ Proposal.Nothing) ⌝ }
+    ensures short { λ r. ⌜ (length (now (work .entry)) < workLength → r ≡ Proposal.Nothing) ⌝ }
 {
     let network = layout::network_in(s);
     let stations = network.stations;
@@ -100,7 +102,7 @@ pub fn propose_in(s: &[u8], x: &mut [i64], m: &mut [i64], work: &mut [f64]) -> P
 pub fn propose(book: Book, x: &mut [i64], m: &mut [i64], work: &mut [f64]) -> Proposal
     requires { ⌜ sound book ≡ true ⌝ }
     ensures { λ r. ⌜ Proposed r (checked book (now (x .exit)) (now (m .exit)) true) (now (x .entry)) (now (m .entry)) (now (x .exit)) (now (m .exit)) ⌝ }
-    ensures short { λ r. ⌜ (length (now (work .entry)) < 4608 → r ≡ Proposal.Nothing) ⌝ }
+    ensures short { λ r. ⌜ (length (now (work .entry)) < workLength → r ≡ Proposal.Nothing) ⌝ }
 {
     let s = layout::book_bytes(book);
     propose_in(&s, x, m, work)

@@ -1,6 +1,9 @@
 // Between whole numbers and f64. The check decides over every proposal, so a number out of range may become any other.
+use normals::Normals;
 ghost use Prim.Native.Nat.{_+_, _≤_};
 ghost use lib.ListN.{length};
+ghost use Rattle.network.specs.Units.{mostUnknowns};
+ghost use Rattle.normals.specs.Formulas.{matrixLength};
 
 // The whole number nearest to v, for |v| below 2^35. The shift by 2^36 makes every such number positive; a number that is then out of range,
 // and one that is no number, gives 0.
@@ -41,12 +44,12 @@ pub(crate) fn store(list: &[f64], from: usize, scale: f64, out: &mut [i64], to: 
 
 // n rows of n out of rows of 48, times 2^30 (document 01's S) and rounded to nearest.
 pub(crate) fn store_rows(a: &[f64], m: &mut [i64], n: usize)
-    requires { ⌜ (2304 ≤ length (now a)) × ((2304 ≤ length (now m)) × (n ≤ 48)) ⌝ }
+    requires { ⌜ (matrixLength ≤ length (now a)) × ((matrixLength ≤ length (now m)) × (n ≤ mostUnknowns)) ⌝ }
 {
     let mut to: usize = 0;
     let mut i: usize = 0;
     while i < n {
-        store(a, i * 48, 1073741824.0, m, to, n);
+        store(a, i * Normals::ROW, 1073741824.0, m, to, n);
         to += n;
         i += 1;
     }

@@ -8,6 +8,7 @@ use lib.ListN.{length, getD}
 use lib.IntN.{ℤ, pos}
 use Rattle.integers.specs.Tables.{tabulate, is-tabulate}
 use Rattle.lists.specs.Pasted.{pasted, pasted-before, pasted-within}
+use Rattle.network.specs.Units.{placeCount}
 use Rattle.network.specs.Records.{recordAt, vacant}
 use Rattle.network.specs.RecordWords.{recordLength, recordWords, recordIn}
 use Rattle.network.specs.RecordWordLaws.{length-record, record-moved, record-back}
@@ -28,13 +29,13 @@ module _ (places : List Place) (w : List ℤ) where
   lent-none e = record { long = e; reads = λ p h. absurd (omega arith) }
 
   -- the record at place n, stored behind those before it
-  pub lent-more : (n : ℕ) (r : Record) (v : List ℤ) → n < 256 → r ≡ recordAt places n → v ≡ pasted w (n * recordLength) (recordWords r) → length v ≡ length w → Lent places n w → Lent places (n + 1) v
+  pub lent-more : (n : ℕ) (r : Record) (v : List ℤ) → n < placeCount → r ≡ recordAt places n → v ≡ pasted w (n * recordLength) (recordWords r) → length v ≡ length w → Lent places n w → Lent places (n + 1) v
   lent-more n r v h e q k o = record { long = k ∙ o .long; reads = λ p l. at p l (ℕ-discrete p n) }
     where
       at : (p : ℕ) → p < n + 1 → Dec (p ≡ n) → recordIn v (p * recordLength) ≡ recordAt places p
       at p l (yes i) = rw (i, q) (record-back (pasted w (n * recordLength) (recordWords r)) (n * recordLength) r (λ j m. pasted-within (recordWords r) w (n * recordLength) j (rw (length-record r) m) (rw (length-record r, o .long) (omega arith))) ∙ e)
       at p l (no i) = rw q (record-moved (pasted w (n * recordLength) (recordWords r)) w (p * recordLength) (p * recordLength) (λ j m. pasted-before (recordWords r) w (n * recordLength) (p * recordLength + j) (omega (arith, i))) ∙ o .reads p (omega (arith, i)))
 
-  pub lent-all : (n : ℕ) → 256 ≤ n → length places ≡ 256 → Lent places n w → placesIn w ≡ places
+  pub lent-all : (n : ℕ) → placeCount ≤ n → length places ≡ placeCount → Lent places n w → placesIn w ≡ places
   unfolding placesIn
-  lent-all n h e o = sym (is-tabulate 256 (λ p. placed (recordIn w (p * recordLength))) places vacant e (λ p l. ap placed (sym (o .reads p (omega arith)))))
+  lent-all n h e o = sym (is-tabulate placeCount (λ p. placed (recordIn w (p * recordLength))) places vacant e (λ p l. ap placed (sym (o .reads p (omega arith)))))

@@ -5,22 +5,23 @@ use mathlib.Core.List.{List}
 use lib.ListN.{length, getD}
 use lib.IntN.{ℤ, pos}
 use Rattle.integers.specs.Tables.{tabulate, getD-tabulate, length-tabulate}
+use Rattle.network.specs.Units.{placeCount}
 use Rattle.network.specs.Records.{recordAt, vacant}
 use Rattle.network.specs.RecordWords.{recordLength, recordIn}
 use Rattle.network.specs.declared.Place.{Place}
 
 -- the length in words of all places
 abbrev pub placesLength : ℕ
-placesLength = 256 * recordLength
+placesLength = placeCount * recordLength
 
 -- the places that words give, for any words
 unfoldable pub placesIn : List ℤ → List Place
-placesIn w = tabulate 256 (λ p. record { entry = recordIn w (p * recordLength) })
+placesIn w = tabulate placeCount (λ p. record { entry = recordIn w (p * recordLength) })
 
-pub record-in-place : (w : List ℤ) (p : ℕ) → p < 256 → recordAt (placesIn w) p ≡ recordIn w (p * recordLength)
+pub record-in-place : (w : List ℤ) (p : ℕ) → p < placeCount → recordAt (placesIn w) p ≡ recordIn w (p * recordLength)
 unfolding placesIn
-record-in-place w p h = ap (λ (x : Place). x .entry) (getD-tabulate 256 (λ p. record { entry = recordIn w (p * recordLength) }) p vacant h)
+record-in-place w p h = ap (λ (x : Place). x .entry) (getD-tabulate placeCount (λ p. record { entry = recordIn w (p * recordLength) }) p vacant h)
 
-pub length-places : (w : List ℤ) → length (placesIn w) ≡ 256
+pub length-places : (w : List ℤ) → length (placesIn w) ≡ placeCount
 unfolding placesIn
-length-places w = length-tabulate 256 _
+length-places w = length-tabulate placeCount _

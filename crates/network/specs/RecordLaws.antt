@@ -9,6 +9,7 @@ use lib.ListN.{getD}
 use lib.IntN.{ℤ, pos, natAbs, _-ℤ_}
 use Rattle.integers.specs.Bounds.{bounds, absle}
 use Rattle.integers.specs.Tables.{Within}
+use Rattle.network.specs.Units.{mostStations, mostComponents, mostCoordinate, mostObserved}
 use Rattle.network.specs.declared.Record.{Record}
 use Rattle.network.specs.declared.Record.the-variants.{Empty, Baseline as baseline, Height as height}
 use Rattle.lists.specs.Sizes.{small-at}
@@ -23,12 +24,12 @@ observations-few (height h) = lit≤ tt
 
 -- a record whose ends are stations and whose observed values are in range, over provisional coordinates in range
 pub record Observed (coordinate : List ℤ) (r : Record) : Type 0 where
-  pub from : fromOf r < 32
-  pub to : toOf r < 32
-  pub values : (a : ℕ) → natAbs (getD (observed r) a (pos 0)) ≤ 1000000000
-  pub provisional : Within 96 500000000 coordinate
+  pub from : fromOf r < mostStations
+  pub to : toOf r < mostStations
+  pub values : (a : ℕ) → natAbs (getD (observed r) a (pos 0)) ≤ mostObserved
+  pub provisional : Within mostComponents mostCoordinate coordinate
 
-misclosure-size : (c : List ℤ) (f t a : ℕ) (o : ℤ) → natAbs o ≤ 1000000000 → Within 96 500000000 c → natAbs (misclosureAt c f t a o) ≤ 2000000000
+misclosure-size : (c : List ℤ) (f t a : ℕ) (o : ℤ) → natAbs o ≤ mostObserved → Within mostComponents mostCoordinate c → natAbs (misclosureAt c f t a o) ≤ 2000000000
 unfolding misclosureAt
 misclosure-size c f t a o h w =
     let x = w .bound (t * 3 + a) in

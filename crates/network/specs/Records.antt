@@ -9,6 +9,7 @@ use lib.IntN.{ℤ, pos, natAbs, _-ℤ_}
 use Rattle.words.specs.Signed.{indexIn}
 use Rattle.weights.specs.Rules.{matrixRows}
 use Rattle.weights.specs.declared.WeightMatrix.{WeightMatrix}
+use Rattle.network.specs.Units.{mostStations}
 use Rattle.network.specs.Stations.{coordinates}
 use Rattle.network.specs.declared.Station.{Station}
 use Rattle.network.specs.declared.Baseline.{Baseline}
@@ -69,13 +70,13 @@ isEmpty r = eqb (observations r) 0
 -- ════ the stations a record joins, counted from 0; 32 where the number is none of 1 to 32
 unfoldable pub fromOf : Record → ℕ
 fromOf Empty = 0
-fromOf (baseline b) = indexIn (b .from) 32
-fromOf (height h) = indexIn (h .from) 32
+fromOf (baseline b) = indexIn (b .from) mostStations
+fromOf (height h) = indexIn (h .from) mostStations
 
 unfoldable pub toOf : Record → ℕ
 toOf Empty = 0
-toOf (baseline b) = indexIn (b .to) 32
-toOf (height h) = indexIn (h .to) 32
+toOf (baseline b) = indexIn (b .to) mostStations
+toOf (height h) = indexIn (h .to) mostStations
 
 -- 1 where the record has a from end, so that A has −1 there: a baseline and a height difference have one, an empty place has none
 unfoldable pub joins : Record → ℤ

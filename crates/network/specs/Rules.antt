@@ -9,6 +9,7 @@ use lib.Signed.{leZ}
 use Rattle.words.specs.Signed.{eqZ}
 use Rattle.lists.specs.All.{allBelow}
 use Rattle.weights.specs.Rules.{weightFits, weightsInRange, matrixFits}
+use Rattle.network.specs.Units.{mostObserved, mostMisclosure}
 use Rattle.network.specs.Stations.{coordinates}
 use Rattle.network.specs.Records.{weightMatrixOf, misclosures, isEmpty}
 use Rattle.network.specs.declared.Network.{Network}
@@ -27,7 +28,7 @@ endsFit count from to = inList count from && inList count to && not (eqZ from to
 -- ════ 4: "observed component or a weight out of range"
 -- "Each observed component lies within ±1,000,000,000"
 abbrev pub observedFits : ℤ → Bool
-observedFits v = leb (natAbs v) 1000000000
+observedFits v = leb (natAbs v) mostObserved
 
 -- "Diagonal and single weights 1 to 10,000; off-diagonals within ±10,000": `weightFits` and `weightsInRange`, in crate weights
 unfoldable pub baselineInRange : Baseline → Bool
@@ -41,7 +42,7 @@ heightInRange h = observedFits (h .up) && weightFits (h .weight)
 
 -- ════ 6: "misclosure too large": "each component within ±100,000". A component that is not observed has the misclosure 0. c holds the provisional coordinates
 unfoldable pub misclosureFits : List ℤ → Record → Bool
-misclosureFits c r = allBelow 3 (λ a. leb (natAbs (getD (misclosures c r) a (pos 0))) 100000)
+misclosureFits c r = allBelow 3 (λ a. leb (natAbs (getD (misclosures c r) a (pos 0))) mostMisclosure)
 
 -- ════ the number, by the count of stations and their provisional coordinates. An Empty record has no ends in the list
 unfoldable pub recordNoOver : ℕ → List ℤ → Record → ℕ

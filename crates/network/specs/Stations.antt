@@ -11,6 +11,7 @@ use Rattle.integers.specs.Sums.{sumN}
 use Rattle.integers.specs.Tables.{tabulate}
 use Rattle.words.specs.Signed.{indexIn, eqZ}
 use Rattle.lists.specs.All.{allBelow}
+use Rattle.network.specs.Units.{mostStations, mostComponents, mostUnknowns, mostCoordinate}
 use Rattle.network.specs.declared.Kind.{Kind}
 use Rattle.network.specs.declared.Kind.the-variants.{Known, Free, Height}
 use Rattle.network.specs.declared.Station.{Station}
@@ -41,16 +42,16 @@ number stations q = sumN q (unknown stations)
 
 -- how many unknowns there are
 abbrev pub unknownCount : List Station → ℕ
-unknownCount stations = number stations 96
+unknownCount stations = number stations mostComponents
 
 -- its inverse: the component whose number is i, the first of those from q on; 96 where there is none
 unfoldable pub componentFrom : List Station → ℕ → ℕ → ℕ → ℕ
-componentFrom stations i q zero = 96
+componentFrom stations i q zero = mostComponents
 componentFrom stations i q (suc left) =
     cond (eqb (unknown stations q) 1 && eqb (number stations q) i) q (componentFrom stations i (suc q) left)
 
 abbrev pub componentOf : List Station → ℕ → ℕ
-componentOf stations i = componentFrom stations i 0 96
+componentOf stations i = componentFrom stations i 0 mostComponents
 
 -- the number of component q, and 0 for a held one
 unfoldable pub unknownIndex : List Station → ℕ → ℕ
@@ -58,10 +59,10 @@ unknownIndex stations q = unknown stations q * number stations q
 
 -- the tables over the components: 1 at each unknown one and 0 at each held one; the number of each unknown, and 0 at a held one
 abbrev pub unknownTable : List Station → List ℤ
-unknownTable stations = tabulate 96 (λ q. pos (unknown stations q))
+unknownTable stations = tabulate mostComponents (λ q. pos (unknown stations q))
 
 abbrev pub indexTable : List Station → List ℕ
-indexTable stations = tabulate 96 (unknownIndex stations)
+indexTable stations = tabulate mostComponents (unknownIndex stations)
 
 -- ════ provisional coordinates
 unfoldable pub coordinateIn : Station → ℕ → ℤ
@@ -71,7 +72,7 @@ unfoldable pub coordinate : List Station → ℕ → ℤ
 coordinate stations q = coordinateIn (stationAt stations (q / 3)) (q % 3)
 
 abbrev pub coordinates : List Station → List ℤ
-coordinates stations = tabulate 96 (coordinate stations)
+coordinates stations = tabulate mostComponents (coordinate stations)
 
 -- ════ a list of numbers, four a station: kind, E, N, U
 -- kinds in numbers: 1 known, 2 free, 3 height
@@ -98,20 +99,20 @@ stationIn list s =
 
 -- the network that a list gives. What lies beyond its last number is read as 0, so the stations beyond its last are blank
 unfoldable pub networkOf : List ℤ → Network
-networkOf list = record { count = length list / 4; stations = tabulate 32 (stationIn list) }
+networkOf list = record { count = length list / 4; stations = tabulate mostStations (stationIn list) }
 
 -- ════ the rules
 -- "A lent list of 1 to 32 stations"
 abbrev pub countFits : ℕ → Bool
-countFits n = leb 1 n && leb n 32
+countFits n = leb 1 n && leb n mostStations
 
 -- "Provisional coordinates lie within ±500,000,000"
 unfoldable pub coordinatesFit : List Station → Bool
-coordinatesFit stations = allBelow 96 (λ q. leb (natAbs (coordinate stations q)) 500000000)
+coordinatesFit stations = allBelow mostComponents (λ q. leb (natAbs (coordinate stations q)) mostCoordinate)
 
 -- "Unknowns …: 1 to 48 of them"
 unfoldable pub unknownsFit : List Station → Bool
-unknownsFit stations = leb 1 (unknownCount stations) && leb (unknownCount stations) 48
+unknownsFit stations = leb 1 (unknownCount stations) && leb (unknownCount stations) mostUnknowns
 
 -- a list has four numbers a station, and a right kind at each
 unfoldable pub kindsFit : List ℤ → Bool
@@ -139,7 +140,7 @@ unfoldable pub isBlank : Station → Bool
 isBlank s = isKnown (s .kind) && eqZ (s .east) (pos 0) && eqZ (s .north) (pos 0) && eqZ (s .up) (pos 0)
 
 unfoldable pub blankBeyond : Network → Bool
-blankBeyond net = allBelow 32 (λ s. ltb s (net .count) || isBlank (stationAt (net .stations) s))
+blankBeyond net = allBelow mostStations (λ s. ltb s (net .count) || isBlank (stationAt (net .stations) s))
 
 unfoldable pub networkFits : Network → Bool
 networkFits net = countFits (net .count) && blankBeyond net && coordinatesFit (net .stations) && unknownsFit (net .stations)

@@ -1,10 +1,34 @@
--- The scale of weights: "Weight 1 means a standard deviation of 10 mm (1,000 units); 1 mm is weight 100" (document 01, "Units and stations"). A weight w is a standard deviation of
+-- The unit's constants: how many there are at most, how large they may be, and the scale of weights: "Weight 1 means a standard deviation of 10 mm (1,000 units); 1 mm is weight 100" (document 01, "Units and stations"). A weight w is a standard deviation of
 -- 1,000/√w units: w times its square is 1,000². Assumes nothing.
 use Prim.Native.Nat.{ℕ, _+_, _*_, _/_, _^_, _<_, _≤_}
 use mathlib.Core.Path.{_≡_, refl}
 use native.Mathlib.Nat.{mul-le-mul, div-eq-of-lt, div-eq-of-lt-le, div-le-self}
 use native.Mathlib.Omega.{arith}
 
+-- ════ how many: "A lent list of 1 to 32 stations", E, N and U of each; "Unknowns …: 1 to 48 of them"; "256 places, numbered 1 to 256"
+abbrev pub mostStations : ℕ
+mostStations = 32
+
+abbrev pub mostComponents : ℕ
+mostComponents = 96
+
+abbrev pub mostUnknowns : ℕ
+mostUnknowns = 48
+
+abbrev pub placeCount : ℕ
+placeCount = 256
+
+-- ════ how large: "Provisional coordinates lie within ±500,000,000"; "Each observed component lies within ±1,000,000,000"; "Misclosure …, each component within ±100,000"
+abbrev pub mostCoordinate : ℕ
+mostCoordinate = 500000000
+
+abbrev pub mostObserved : ℕ
+mostObserved = 1000000000
+
+abbrev pub mostMisclosure : ℕ
+mostMisclosure = 100000
+
+-- ════ the scale of weights
 -- the whole number nearest to 1,000² over the square of a standard deviation s in units, and 0 of s = 0
 unfoldable pub weightOf : ℕ → ℕ
 weightOf s = (2 * 1000 ^ 2 + s * s) / (2 * (s * s))

@@ -9,6 +9,7 @@ ghost use mathlib.Core.Path.{_≡_};
 ghost use Prim.Native.Nat.{_<_};
 ghost use lib.IntN.{pos};
 ghost use lib.ListN.{getD};
+ghost use Rattle.network.specs.Units.{mostStations};
 ghost use Rattle.network.specs.Stations.{kindOf, stationIn, networkOf, countFits, kindsFit, coordinatesFit, unknownsFit, opens, openNo, isBlank, isKnown, blankBeyond, networkFits};
 
 // The number at i, 0 beyond the end.
@@ -34,7 +35,7 @@ fn kind_of(v: i64) -> Kind
 
 // Station s of the list, counted from 0.
 fn station_in(list: &[i64], s: usize) -> Station
-    requires { ⌜ s < 32 ⌝ }
+    requires { ⌜ s < mostStations ⌝ }
     ensures { λ r. ⌜ r ≡ stationIn (now (list .entry)) s ⌝ }
 {
     let i = s * 4;

@@ -6,6 +6,7 @@ use super::record_codec;
 ghost use mathlib.Core.Path.{_≡_};
 ghost use Prim.Native.Nat.{_<_, _≤_};
 ghost use lib.ListN.{length};
+ghost use Rattle.network.specs.Units.{placeCount};
 ghost use Rattle.network.specs.Records.{recordAt};
 ghost use Rattle.network.specs.Places.{placesLength, placesIn};
 
@@ -16,7 +17,7 @@ impl Place {
 
 // The record at place p, counted from 0, of lent places.
 pub fn record_at(places: &[i64], p: usize) -> Record
-    requires { ⌜ (placesLength ≤ length (now places)) × (p < 256) ⌝ }
+    requires { ⌜ (placesLength ≤ length (now places)) × (p < placeCount) ⌝ }
     ensures { λ r. ⌜ r ≡ recordAt (placesIn (now (places .entry))) p ⌝ }
 {
     record_codec::record_in(places, p * Record::LENGTH)

@@ -6,6 +6,7 @@ ghost use mathlib.Core.Bool.{cond};
 ghost use Prim.Native.Nat.{_≤_, _<_};
 ghost use lib.IntN.{pos, natAbs};
 ghost use Rattle.integers.specs.Tables.{Within};
+ghost use Rattle.network.specs.Units.{mostStations, mostComponents, mostCoordinate, mostObserved};
 ghost use Rattle.network.specs.Records.{observations, acts, isEmpty, fromOf, toOf, joins, weights, observed, misclosureAt, misclosures};
 ghost use Rattle.network.specs.RecordLaws.{Observed};
 
@@ -101,7 +102,7 @@ fn misclosure(
     acts: bool,
     observed: i64,
 ) -> i64
-    requires { ⌜ (f < 32) × (t < 32) × (a < 3) × (natAbs observed ≤ 1000000000) × Within 96 500000000 (now coordinate) ⌝ }
+    requires { ⌜ (f < mostStations) × (t < mostStations) × (a < 3) × (natAbs observed ≤ mostObserved) × Within mostComponents mostCoordinate (now coordinate) ⌝ }
     ensures { λ r. ⌜ r ≡ cond acts (misclosureAt (now (coordinate .entry)) f t a observed) (pos 0) ⌝ }
 {
     if !acts {

@@ -12,6 +12,7 @@ ghost use mathlib.Core.Path.{_≡_};
 ghost use mathlib.Core.Bool.{true};
 ghost use Prim.Native.Nat.{_≤_};
 ghost use Rattle.integers.specs.Tables.{Within};
+ghost use Rattle.network.specs.Units.{mostStations, mostComponents, mostCoordinate};
 ghost use Rattle.network.specs.Stations.{coordinatesFit};
 ghost use Rattle.network.specs.Records.{weightMatrixOf};
 ghost use Rattle.network.specs.Rules.{inList, endsFit, baselineInRange, heightInRange, misclosureFits, recordNoOver, recordNo, recordFitsOver, recordFits};
@@ -71,7 +72,7 @@ fn misclosure_fits(coordinate: &[i64; Unit::COMPONENTS], r: Record) -> bool
 }
 
 fn baseline_no(count: usize, coordinate: &[i64; Unit::COMPONENTS], b: Baseline) -> u64
-    requires { ⌜ (count ≤ 32) × Within 96 500000000 (now coordinate) ⌝ }
+    requires { ⌜ (count ≤ mostStations) × Within mostComponents mostCoordinate (now coordinate) ⌝ }
     ensures { λ n. ⌜ n ≡ recordNoOver count (now (coordinate .entry)) (Record.Baseline b) ⌝ }
 {
     if !ends_fit(count, b.from, b.to) {
@@ -90,7 +91,7 @@ fn baseline_no(count: usize, coordinate: &[i64; Unit::COMPONENTS], b: Baseline) 
 }
 
 fn height_no(count: usize, coordinate: &[i64; Unit::COMPONENTS], h: Level) -> u64
-    requires { ⌜ (count ≤ 32) × Within 96 500000000 (now coordinate) ⌝ }
+    requires { ⌜ (count ≤ mostStations) × Within mostComponents mostCoordinate (now coordinate) ⌝ }
     ensures { λ n. ⌜ n ≡ recordNoOver count (now (coordinate .entry)) (Record.Height h) ⌝ }
 {
     if !ends_fit(count, h.from, h.to) {
@@ -107,7 +108,7 @@ fn height_no(count: usize, coordinate: &[i64; Unit::COMPONENTS], h: Level) -> u6
 
 // The refusal number of a record over a list of count stations with these provisional coordinates; 0 where it is not refused.
 pub fn record_no_over(count: usize, coordinate: &[i64; Unit::COMPONENTS], r: Record) -> u64
-    requires { ⌜ (count ≤ 32) × Within 96 500000000 (now coordinate) ⌝ }
+    requires { ⌜ (count ≤ mostStations) × Within mostComponents mostCoordinate (now coordinate) ⌝ }
     ensures { λ n. ⌜ n ≡ recordNoOver count (now (coordinate .entry)) r ⌝ }
 {
     match r {
@@ -118,7 +119,7 @@ pub fn record_no_over(count: usize, coordinate: &[i64; Unit::COMPONENTS], r: Rec
 }
 
 pub fn record_no(net: Network, r: Record) -> u64
-    requires { ⌜ (net .count ≤ 32) × (coordinatesFit (net .stations) ≡ true) ⌝ }
+    requires { ⌜ (net .count ≤ mostStations) × (coordinatesFit (net .stations) ≡ true) ⌝ }
     ensures { λ n. ⌜ n ≡ recordNo net r ⌝ }
 {
     let count = net.count;
@@ -129,7 +130,7 @@ pub fn record_no(net: Network, r: Record) -> u64
 
 // A place may hold it.
 pub fn record_fits_over(count: usize, coordinate: &[i64; Unit::COMPONENTS], r: Record) -> bool
-    requires { ⌜ (count ≤ 32) × Within 96 500000000 (now coordinate) ⌝ }
+    requires { ⌜ (count ≤ mostStations) × Within mostComponents mostCoordinate (now coordinate) ⌝ }
     ensures { λ t. ⌜ t ≡ recordFitsOver count (now (coordinate .entry)) r ⌝ }
 {
     if is_empty(r) {
@@ -139,7 +140,7 @@ pub fn record_fits_over(count: usize, coordinate: &[i64; Unit::COMPONENTS], r: R
 }
 
 pub fn record_fits(net: Network, r: Record) -> bool
-    requires { ⌜ (net .count ≤ 32) × (coordinatesFit (net .stations) ≡ true) ⌝ }
+    requires { ⌜ (net .count ≤ mostStations) × (coordinatesFit (net .stations) ≡ true) ⌝ }
     ensures { λ t. ⌜ t ≡ recordFits net r ⌝ }
 {
     let count = net.count;

@@ -4,6 +4,7 @@ use super::Station;
 use super::Unit;
 ghost use mathlib.Core.Path.{_≡_};
 ghost use Prim.Native.Nat.{_≤_};
+ghost use Rattle.network.specs.Units.{mostComponents, mostUnknowns};
 ghost use Rattle.network.specs.Stations.{unknownIn, unknownTable, number, indexTable, componentOf, coordinateIn, coordinates};
 ghost use Rattle.integers.specs.Tables.{tabulate};
 
@@ -60,7 +61,7 @@ pub fn numbers_of(stations: [Station; Unit::STATIONS]) -> [usize; Unit::COMPONEN
 
 // How many unknowns stand before component q: the number of an unknown q, and of all of them where q is 96.
 pub fn number_of(stations: [Station; Unit::STATIONS], q: usize) -> usize
-    requires { ⌜ q ≤ 96 ⌝ }
+    requires { ⌜ q ≤ mostComponents ⌝ }
     ensures { λ r. ⌜ r ≡ number stations q ⌝ }
 {
     let mut n = 0;
@@ -77,7 +78,7 @@ pub fn number_of(stations: [Station; Unit::STATIONS], q: usize) -> usize
 
 // The component of each unknown, by its number, and 96 beyond the last.
 pub fn components_of(stations: [Station; Unit::STATIONS]) -> [usize; Unit::UNKNOWNS]
-    ensures { λ r. ⌜ r ≡ tabulate 48 (componentOf stations) ⌝ }
+    ensures { λ r. ⌜ r ≡ tabulate mostUnknowns (componentOf stations) ⌝ }
 {
     let mut out = [Unit::COMPONENTS; Unit::UNKNOWNS];
     let mut n = 0;

@@ -36,6 +36,9 @@ impl Unit {
     // How many times the determinant a diagonal entry of the adjugate may be.
     pub const ADJUGATE_FACTOR: i64 = WeightMatrix::ADJUGATE_FACTOR;
 
+    // S of document 01, the scale of M and of the variances: 2^30.
+    pub const SCALE: i64 = 1_073_741_824;
+
     // The weight of a standard deviation in units: the whole number nearest to 1,000² over its square. 0, which no record takes, of 0 and of more than 14.14 mm.
     pub fn weight_of(deviation: u64) -> i64
         ensures { λ r. ⌜ r ≡ pos (weightOf deviation) ⌝ }

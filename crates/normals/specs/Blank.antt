@@ -6,17 +6,18 @@ use lib.ListN.{replicate}
 use lib.IntN.{ℤ, pos, _*ℤ_}
 use Rattle.integers.specs.Solvers.{ring, shapes}
 use Rattle.integers.specs.Sums.{sum, sum-ext, sum-0}
+use Rattle.network.specs.Units.{mostUnknowns, placeCount}
 use Rattle.network.specs.Records.{weights, l, recordAt}
 use Rattle.network.specs.declared.Station.{Station}
 use Rattle.network.specs.declared.Place.{Place}
 use Rattle.network.specs.declared.Record.{Record}
 use Rattle.network.specs.declared.Record.the-variants.{Empty}
 use Rattle.normals.specs.declared.Normals.{Normals}
-use Rattle.normals.specs.Formulas.{P, A, shareN, shareU, entryN, entryU, normalsOf}
+use Rattle.normals.specs.Formulas.{P, A, shareN, shareU, entryN, entryU, normalsOf, matrixLength}
 use Rattle.normals.specs.FirstPlaces.{zeros-tabulate}
 
 unfoldable pub blankNormals : Normals
-blankNormals = record { matrix = replicate 2304 (pos 0); right = replicate 48 (pos 0) }
+blankNormals = record { matrix = replicate matrixLength (pos 0); right = replicate mostUnknowns (pos 0) }
 
 module _ (st : List Station) where
   -- any Σ_a Σ_b A_a i · P a b · y b of an empty place
@@ -32,22 +33,22 @@ module _ (st : List Station) where
   unfolding shareU
   shareU-empty i = weightless i (l st Empty)
 
-  module _ (places : List Place) (none : (p : ℕ) → p < 256 → recordAt places p ≡ Empty) where
+  module _ (places : List Place) (none : (p : ℕ) → p < placeCount → recordAt places p ≡ Empty) where
     blank-N : (i j : ℕ) → entryN st places i j ≡ pos 0
     unfolding entryN
-    blank-N i j = sum-ext 256 (λ p h. ap (λ (r : Record). shareN st r i j) (none p h) ∙ shareN-empty i j) ∙ sum-0 256
+    blank-N i j = sum-ext placeCount (λ p h. ap (λ (r : Record). shareN st r i j) (none p h) ∙ shareN-empty i j) ∙ sum-0 placeCount
 
     blank-u : (i : ℕ) → entryU st places i ≡ pos 0
     unfolding entryU
-    blank-u i = sum-ext 256 (λ p h. ap (λ (r : Record). shareU st r i) (none p h) ∙ shareU-empty i) ∙ sum-0 256
+    blank-u i = sum-ext placeCount (λ p h. ap (λ (r : Record). shareU st r i) (none p h) ∙ shareU-empty i) ∙ sum-0 placeCount
 
     -- "A run of demand 3 starts from the book that an accepted opening gives: no records, history empty, N and u 0"
     pub blank-is : blankNormals ≡ normalsOf st places
     unfolding blankNormals
     blank-is = λ i. record { matrix = matrix i; right = right i }
       where
-        matrix : replicate 2304 (pos 0) ≡ normalsOf st places .matrix
-        matrix = zeros-tabulate 2304 2304 _ refl (λ k h. blank-N (k / 48) (k % 48))
+        matrix : replicate matrixLength (pos 0) ≡ normalsOf st places .matrix
+        matrix = zeros-tabulate matrixLength matrixLength _ refl (λ k h. blank-N (k / mostUnknowns) (k % mostUnknowns))
 
-        right : replicate 48 (pos 0) ≡ normalsOf st places .right
-        right = zeros-tabulate 48 48 _ refl (λ k h. blank-u k)
+        right : replicate mostUnknowns (pos 0) ≡ normalsOf st places .right
+        right = zeros-tabulate mostUnknowns mostUnknowns _ refl (λ k h. blank-u k)

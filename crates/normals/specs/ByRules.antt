@@ -6,6 +6,7 @@ use mathlib.Core.List.{List}
 use native.Mathlib.Decide.{ℕ-discrete}
 use lib.ListN.{length, set}
 use lib.Seq.{getD-set-same, getD-set-other}
+use Rattle.network.specs.Units.{placeCount}
 use Rattle.network.specs.Stations.{networkFits}
 use Rattle.network.specs.Records.{recordAt, vacant}
 use Rattle.network.specs.Rules.{recordFits}
@@ -17,12 +18,12 @@ use Rattle.network.specs.declared.Place.{Place}
 -- the network passes what opening tests, and each of the 256 places is empty or holds a record that is not refused
 pub record ByRules (net : Network) (places : List Place) : Type 0 where
   pub network : networkFits net ≡ true
-  pub each : (p : ℕ) → p < 256 → recordFits net (recordAt places p) ≡ true
+  pub each : (p : ℕ) → p < placeCount → recordFits net (recordAt places p) ≡ true
 
 -- the record r put in place p
 abbrev pub placesWith : List Place → ℕ → Record → List Place
 placesWith places p r = set places p (record { entry = r })
 
 module _ (net : Network) (places : List Place) (g : ByRules net places) where
-  pub record-sound : (p : ℕ) → p < 256 → SoundRecord (net .stations) (recordAt places p)
+  pub record-sound : (p : ℕ) → p < placeCount → SoundRecord (net .stations) (recordAt places p)
   record-sound p h = sound-record net (recordAt places p) (g .network) (g .each p h)

@@ -6,33 +6,34 @@ use native.Mathlib.Omega.{arith}
 use lib.ListN.{length, getD}
 use lib.IntN.{pos}
 use Rattle.integers.specs.Tables.{length-tabulate, getD-tabulate, Within, within-tabulate}
+use Rattle.network.specs.Units.{mostUnknowns}
 use Rattle.network.specs.declared.Network.{Network}
 use Rattle.network.specs.declared.Station.{Station}
 use Rattle.network.specs.declared.Place.{Place}
 use Rattle.normals.specs.declared.Normals.{Normals}
-use Rattle.normals.specs.Formulas.{entryN, entryU, matrixOf, rightOf, normalsOf}
+use Rattle.normals.specs.Formulas.{entryN, entryU, matrixOf, rightOf, normalsOf, matrixLength}
 use Rattle.normals.specs.ByRules.{ByRules}
 use Rattle.normals.specs.Sizes.{N-entry, u-entry}
 
 -- lists as long as the arrays
 pub record SizedNormals (x : Normals) : Type 0 where
-  pub matrix : length (x .matrix) ≡ 2304
-  pub right : length (x .right) ≡ 48
+  pub matrix : length (x .matrix) ≡ matrixLength
+  pub right : length (x .right) ≡ mostUnknowns
 
 module _ (st : List Station) (places : List Place) where
-  pub matrix-at : (i j : ℕ) → i < 48 → j < 48 → getD (matrixOf st places) (i * 48 + j) (pos 0) ≡ entryN st places i j
+  pub matrix-at : (i j : ℕ) → i < mostUnknowns → j < mostUnknowns → getD (matrixOf st places) (i * mostUnknowns + j) (pos 0) ≡ entryN st places i j
   matrix-at i j h k =
-      let inside : i * 48 + j < 2304 = omega arith in
-      let row : (i * 48 + j) / 48 ≡ i = omega arith in
-      let column : (i * 48 + j) % 48 ≡ j = omega arith in
-      getD-tabulate 2304 _ (i * 48 + j) (pos 0) inside ∙ ap₂ (entryN st places) row column
+      let inside : i * mostUnknowns + j < matrixLength = omega arith in
+      let row : (i * mostUnknowns + j) / mostUnknowns ≡ i = omega arith in
+      let column : (i * mostUnknowns + j) % mostUnknowns ≡ j = omega arith in
+      getD-tabulate matrixLength _ (i * mostUnknowns + j) (pos 0) inside ∙ ap₂ (entryN st places) row column
 
-  pub right-at : (i : ℕ) → i < 48 → getD (rightOf st places) i (pos 0) ≡ entryU st places i
-  right-at i h = getD-tabulate 48 _ i (pos 0) h
+  pub right-at : (i : ℕ) → i < mostUnknowns → getD (rightOf st places) i (pos 0) ≡ entryU st places i
+  right-at i h = getD-tabulate mostUnknowns _ i (pos 0) h
 
 module _ (net : Network) (places : List Place) (g : ByRules net places) where
-  pub matrix-within : Within 2304 2560000 (matrixOf (net .stations) places)
-  matrix-within = within-tabulate 2304 2560000 _ (λ k h. N-entry net places g (k / 48) (k % 48))
+  pub matrix-within : Within matrixLength 2560000 (matrixOf (net .stations) places)
+  matrix-within = within-tabulate matrixLength 2560000 _ (λ k h. N-entry net places g (k / mostUnknowns) (k % mostUnknowns))
 
-  pub right-within : Within 48 768000000000 (rightOf (net .stations) places)
-  right-within = within-tabulate 48 768000000000 _ (λ k h. u-entry net places g k)
+  pub right-within : Within mostUnknowns 768000000000 (rightOf (net .stations) places)
+  right-within = within-tabulate mostUnknowns 768000000000 _ (λ k h. u-entry net places g k)

@@ -4,6 +4,7 @@ use mathlib.Core.List.{List, [], _∷_}
 use lib.ListN.{getD}
 use lib.IntN.{ℤ, pos, natAbs, _-ℤ_, _*ℤ_}
 use Rattle.integers.specs.Sums.{sum, δ}
+use Rattle.network.specs.Units.{mostUnknowns, mostMisclosure}
 use Rattle.network.specs.Records.{fromOf, toOf, joins, weights, misclosures}
 use Rattle.network.specs.declared.Record.{Record}
 use Rattle.normals.specs.declared.Equation.{Equation}
@@ -22,10 +23,10 @@ misclosureOf q a = getD (q .misclosure) a (pos 0)
 
 -- what keeps the code in range
 pub record EquationInRange (q : Equation) : Type 0 where
-  pub ends : (e : ℕ) → atOf q e < 48
+  pub ends : (e : ℕ) → atOf q e < mostUnknowns
   pub units : (e : ℕ) → natAbs (coefOf q e) ≤ 1
   pub weights : (k : ℕ) → natAbs (getD (q .weight) k (pos 0)) ≤ 10000
-  pub misclosures : (a : ℕ) → natAbs (misclosureOf q a) ≤ 100000
+  pub misclosures : (a : ℕ) → natAbs (misclosureOf q a) ≤ mostMisclosure
 
 -- ends e and f, at their entry of N
 abbrev pub pairN : Equation → ℕ → ℕ → ℤ
@@ -33,7 +34,7 @@ pairN q e f = coefOf q e *ℤ equationWeight q (e % 3) (f % 3) *ℤ coefOf q f
 
 -- end e with each of the six, at entry k of N
 unfoldable pub rowN : Equation → ℕ → ℕ → ℤ
-rowN q e k = sum 6 (λ f. pairN q e f *ℤ δ (atOf q e * 48 + atOf q f) k)
+rowN q e k = sum 6 (λ f. pairN q e f *ℤ δ (atOf q e * mostUnknowns + atOf q f) k)
 
 -- all pairs of ends
 unfoldable pub blockN : Equation → ℕ → ℤ

@@ -9,6 +9,7 @@ use lib.IntN.{ℤ, pos, natAbs, _-ℤ_, _*ℤ_}
 use Rattle.integers.specs.Sums.{sum, δ}
 use Rattle.integers.specs.Tables.{tabulate}
 use Rattle.lists.specs.All.{allBelow}
+use Rattle.network.specs.Units.{mostUnknowns, placeCount}
 use Rattle.network.specs.Stations.{unknown, number}
 use Rattle.network.specs.Records.{acts, fromOf, toOf, joins, weights, l, recordAt}
 use Rattle.network.specs.declared.Station.{Station}
@@ -39,22 +40,26 @@ shareU stations r i = sum 3 (λ a. sum 3 (λ b. A stations r a i *ℤ P r a b *�
 
 -- the sum over the 256 places: the rows of A are those of all records, and P joins only rows of one record
 unfoldable pub entryN : List Station → List Place → ℕ → ℕ → ℤ
-entryN stations places i j = sum 256 (λ p. shareN stations (recordAt places p) i j)
+entryN stations places i j = sum placeCount (λ p. shareN stations (recordAt places p) i j)
 
 unfoldable pub entryU : List Station → List Place → ℕ → ℤ
-entryU stations places i = sum 256 (λ p. shareU stations (recordAt places p) i)
+entryU stations places i = sum placeCount (λ p. shareU stations (recordAt places p) i)
+
+-- N is kept by rows of as many entries as there may be unknowns
+abbrev pub matrixLength : ℕ
+matrixLength = 2304
 
 -- "9 | add, replace, check | an entry of N or u, or T, beyond ±2^62": no entry of N or u is. There are at most 48 unknowns
 unfoldable pub entriesFit : List Station → List Place → Bool
 entriesFit stations places =
-    allBelow 48 (λ i. allBelow 48 (λ j. leb (natAbs (entryN stations places i j)) (2 ^ 62)) && leb (natAbs (entryU stations places i)) (2 ^ 62))
+    allBelow mostUnknowns (λ i. allBelow mostUnknowns (λ j. leb (natAbs (entryN stations places i j)) (2 ^ 62)) && leb (natAbs (entryU stations places i)) (2 ^ 62))
 
 -- ════ as they are kept: N by rows of 48
 abbrev pub matrixOf : List Station → List Place → List ℤ
-matrixOf stations places = tabulate 2304 (λ k. entryN stations places (k / 48) (k % 48))
+matrixOf stations places = tabulate matrixLength (λ k. entryN stations places (k / mostUnknowns) (k % mostUnknowns))
 
 abbrev pub rightOf : List Station → List Place → List ℤ
-rightOf stations places = tabulate 48 (entryU stations places)
+rightOf stations places = tabulate mostUnknowns (entryU stations places)
 
 abbrev pub normalsOf : List Station → List Place → Normals
 normalsOf stations places = record { matrix = matrixOf stations places; right = rightOf stations places }

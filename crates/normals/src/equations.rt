@@ -5,6 +5,8 @@ ghost use mathlib.Core.Path.{_≡_};
 ghost use Prim.Native.Nat.{_<_, _≤_, _^_};
 ghost use lib.IntN.{natAbs};
 ghost use Rattle.integers.specs.Tables.{plus, Within};
+ghost use Rattle.network.specs.Units.{mostUnknowns};
+ghost use Rattle.normals.specs.Formulas.{matrixLength};
 ghost use Rattle.normals.specs.Equations.{EquationInRange, endsOf, rowN, blockN, weighted, blockU};
 
 // To N, the part of end e with each of the six: nothing where e is held. Unknowns, coefficients and weights are lent, so that no turn copies an equation.
@@ -16,8 +18,8 @@ fn add_row(
     e: usize,
     sign: i64,
 )
-    requires { ⌜ (e < 6) × (natAbs sign ≤ 1) × EquationInRange (endsOf (now at) (now coef) (now weight)) × Within 2304 (2 ^ 41) (now n) ⌝ }
-    ensures { λ r. ⌜ now (n .exit) ≡ plus 2304 (now (n .entry)) sign (rowN (endsOf (now (at .entry)) (now (coef .entry)) (now (weight .entry))) e) ⌝ }
+    requires { ⌜ (e < 6) × (natAbs sign ≤ 1) × EquationInRange (endsOf (now at) (now coef) (now weight)) × Within matrixLength (2 ^ 41) (now n) ⌝ }
+    ensures { λ r. ⌜ now (n .exit) ≡ plus matrixLength (now (n .entry)) sign (rowN (endsOf (now (at .entry)) (now (coef .entry)) (now (weight .entry))) e) ⌝ }
 {
     let own = coef[e];
     if words::same(own, 0) {
@@ -38,8 +40,8 @@ fn add_row(
 }
 
 fn add_matrix(n: &mut [i64; Normals::ENTRIES], equation: Equation, sign: i64)
-    requires { ⌜ (natAbs sign ≤ 1) × EquationInRange equation × Within 2304 (2 ^ 40) (now n) ⌝ }
-    ensures { λ r. ⌜ now (n .exit) ≡ plus 2304 (now (n .entry)) sign (blockN equation) ⌝ }
+    requires { ⌜ (natAbs sign ≤ 1) × EquationInRange equation × Within matrixLength (2 ^ 40) (now n) ⌝ }
+    ensures { λ r. ⌜ now (n .exit) ≡ plus matrixLength (now (n .entry)) sign (blockN equation) ⌝ }
 {
     let at = equation.at;
     let coef = equation.coef;
@@ -64,8 +66,8 @@ pub fn weighted_row(equation: Equation, a: usize) -> i64
 }
 
 fn add_right(u: &mut [i64; Normals::ROW], equation: Equation, sign: i64)
-    requires { ⌜ (natAbs sign ≤ 1) × EquationInRange equation × Within 48 (2 ^ 43) (now u) ⌝ }
-    ensures { λ r. ⌜ now (u .exit) ≡ plus 48 (now (u .entry)) sign (blockU equation) ⌝ }
+    requires { ⌜ (natAbs sign ≤ 1) × EquationInRange equation × Within mostUnknowns (2 ^ 43) (now u) ⌝ }
+    ensures { λ r. ⌜ now (u .exit) ≡ plus mostUnknowns (now (u .entry)) sign (blockU equation) ⌝ }
 {
     let mut e = 0;
     while e < 6 {
@@ -86,9 +88,9 @@ pub fn add_equation(
     equation: Equation,
     sign: i64,
 )
-    requires { ⌜ (natAbs sign ≤ 1) × EquationInRange equation × Within 2304 (2 ^ 40) (now n) × Within 48 (2 ^ 43) (now u) ⌝ }
-    ensures matrix { λ r. ⌜ now (n .exit) ≡ plus 2304 (now (n .entry)) sign (blockN equation) ⌝ }
-    ensures right { λ r. ⌜ now (u .exit) ≡ plus 48 (now (u .entry)) sign (blockU equation) ⌝ }
+    requires { ⌜ (natAbs sign ≤ 1) × EquationInRange equation × Within matrixLength (2 ^ 40) (now n) × Within mostUnknowns (2 ^ 43) (now u) ⌝ }
+    ensures matrix { λ r. ⌜ now (n .exit) ≡ plus matrixLength (now (n .entry)) sign (blockN equation) ⌝ }
+    ensures right { λ r. ⌜ now (u .exit) ≡ plus mostUnknowns (now (u .entry)) sign (blockU equation) ⌝ }
 {
     add_matrix(n, equation, sign);
     add_right(u, equation, sign);

@@ -6,8 +6,9 @@ ghost use mathlib.Core.Path.{_≡_};
 ghost use Prim.Native.Nat.{_≤_};
 ghost use lib.ListN.{length, replicate};
 ghost use lib.IntN.{pos};
+ghost use Rattle.network.specs.Units.{mostUnknowns};
 ghost use Rattle.network.specs.Places.{placesLength, placesIn};
-ghost use Rattle.normals.specs.Formulas.{matrixOf, rightOf, normalsOf};
+ghost use Rattle.normals.specs.Formulas.{matrixOf, rightOf, normalsOf, matrixLength};
 ghost use Rattle.normals.specs.ByRules.{ByRules};
 ghost use Rattle.normals.specs.Blank.{blankNormals};
 ghost use Rattle.normals.specs.Exchange.{Exchangeable, exchangedN, exchangedU};
@@ -49,9 +50,9 @@ pub struct Normals {
 
 impl Normals {
     // The length of u and of a row of N: as many unknowns as a list may have.
-    pub const ROW: usize = 48;
+    pub const ROW: usize = Unit::UNKNOWNS;
     // The entries of N.
-    pub const ENTRIES: usize = 2304;
+    pub const ENTRIES: usize = Unit::UNKNOWNS * Unit::UNKNOWNS;
 
     // N and u of no records.
     pub fn blank() -> Normals
@@ -85,7 +86,7 @@ fn add_records(
     net: Network,
     places: &[i64],
 )
-    requires { ⌜ (placesLength ≤ length (now places)) × ByRules net (placesIn (now places)) × (now n ≡ replicate 2304 (pos 0)) × (now u ≡ replicate 48 (pos 0)) ⌝ }
+    requires { ⌜ (placesLength ≤ length (now places)) × ByRules net (placesIn (now places)) × (now n ≡ replicate matrixLength (pos 0)) × (now u ≡ replicate mostUnknowns (pos 0)) ⌝ }
     ensures matrix { λ _. ⌜ now (n .exit) ≡ matrixOf (net .stations) (placesIn (now (places .entry))) ⌝ }
     ensures right { λ _. ⌜ now (u .exit) ≡ rightOf (net .stations) (placesIn (now (places .entry))) ⌝ }
 {
@@ -104,7 +105,7 @@ fn add_records(
 
 // Whether N and u are those of the records.
 pub fn are_of(net: Network, places: &[i64], matrix: &[i64], right: &[i64]) -> bool
-    requires { ⌜ (placesLength ≤ length (now places)) × ByRules net (placesIn (now places)) × (length (now matrix) ≡ 2304) × (length (now right) ≡ 48) ⌝ }
+    requires { ⌜ (placesLength ≤ length (now places)) × ByRules net (placesIn (now places)) × (length (now matrix) ≡ matrixLength) × (length (now right) ≡ mostUnknowns) ⌝ }
     ensures { λ t. ⌜ t ≡ sameNormals (record { matrix = now (matrix .entry); right = now (right .entry) }) (normalsOf (net .stations) (placesIn (now (places .entry)))) ⌝ }
 {
     let mut n = [0i64; Normals::ENTRIES];
@@ -137,7 +138,7 @@ pub fn exchange_shares(
 
 // Makes u the numbers given. A book lends its own u: the prover does not cover the store of an array to a field of a field.
 pub fn set_right(u: &mut [i64; Normals::ROW], right: &[i64; Normals::ROW])
-    requires { ⌜ (length (now u) ≡ 48) × (length (now right) ≡ 48) ⌝ }
+    requires { ⌜ (length (now u) ≡ mostUnknowns) × (length (now right) ≡ mostUnknowns) ⌝ }
     ensures { λ _. ⌜ now (u .exit) ≡ now (right .entry) ⌝ }
 {
     let mut i = 0;

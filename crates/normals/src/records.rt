@@ -6,12 +6,13 @@ ghost use mathlib.Core.Path.{_≡_};
 ghost use Prim.Native.Nat.{_<_, _≤_};
 ghost use lib.IntN.{natAbs};
 ghost use Rattle.integers.specs.Tables.{Within};
+ghost use Rattle.network.specs.Units.{mostStations, mostComponents};
 ghost use Rattle.network.specs.RecordLaws.{Observed};
 ghost use Rattle.normals.specs.Equations.{endIndices, coefs, equationOf};
 
 // The unknowns at the six ends.
 fn ends_of(at: &[usize; Unit::COMPONENTS], f: usize, t: usize) -> [usize; 6]
-    requires { ⌜ (f < 32) × (t < 32) ⌝ }
+    requires { ⌜ (f < mostStations) × (t < mostStations) ⌝ }
     ensures { λ r. ⌜ r ≡ endIndices (now (at .entry)) f t ⌝ }
 {
     let i = f * 3;
@@ -21,7 +22,7 @@ fn ends_of(at: &[usize; Unit::COMPONENTS], f: usize, t: usize) -> [usize; 6]
 
 // Their coefficients, -1 at from and 1 at to, in all three components: where the record does not act its weights are 0. g is 1 where there is a from end.
 fn coefs_of(unknown: &[i64; Unit::COMPONENTS], g: i64, f: usize, t: usize) -> [i64; 6]
-    requires { ⌜ (f < 32) × (t < 32) × Within 96 1 (now unknown) × (natAbs g ≤ 1) ⌝ }
+    requires { ⌜ (f < mostStations) × (t < mostStations) × Within mostComponents 1 (now unknown) × (natAbs g ≤ 1) ⌝ }
     ensures { λ r. ⌜ r ≡ coefs (now (unknown .entry)) g f t ⌝ }
 {
     let i = f * 3;
@@ -42,7 +43,7 @@ pub fn equation_of(
     coordinate: &[i64; Unit::COMPONENTS],
     r: Record,
 ) -> Equation
-    requires { ⌜ Observed (now coordinate) r × Within 96 1 (now unknown) ⌝ }
+    requires { ⌜ Observed (now coordinate) r × Within mostComponents 1 (now unknown) ⌝ }
     ensures { λ q. ⌜ q ≡ equationOf (now (at .entry)) (now (unknown .entry)) (now (coordinate .entry)) r ⌝ }
 {
     let f = network::from_of(r);

@@ -8,6 +8,7 @@ use lib.ListN.{getD}
 use lib.IntN.{ℤ, pos, natAbs, _*ℤ_}
 use Rattle.integers.specs.Bounds.{bounds, absle}
 use Rattle.integers.specs.Tables.{getD-tabulate, Within, within-tabulate}
+use Rattle.network.specs.Units.{mostComponents, mostUnknowns, placeCount}
 use Rattle.network.specs.Stations.{unknown, number, unknownIndex, unknownCount, coordinates, networkFits, unknownTable, indexTable}
 use Rattle.network.specs.StationLaws.{unknown-bit}
 use Rattle.network.specs.Records.{recordAt}
@@ -26,7 +27,7 @@ pub record Moved (net : Network) (x : List ℤ) : Type 0 where
 -- its records by the rules
 pub record Solved (net : Network) (places : List Place) (x : List ℤ) : Type 0 where
   pub moved : Moved net x
-  pub records : (p : ℕ) → p < 256 → recordFits net (recordAt places p) ≡ true
+  pub records : (p : ℕ) → p < placeCount → recordFits net (recordAt places p) ≡ true
 
 abbrev pub Inverse : Network → List ℤ → Type 0
 Inverse net m = Within (unknownCount (net .stations) * unknownCount (net .stations)) (2 ^ 34) m
@@ -35,13 +36,13 @@ module _ {net : Network} {x : List ℤ} (g : Moved net x) where
   pub some-unknowns : 1 ≤ unknownCount (net .stations)
   some-unknowns = sound-stations net (g .network) .some
 
-  pub few-unknowns : unknownCount (net .stations) ≤ 48
+  pub few-unknowns : unknownCount (net .stations) ≤ mostUnknowns
   few-unknowns = sound-stations net (g .network) .few
 
-  pub corrections-within : Within 96 100000 (correctionsOf (net .stations) x)
+  pub corrections-within : Within mostComponents 100000 (correctionsOf (net .stations) x)
   unfolding correction
   corrections-within =
-      within-tabulate 96 100000 (correction (net .stations) x) (λ q h.
+      within-tabulate mostComponents 100000 (correction (net .stations) x) (λ q h.
       let a = unknown-bit (net .stations) q in let b = g .corrections .bound (number (net .stations) q) in
       let u : natAbs (pos (unknown (net .stations) q)) ≤ 1 = a in
       absle (pos (unknown (net .stations) q) *ℤ getD x (number (net .stations) q) (pos 0)) (search bounds) (omega arith))
@@ -49,18 +50,18 @@ module _ {net : Network} {x : List ℤ} (g : Moved net x) where
   pub lookup : (m : List ℤ) → Inverse net m → Lookup (indexTable (net .stations)) (unknownTable (net .stations)) m (unknownCount (net .stations))
   lookup m w =
       record {
-        below = λ q h. rw (getD-tabulate 96 (unknownIndex (net .stations)) q 0 h) (unknown-index-below (net .stations) q h some-unknowns);
+        below = λ q h. rw (getD-tabulate mostComponents (unknownIndex (net .stations)) q 0 h) (unknown-index-below (net .stations) q h some-unknowns);
         few = few-unknowns;
-        bits = within-tabulate 96 1 (λ q. pos (unknown (net .stations) q)) (λ q h. unknown-bit (net .stations) q);
+        bits = within-tabulate mostComponents 1 (λ q. pos (unknown (net .stations) q)) (λ q h. unknown-bit (net .stations) q);
         square = w .long;
         small = w .bound;
       }
 
 module _ {net : Network} {places : List Place} {x : List ℤ} (g : Solved net places x) where
-  pub sound-at : (p : ℕ) → p < 256 → SoundRecord (net .stations) (recordAt places p)
+  pub sound-at : (p : ℕ) → p < placeCount → SoundRecord (net .stations) (recordAt places p)
   sound-at p h = sound-record net (recordAt places p) (g .moved .network) (g .records p h)
 
-  pub closes-at : (p : ℕ) → p < 256 → Closes (coordinates (net .stations)) (correctionsOf (net .stations) x) (recordAt places p)
+  pub closes-at : (p : ℕ) → p < placeCount → Closes (coordinates (net .stations)) (correctionsOf (net .stations) x) (recordAt places p)
   closes-at p h =
       let r = sound-at p h in
       record {

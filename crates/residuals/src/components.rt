@@ -7,6 +7,7 @@ ghost use Prim.Native.Nat.{_+_, _*_, _<_, _≤_};
 ghost use lib.IntN.{pos, natAbs, _-ℤ_, _*ℤ_};
 ghost use lib.ListN.{getD};
 ghost use Rattle.integers.specs.Tables.{Within};
+ghost use Rattle.network.specs.Units.{mostStations, mostComponents, mostCoordinate};
 ghost use Rattle.network.specs.Stations.{unknownCount};
 ghost use Rattle.residuals.specs.Components.{correctionsOf, adjustedIn, positionIn, residualsIn, Closes};
 
@@ -35,7 +36,7 @@ pub fn adjusted(
     correction: &[i64; Unit::COMPONENTS],
     q: usize,
 ) -> i64
-    requires { ⌜ (q < 96) × Within 96 500000000 (now coordinate) × Within 96 100000 (now correction) ⌝ }
+    requires { ⌜ (q < mostComponents) × Within mostComponents mostCoordinate (now coordinate) × Within mostComponents 100000 (now correction) ⌝ }
     ensures { λ r. ⌜ r ≡ adjustedIn (now (coordinate .entry)) (now (correction .entry)) q ⌝ }
 {
     coordinate[q] + correction[q]
@@ -47,7 +48,7 @@ pub fn position_of(
     correction: &[i64; Unit::COMPONENTS],
     s: usize,
 ) -> [i64; 3]
-    requires { ⌜ (s < 32) × Within 96 500000000 (now coordinate) × Within 96 100000 (now correction) ⌝ }
+    requires { ⌜ (s < mostStations) × Within mostComponents mostCoordinate (now coordinate) × Within mostComponents 100000 (now correction) ⌝ }
     ensures { λ r. ⌜ r ≡ positionIn (now (coordinate .entry)) (now (correction .entry)) s ⌝ }
 {
     let q = s * 3;
@@ -66,7 +67,7 @@ fn residual(
     a: usize,
     j: i64,
 ) -> i64
-    requires { ⌜ (t < 32) × (f < 32) × (a < 3) × (natAbs l ≤ 100000) × (natAbs j ≤ 1) × Within 96 100000 (now correction) ⌝ }
+    requires { ⌜ (t < mostStations) × (f < mostStations) × (a < 3) × (natAbs l ≤ 100000) × (natAbs j ≤ 1) × Within mostComponents 100000 (now correction) ⌝ }
     ensures { λ r. ⌜ r ≡ l -ℤ (getD (now (correction .entry)) (t * 3 + a) (pos 0) -ℤ j *ℤ getD (now (correction .entry)) (f * 3 + a) (pos 0)) ⌝ }
 {
     let to = t * 3 + a;

@@ -11,6 +11,7 @@ ghost use lib.IntN.{pos};
 ghost use lib.ListN.{getD};
 ghost use Rattle.integers.specs.Tables.{Within};
 ghost use Rattle.weights.specs.Quotients.{Quotient};
+ghost use Rattle.network.specs.Units.{mostStations};
 ghost use Rattle.network.specs.Records.{fromOf, toOf};
 ghost use Rattle.residuals.specs.Components.{Lookup};
 ghost use Rattle.residuals.specs.Weights.{RecordWeights};
@@ -61,7 +62,7 @@ fn entry(w: Adjugate, a: usize) -> i64
 
 // Component a of a record with the residuals v.
 fn observation_of(r: Record, w: Adjugate, v: [i64; 3], a: usize) -> Observation
-    requires { ⌜ (a < 3) × (fromOf r < 32) × (toOf r < 32) × Divided r w × Within 3 300000 v ⌝ }
+    requires { ⌜ (a < 3) × (fromOf r < mostStations) × (toOf r < mostStations) × Divided r w × Within 3 300000 v ⌝ }
     ensures { λ o. ⌜ Observes r a (getD v a (pos 0)) o ⌝ }
 {
     let residual = v[a];
@@ -88,7 +89,7 @@ pub fn verdicts_of(
     m: &[i64],
     n: usize,
 ) -> [i64; 3]
-    requires { ⌜ (fromOf r < 32) × (toOf r < 32) × RecordWeights r × Within 3 300000 v × Lookup (now number) (now unknown) (now m) n ⌝ }
+    requires { ⌜ (fromOf r < mostStations) × (toOf r < mostStations) × RecordWeights r × Within 3 300000 v × Lookup (now number) (now unknown) (now m) n ⌝ }
     ensures { λ w. ⌜ w ≡ verdictsIn (now (number .entry)) (now (unknown .entry)) (now (m .entry)) n r v ⌝ }
 {
     if network::is_empty(r) {

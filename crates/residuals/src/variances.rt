@@ -8,6 +8,7 @@ ghost use lib.IntN.{natAbs, _*ℤ_};
 ghost use Rattle.integers.specs.Division.{floorDiv};
 ghost use Rattle.weights.specs.Quotients.{Quotient};
 ghost use Rattle.integers.specs.Inverses.{S};
+ghost use Rattle.network.specs.Units.{mostStations, mostComponents};
 ghost use Rattle.residuals.specs.Components.{covarianceIn, variancesIn, differenceIn, Lookup};
 ghost use Rattle.residuals.specs.Observations.{Testable, verdictOf};
 
@@ -20,7 +21,7 @@ fn covariance(
     q: usize,
     k: usize,
 ) -> i64
-    requires { ⌜ (q < 96) × (k < 96) × Lookup (now number) (now unknown) (now m) n ⌝ }
+    requires { ⌜ (q < mostComponents) × (k < mostComponents) × Lookup (now number) (now unknown) (now m) n ⌝ }
     ensures { λ r. ⌜ r ≡ covarianceIn (now (number .entry)) (now (unknown .entry)) (now (m .entry)) n q k ⌝ }
 {
     let i = number[q] * n + number[k];
@@ -35,7 +36,7 @@ pub fn variances_of(
     n: usize,
     s: usize,
 ) -> [i64; 3]
-    requires { ⌜ (s < 32) × Lookup (now number) (now unknown) (now m) n ⌝ }
+    requires { ⌜ (s < mostStations) × Lookup (now number) (now unknown) (now m) n ⌝ }
     ensures { λ r. ⌜ r ≡ variancesIn (now (number .entry)) (now (unknown .entry)) (now (m .entry)) n s ⌝ }
 {
     let q = s * 3;
@@ -53,7 +54,7 @@ fn difference_variance(
     m: &[i64],
     n: usize,
 ) -> i64
-    requires { ⌜ (o .to < 96) × (o .from < 96) × (natAbs (o .joins) ≤ 1) × Lookup (now number) (now unknown) (now m) n ⌝ }
+    requires { ⌜ (o .to < mostComponents) × (o .from < mostComponents) × (natAbs (o .joins) ≤ 1) × Lookup (now number) (now unknown) (now m) n ⌝ }
     ensures { λ r. ⌜ r ≡ differenceIn (now (number .entry)) (now (unknown .entry)) (now (m .entry)) n (o .to) (o .from) (o .joins) ⌝ }
 {
     let t = o.to;
@@ -65,12 +66,12 @@ fn difference_variance(
     to + o.joins * (from - upper - lower)
 }
 
-// The variance of an observed component, whose adjugate entry and determinant these are, over 2^30; rounded down.
+// The variance of an observed component, whose adjugate entry and determinant these are, over S; rounded down.
 fn observation_variance(adj: i64, det: i64) -> i64
     requires { ⌜ Quotient adj det ⌝ }
     ensures { λ r. ⌜ r ≡ floorDiv (S *ℤ adj) (natAbs det) ⌝ }
 {
-    1073741824 * adj / det
+    Unit::SCALE * adj / det
 }
 
 // The local verdict of an observation, as its word.

@@ -5,6 +5,7 @@ use mathlib.Core.Bool.{cond}
 use mathlib.Core.List.{List, [], _∷_, _++_}
 use lib.IntN.{ℤ, pos}
 use Rattle.integers.specs.Sums.{sumN}
+use Rattle.network.specs.Units.{placeCount}
 use Rattle.network.specs.Stations.{unknownCount}
 use Rattle.network.specs.Records.{observations, isEmpty, recordAt}
 use Rattle.network.specs.declared.Station.{Station}
@@ -56,7 +57,7 @@ unfoldable pub sheetWords : Network → List Place → List ℤ → List ℤ →
 sheetWords net places x m =
     (pos (recordCount places) ∷ pos (unknownCount (net .stations)) ∷ [])
     ++ stationLinesWords (net .stations) x m (net .count)
-    ++ recordLinesWords (net .stations) x m places 256
+    ++ recordLinesWords (net .stations) x m places placeCount
     ++ globalWords (net .stations) places x
 
 -- the room that it takes: a record's line has the place, and a residual and a verdict for each component that it observes
@@ -64,4 +65,4 @@ unfoldable pub lineLength : Record → ℕ
 lineLength r = cond (isEmpty r) 0 (1 + 2 * observations r)
 
 unfoldable pub room : Network → List Place → ℕ
-room net places = 5 + 7 * net .count + sumN 256 (λ p. lineLength (recordAt places p))
+room net places = 5 + 7 * net .count + sumN placeCount (λ p. lineLength (recordAt places p))

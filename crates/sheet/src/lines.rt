@@ -5,13 +5,14 @@ ghost use Prim.Native.Nat.{_+_, _<_, _≤_};
 ghost use lib.IntN.{pos};
 ghost use lib.ListN.{length};
 ghost use Rattle.lists.specs.Pasted.{pasted};
+ghost use Rattle.network.specs.Units.{placeCount};
 ghost use Rattle.network.specs.Records.{observations};
 ghost use Rattle.sheet.specs.Sheet.{lineLength};
 ghost use Rattle.sheet.specs.Lines.{sevenWords, threeWords, lineOf};
 
 // A number from 1 of what is counted from 0.
 fn numbered(k: usize) -> i64
-    requires { ⌜ k < 256 ⌝ }
+    requires { ⌜ k < placeCount ⌝ }
     ensures { λ r. ⌜ r ≡ pos (k + 1) ⌝ }
 {
     (k + 1) as i64
@@ -19,7 +20,7 @@ fn numbered(k: usize) -> i64
 
 // A line of seven words: the number, and two values in each of E, N, U. Of a station they are coordinates and variances, of a baseline residuals and verdicts.
 pub fn seven_words(k: usize, v: [i64; 3], w: [i64; 3]) -> [i64; 7]
-    requires { ⌜ k < 256 ⌝ }
+    requires { ⌜ k < placeCount ⌝ }
     ensures { λ r. ⌜ r ≡ sevenWords k v w ⌝ }
 {
     let number = numbered(k);
@@ -28,7 +29,7 @@ pub fn seven_words(k: usize, v: [i64; 3], w: [i64; 3]) -> [i64; 7]
 
 // A line of three words: the number, and two values in U.
 fn three_words(k: usize, v: [i64; 3], w: [i64; 3]) -> [i64; 3]
-    requires { ⌜ k < 256 ⌝ }
+    requires { ⌜ k < placeCount ⌝ }
     ensures { λ r. ⌜ r ≡ threeWords k v w ⌝ }
 {
     let number = numbered(k);
@@ -53,7 +54,7 @@ pub fn put_record(
     v: [i64; 3],
     w: [i64; 3],
 ) -> usize
-    requires { ⌜ (at + lineLength r ≤ length (now sheet)) × (p < 256) ⌝ }
+    requires { ⌜ (at + lineLength r ≤ length (now sheet)) × (p < placeCount) ⌝ }
     ensures { λ k. ⌜ (k ≡ at + lineLength r) × (now (sheet .exit) ≡ pasted (now (sheet .entry)) at (lineOf (observations r) p v w)) ⌝ }
 {
     let n = network::observations_of(r);

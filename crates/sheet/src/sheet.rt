@@ -9,6 +9,7 @@ ghost use Prim.Native.Nat.{_+_, _*_, _≤_};
 ghost use lib.IntN.{pos};
 ghost use lib.ListN.{length, drop};
 ghost use Rattle.lists.specs.Pasted.{pasted};
+ghost use Rattle.network.specs.Units.{mostStations, mostComponents, placeCount};
 ghost use Rattle.network.specs.Places.{placesLength, placesIn};
 ghost use Rattle.residuals.specs.Ranges.{Moved, Solved, Inverse};
 ghost use Rattle.sheet.specs.Sheet.{stationLinesWords, recordLinesWords, sheetWords, room};
@@ -41,7 +42,7 @@ fn put_stations(sheet: &mut [i64], from: usize, net: Network, x: &[i64], m: &[i6
 // The records' lines, stored from index `from` on.
 fn put_records(sheet: &mut [i64], from: usize, net: Network, places: &[i64], x: &[i64], m: &[i64])
     requires { ⌜ (placesLength ≤ length (now places)) × Solved net (placesIn (now places)) (now x) × Inverse net (now m) × (from + wordCount (placesIn (now places)) ≤ length (now sheet)) ⌝ }
-    ensures { λ _. ⌜ now (sheet .exit) ≡ pasted (now (sheet .entry)) from (recordLinesWords (net .stations) (now (x .entry)) (now (m .entry)) (placesIn (now (places .entry))) 256) ⌝ }
+    ensures { λ _. ⌜ now (sheet .exit) ≡ pasted (now (sheet .entry)) from (recordLinesWords (net .stations) (now (x .entry)) (now (m .entry)) (placesIn (now (places .entry))) placeCount) ⌝ }
 {
     let stations = net.stations;
     let n = network::number_of(stations, Unit::COMPONENTS);
@@ -62,7 +63,7 @@ fn put_records(sheet: &mut [i64], from: usize, net: Network, places: &[i64], x: 
 
 // The first line: how many records and unknowns.
 fn count_line(records: usize, n: usize) -> [i64; 2]
-    requires { ⌜ (records ≤ 256) × (n ≤ 96) ⌝ }
+    requires { ⌜ (records ≤ placeCount) × (n ≤ mostComponents) ⌝ }
     ensures { λ r. ⌜ r ≡ pos records ∷ pos n ∷ [] ⌝ }
 {
     let a = records as i64;
@@ -99,7 +100,7 @@ pub fn write_sheet(net: Network, places: &[i64], x: &[i64], m: &[i64], sheet: &m
 
 // The words that the sheet takes.
 pub fn room_of(net: Network, places: &[i64]) -> usize
-    requires { ⌜ (placesLength ≤ length (now places)) × (net .count ≤ 32) ⌝ }
+    requires { ⌜ (placesLength ≤ length (now places)) × (net .count ≤ mostStations) ⌝ }
     ensures { λ r. ⌜ r ≡ room net (placesIn (now (places .entry))) ⌝ }
 {
     let counts = totals::counts_of(places);

@@ -8,6 +8,7 @@ ghost use lib.IntN.{pos, _*ℤ_};
 ghost use lib.ListN.{getD, length};
 ghost use Rattle.integers.specs.Sums.{sum};
 ghost use Rattle.integers.specs.Tables.{Within};
+ghost use Rattle.network.specs.Units.{mostStations, mostComponents};
 ghost use Rattle.network.specs.Places.{placesLength, placesIn};
 ghost use Rattle.network.specs.Records.{fromOf, toOf};
 ghost use Rattle.normals.specs.ByRules.{ByRules};
@@ -55,7 +56,7 @@ pub fn counts_of(places: &[i64]) -> Counts
 // Whether a record is in the adjustment: an end has an unknown in a component in which the record acts. It is enough to look at U, since every record acts in U and every station with
 // an unknown has one there.
 fn in_adjustment(unknown: &[i64; Unit::COMPONENTS], r: Record) -> bool
-    requires { ⌜ (fromOf r < 32) × (toOf r < 32) ⌝ }
+    requires { ⌜ (fromOf r < mostStations) × (toOf r < mostStations) ⌝ }
     ensures { λ b. ⌜ b ≡ inAdjustmentIn (now (unknown .entry)) r ⌝ }
 {
     let from = network::from_of(r) * 3 + 2;
@@ -65,7 +66,7 @@ fn in_adjustment(unknown: &[i64; Unit::COMPONENTS], r: Record) -> bool
 
 // What a record adds to D.
 fn share_of_d(unknown: &[i64; Unit::COMPONENTS], r: Record) -> usize
-    requires { ⌜ (fromOf r < 32) × (toOf r < 32) ⌝ }
+    requires { ⌜ (fromOf r < mostStations) × (toOf r < mostStations) ⌝ }
     ensures { λ n. ⌜ n ≡ shareDIn (now (unknown .entry)) r ⌝ }
 {
     if in_adjustment(unknown, r) {
@@ -76,7 +77,7 @@ fn share_of_d(unknown: &[i64; Unit::COMPONENTS], r: Record) -> usize
 
 // The degrees of freedom of so many observed components and n unknowns.
 fn freedom_of(observed: usize, n: usize) -> i64
-    requires { ⌜ (observed ≤ 768) × (n ≤ 96) ⌝ }
+    requires { ⌜ (observed ≤ 768) × (n ≤ mostComponents) ⌝ }
     ensures { λ r. ⌜ r ≡ freedom observed n ⌝ }
 {
     let o = observed as i64;

@@ -10,6 +10,7 @@ use borrow.Author.Tests.{le-leb, lt-leb, eq-eqb}
 use lib.ListN.{length, take, drop, getD, set, length-append}
 use lib.Seq.{take-suc, take-length, take-at, length-take-le, sets-eq}
 use lib.IntN.{ℤ}
+use Rattle.network.specs.Units.{mostStations}
 use Rattle.network.specs.Stations.{blankStation, wholeStations, countFits, opens}
 use Rattle.network.specs.declared.Station.{Station}
 use Rattle.book.specs.Book.{opening, sound}
@@ -38,32 +39,32 @@ put-flat w at n {a} {b} {c} {d} e h ea eb ec ed =
     rw (e, ea, eb, ec, ed, e1, e2, e3, sets-eq four w at h) (take-at (take at w ++ four) (drop (at + 4) w) (at + 4) long)
 
 -- ════ how many are read
-pub read-fits : (n : ℕ) → n ≤ 32 → readCount n ≡ n
+pub read-fits : (n : ℕ) → n ≤ mostStations → readCount n ≡ n
 unfolding readCount
-read-fits n h = rw (le-leb n 32 h)
+read-fits n h = rw (le-leb n mostStations h)
 
-pub read-over : (n : ℕ) → 32 < n → readCount n ≡ 0
+pub read-over : (n : ℕ) → mostStations < n → readCount n ≡ 0
 unfolding readCount
-read-over n h = rw (lt-leb n 32 h)
+read-over n h = rw (lt-leb n mostStations h)
 
-pub read-most : (n : ℕ) → readCount n ≤ 32
-read-most n = by-test (decLe n 32)
+pub read-most : (n : ℕ) → readCount n ≤ mostStations
+read-most n = by-test (decLe n mostStations)
   where
-    by-test : Dec (n ≤ 32) → readCount n ≤ 32
+    by-test : Dec (n ≤ mostStations) → readCount n ≤ mostStations
     by-test (yes p) = omega (arith, read-fits n p)
     by-test (no p) = omega (arith, read-over n (omega arith))
 
 pub read-within : (n : ℕ) → readCount n ≤ n
-read-within n = by-test (decLe n 32)
+read-within n = by-test (decLe n mostStations)
   where
-    by-test : Dec (n ≤ 32) → readCount n ≤ n
+    by-test : Dec (n ≤ mostStations) → readCount n ≤ n
     by-test (yes p) = omega (arith, read-fits n p)
     by-test (no p) = omega (arith, read-over n (omega arith))
 
-read-all : (ys : List Station) → length ys ≤ 32 → take (readCount (length ys)) ys ≡ ys
+read-all : (ys : List Station) → length ys ≤ mostStations → take (readCount (length ys)) ys ≡ ys
 read-all ys h = rw (read-fits (length ys) h) (take-length ys)
 
-read-none : (ys : List Station) → 32 < length ys → flat (take (readCount (length ys)) ys) ≡ []
+read-none : (ys : List Station) → mostStations < length ys → flat (take (readCount (length ys)) ys) ≡ []
 unfolding flat
 read-none ys h = rw (read-over (length ys) h)
 
@@ -72,11 +73,11 @@ whole : (ys : List Station) → wholeStations (flat ys) ≡ true
 unfolding wholeStations
 whole ys = eq-eqb (length (flat ys) % 4) 0 (omega (arith, flat-length ys))
 
-too-many : (ys : List Station) → 32 < length ys → countFits (length (flat ys) / 4) ≡ false
-too-many ys h = let g : 32 < length (flat ys) / 4 = omega (arith, flat-length ys) in rw (lt-leb (length (flat ys) / 4) 32 g, le-leb 1 (length (flat ys) / 4) (omega arith))
+too-many : (ys : List Station) → mostStations < length ys → countFits (length (flat ys) / 4) ≡ false
+too-many ys h = let g : mostStations < length (flat ys) / 4 = omega (arith, flat-length ys) in rw (lt-leb (length (flat ys) / 4) mostStations g, le-leb 1 (length (flat ys) / 4) (omega arith))
 
 -- "1 | open | station count … outside the rules"
-pub too-long : (ys : List Station) → 32 < length ys → opens (flat ys) ≡ false
+pub too-long : (ys : List Station) → mostStations < length ys → opens (flat ys) ≡ false
 unfolding opens
 too-long ys h = rw (whole ys, too-many ys h)
 
@@ -89,11 +90,11 @@ abbrev pub Opened : List ℤ → Edited → Type 0
 Opened list e = (e ≡ opening list) × (opens list ≡ true → sound (e .book) ≡ true)
 
 pub read-opened : (ys : List Station) (e : Edited) → Opened (flat (take (readCount (length ys)) ys)) e → Opened (flat ys) e
-read-opened ys e o = by-test (decLe (length ys) 32)
+read-opened ys e o = by-test (decLe (length ys) mostStations)
   where
-    by-test : Dec (length ys ≤ 32) → Opened (flat ys) e
+    by-test : Dec (length ys ≤ mostStations) → Opened (flat ys) e
     by-test (yes p) = subst (λ (zs : List Station). Opened (flat zs) e) (read-all ys p) o
     by-test (no p) =
-        let h : 32 < length ys = omega arith in
+        let h : mostStations < length ys = omega arith in
         let n : Opened [] e = subst (λ (l : List ℤ). Opened l e) (read-none ys h) o in
         (n .0 ∙ rw (no-stations, too-long ys h), λ t. cc (too-long ys h))

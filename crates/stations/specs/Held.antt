@@ -9,6 +9,7 @@ use lib.Seq.{getD-append-add}
 use lib.IntN.{pos}
 use Rattle.integers.specs.Tables.{getD-tabulate}
 use Rattle.words.specs.Signed.{indexIn}
+use Rattle.network.specs.Units.{mostStations}
 use Rattle.network.specs.Stations.{blankStation, stationAt, kindAt, kindOf, stationIn, networkOf, opens}
 use Rattle.network.specs.declared.Kind.{Kind}
 use Rattle.network.specs.declared.Kind.the-variants.{Known, Free, Height}
@@ -33,12 +34,12 @@ flat-back (x ∷ xs) (suc s) =
 -- the book that a lent list opens: as many stations, and those of the list
 pub record HoldsStations (ys : List Station) : Type 0 where
   pub count : opening (flat ys) .book .network .count ≡ length ys
-  pub stations : (s : ℕ) → s < 32 → stationAt (opening (flat ys) .book .network .stations) s ≡ getD ys s blankStation
+  pub stations : (s : ℕ) → s < mostStations → stationAt (opening (flat ys) .book .network .stations) s ≡ getD ys s blankStation
 
 pub holds-stations : (ys : List Station) → opens (flat ys) ≡ true → HoldsStations ys
 unfolding networkOf
 holds-stations ys e =
     record {
       count = rw e (omega (arith, flat-length ys));
-      stations = λ s h. rw e (getD-tabulate 32 (stationIn (flat ys)) s blankStation h ∙ flat-back ys s);
+      stations = λ s h. rw e (getD-tabulate mostStations (stationIn (flat ys)) s blankStation h ∙ flat-back ys s);
     }

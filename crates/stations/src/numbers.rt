@@ -9,6 +9,7 @@ ghost use mathlib.Core.List.{_++_};
 ghost use Prim.Native.Nat.{_+_, _*_, _<_};
 ghost use lib.IntN.{pos};
 ghost use lib.ListN.{take, replicate};
+ghost use Rattle.network.specs.Units.{mostStations};
 ghost use Rattle.network.specs.Stations.{opens};
 ghost use Rattle.book.specs.Book.{opening, sound};
 ghost use Rattle.network.specs.StationWords.{stationWords};
@@ -30,7 +31,7 @@ pub(crate) fn zeros() -> [i64; 128]
 
 // The station's four numbers after those of the i stations before it; what stands beyond them is free.
 pub(crate) fn put(out: [i64; 128], i: usize, s: Station) -> [i64; 128]
-    requires { ⌜ i < 32 ⌝ }
+    requires { ⌜ i < mostStations ⌝ }
     ensures { λ r. ⌜ take ((i + 1) * 4) r ≡ take (i * 4) out ++ stationWords s ⌝ }
 {
     let mut w = out;
