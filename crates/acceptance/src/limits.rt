@@ -1,4 +1,4 @@
-// Document 01's S and the limits of its tests.
+// The limits of document 01's tests.
 
 // Test 3: |x| ≤ 100,000.
 pub const CORRECTION: u64 = 100_000;

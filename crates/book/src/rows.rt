@@ -15,7 +15,7 @@ ghost use Rattle.book.specs.Rows.{rowLength, rowOf, rowIn};
 ghost use Rattle.book.specs.Replay.{Answers, Ran, Replayed};
 
 // The words in a row.
-const ROW: usize = 14;
+const ROW_LENGTH: usize = 14;
 
 // The row of this number, place and record.
 fn row_of(kind: usize, place: i64, entry: Record) -> Row
@@ -71,7 +71,7 @@ fn run(book: Book, calls: &[i64], answers: &mut [i64], n: usize) -> Book
     let mut state = book;
     let mut k: usize = 0;
     while k < n {
-        let row = row_in(calls, k * ROW);
+        let row = row_in(calls, k * ROW_LENGTH);
         let a = answer(state, row);
         let said = a.answer;
         answers[k] = said;
@@ -97,7 +97,7 @@ pub fn replay(list: &[i64], calls: &[i64], answers: &mut [i64]) -> Edited
     if refusal != 0 {
         return opened;
     }
-    let n = least(calls.len() / ROW, answers.len());
+    let n = least(calls.len() / ROW_LENGTH, answers.len());
     let book = opened.book;
     let left = run(book, calls, answers, n);
     Edited {

@@ -16,7 +16,7 @@ ghost use Rattle.cases.specs.Cases.{CallsMade, CaseRan, caseAt, enough};
 ghost use Rattle.cases.specs.Script.{callAt, rowsFrom};
 
 // The stations: kind, E, N, U.
-const STATIONS: [i64; 8] = [1, 0, 0, 100000, 3, 0, 0, 101000];
+const STATION_LIST: [i64; 8] = [1, 0, 0, 100000, 3, 0, 0, 101000];
 
 // The calls of the cases by their numbers in `call_at`. Cases that begin alike share them: case k has COUNTS[k] of them, from STARTS[k] on.
 const CALLS: [usize; 20] = [0, 1, 2, 3, 0, 4, 0, 5, 0, 1, 6, 0, 1, 7, 0, 1, 8, 0, 1, 9];
@@ -77,7 +77,7 @@ fn call_at(c: usize) -> Call
 fn opened() -> Book
     ensures { λ b. ⌜ (b ≡ openedBook (networkOf stationList)) × (sound b ≡ true) ⌝ }
 {
-    let stations = STATIONS;
+    let stations = STATION_LIST;
     let e = Book::open(&stations);
     let book = e.book;
     book

@@ -15,7 +15,13 @@ ghost use Rattle.distances.specs.Distances.{square, distanceInRange, agr
 ghost use Rattle.distances.specs.Coordinates.{separationIn, squaredDistanceIn};
 
 // The difference of the adjusted coordinates in component c, station t minus station f, both counted from 0.
-fn separation(coordinate: &[i64; Unit::COMPONENTS], correction: &[i64; Unit::COMPONENTS], f: usize, t: usize, c: usize) -> i64
+fn separation(
+    coordinate: &[i64; Unit::COMPONENTS],
+    correction: &[i64; Unit::COMPONENTS],
+    f: usize,
+    t: usize,
+    c: usize,
+) -> i64
     requires { ⌜ (f < mostStations) × (t < mostStations) × (c < 3) × Within mostComponents mostCoordinate (now coordinate) × Within mostComponents 100000 (now correction) ⌝ }
     ensures { λ r. ⌜ (r ≡ separationIn (now (coordinate .entry)) (now (correction .entry)) f t c) × (natAbs r ≤ 1000200000) ⌝ }
 {

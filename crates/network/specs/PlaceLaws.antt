@@ -1,18 +1,18 @@
 -- Words that are those of the records, place by place, give these places. Assumes nothing.
 use Prim.Native.Nat.{ℕ, _+_, _*_, _<_, _≤_}
-use mathlib.Core.Path.{_≡_, refl, sym, ap, _∙_}
+use mathlib.Core.Path.{_≡_, sym, ap, _∙_}
 use mathlib.Core.List.{List}
 use native.Mathlib.Decide.{ℕ-discrete}
 use native.Mathlib.Omega.{arith}
-use lib.ListN.{length, getD}
-use lib.IntN.{ℤ, pos}
-use Rattle.integers.specs.Tables.{tabulate, is-tabulate}
+use lib.ListN.{length}
+use lib.IntN.{ℤ}
+use Rattle.integers.specs.Tables.{is-tabulate}
 use Rattle.lists.specs.Pasted.{pasted, pasted-before, pasted-within}
 use Rattle.network.specs.Units.{placeCount}
 use Rattle.network.specs.Records.{recordAt, vacant}
 use Rattle.network.specs.RecordWords.{recordLength, recordWords, recordIn}
 use Rattle.network.specs.RecordWordLaws.{length-record, record-moved, record-back}
-use Rattle.network.specs.Places.{placesLength, placesIn, length-places, record-in-place}
+use Rattle.network.specs.Places.{placesLength, placesIn}
 use Rattle.network.specs.declared.Place.{Place}
 use Rattle.network.specs.declared.Record.{Record}
 

@@ -1,9 +1,9 @@
 -- The places of a book in words: 256 records of 14 words, one after the other. Code that goes over the places is lent such words, and reads one record at a time. Assumes nothing.
-use Prim.Native.Nat.{ℕ, _*_, _<_, _≤_}
-use mathlib.Core.Path.{_≡_, ap, _∙_}
+use Prim.Native.Nat.{ℕ, _*_, _<_}
+use mathlib.Core.Path.{_≡_, ap}
 use mathlib.Core.List.{List}
-use lib.ListN.{length, getD}
-use lib.IntN.{ℤ, pos}
+use lib.ListN.{length}
+use lib.IntN.{ℤ}
 use Rattle.integers.specs.Tables.{tabulate, getD-tabulate, length-tabulate}
 use Rattle.network.specs.Units.{placeCount}
 use Rattle.network.specs.Records.{recordAt, vacant}

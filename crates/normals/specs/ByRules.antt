@@ -1,14 +1,12 @@
 -- Records by the rules: what every law and contract of this crate asks. Assumes nothing.
 use Prim.Native.Nat.{ℕ, _<_}
-use mathlib.Core.Path.{_≡_, sym, ap, _∙_, subst}
+use mathlib.Core.Path.{_≡_}
 use mathlib.Core.Bool.{true}
 use mathlib.Core.List.{List}
-use native.Mathlib.Decide.{ℕ-discrete}
-use lib.ListN.{length, set}
-use lib.Seq.{getD-set-same, getD-set-other}
+use lib.ListN.{set}
 use Rattle.network.specs.Units.{placeCount}
 use Rattle.network.specs.Stations.{networkFits}
-use Rattle.network.specs.Records.{recordAt, vacant}
+use Rattle.network.specs.Records.{recordAt}
 use Rattle.network.specs.Rules.{recordFits}
 use Rattle.network.specs.RuleLaws.{SoundRecord, sound-record}
 use Rattle.network.specs.declared.Network.{Network}

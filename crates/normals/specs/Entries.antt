@@ -5,13 +5,13 @@ use mathlib.Core.List.{List}
 use native.Mathlib.Omega.{arith}
 use lib.ListN.{length, getD}
 use lib.IntN.{pos}
-use Rattle.integers.specs.Tables.{length-tabulate, getD-tabulate, Within, within-tabulate}
+use Rattle.integers.specs.Tables.{getD-tabulate, Within, within-tabulate}
 use Rattle.network.specs.Units.{mostUnknowns}
 use Rattle.network.specs.declared.Network.{Network}
 use Rattle.network.specs.declared.Station.{Station}
 use Rattle.network.specs.declared.Place.{Place}
 use Rattle.normals.specs.declared.Normals.{Normals}
-use Rattle.normals.specs.Formulas.{entryN, entryU, matrixOf, rightOf, normalsOf, matrixLength}
+use Rattle.normals.specs.Formulas.{entryN, entryU, matrixOf, rightOf, matrixLength}
 use Rattle.normals.specs.ByRules.{ByRules}
 use Rattle.normals.specs.Sizes.{N-entry, u-entry}
 

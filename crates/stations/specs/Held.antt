@@ -10,12 +10,11 @@ use lib.IntN.{pos}
 use Rattle.integers.specs.Tables.{getD-tabulate}
 use Rattle.words.specs.Signed.{indexIn}
 use Rattle.network.specs.Units.{mostStations}
-use Rattle.network.specs.Stations.{blankStation, stationAt, kindAt, kindOf, stationIn, networkOf, opens}
+use Rattle.network.specs.Stations.{blankStation, stationAt, kindAt, stationIn, networkOf, opens}
 use Rattle.network.specs.declared.Kind.{Kind}
-use Rattle.network.specs.declared.Kind.the-variants.{Known, Free, Height}
 use Rattle.network.specs.declared.Station.{Station}
 use Rattle.book.specs.Book.{opening}
-use Rattle.network.specs.StationWords.{kindWord, stationWords, flat, kind-back, flat-length}
+use Rattle.network.specs.StationWords.{stationWords, flat, kind-back, flat-length}
 
 -- the numbers of the stations after the first
 after : (x : Station) (xs : List Station) (i j : ℕ) → j ≡ 4 + i → getD (flat (x ∷ xs)) j (pos 0) ≡ getD (flat xs) i (pos 0)
