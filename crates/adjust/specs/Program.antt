@@ -11,7 +11,7 @@ use lib.Signed.{ltZ}
 use lib.ListN.{length, take}
 use lib.IntN.{ℤ, pos}
 use Rattle.io.specs.Counts.{clamped}
-use Rattle.text.specs.Lines.{Kept, blank, concat}
+use Rattle.text.specs.Lines.{KeptLine, nothingHeld, concat}
 use Rattle.printing.specs.Rooms.{lineRoom}
 use Rattle.input_lines.specs.Runs.{ended, Run, start}
 use Rattle.adjustment.specs.Chunks.{Takes}
@@ -40,23 +40,23 @@ readGave answer chunk = take (clamped answer (length chunk)) chunk
 -- in each case there are chunks ss, taken one after the other, whose lines print t: a chunk is what a turn found in its buffer, and t what the turns left at the front of `out`
 pub data ProgramEnds : Finish → List ℕ → List ℕ → Type 0 where
   -- the input has ended: the front of `out` is what the end prints after them, and with t it is the print of their text
-  printed :
-      {ss : List (List ℕ)} {t before chunk out : List ℕ} {r : Run} {k : Kept} {n : ℕ} →
-      ChunksTaken start blank ss t r k →
+  ends-printed :
+      {ss : List (List ℕ)} {t before chunk out : List ℕ} {r : Run} {k : KeptLine} {n : ℕ} →
+      ChunksTaken start nothingHeld ss t r k →
       isEnded (r .phase) ≡ false →
       Concludes r k before n out →
       Prints (concat ss) (t ++ take n out) →
       ProgramEnds Printed chunk out
   -- the opening was refused at a line of one chunk more, the front of `chunk`: the front of `out` is what its lines print, and with t it is the print of their text, whatever would have come after it
-  refused :
-      {ss : List (List ℕ)} {t before chunk out : List ℕ} {r r₁ : Run} {k k₁ : Kept} {n : ℕ} (answer : ℤ) →
-      ChunksTaken start blank ss t r k →
+  ends-refused :
+      {ss : List (List ℕ)} {t before chunk out : List ℕ} {r r₁ : Run} {k k₁ : KeptLine} {n : ℕ} (answer : ℤ) →
+      ChunksTaken start nothingHeld ss t r k →
       isEnded (r .phase) ≡ false →
       Takes r k (readGave answer chunk) before r₁ k₁ n out →
       r₁ .phase ≡ ended →
       ((rest : List (List ℕ)) → Prints (concat ((ss ++ (readGave answer chunk ∷ [])) ++ rest)) (t ++ take n out)) →
       ProgramEnds Refused chunk out
   -- the next read failed: nothing is printed after t, no end and no sheet
-  unread : {ss : List (List ℕ)} {t chunk out : List ℕ} {r : Run} {k : Kept} → ChunksTaken start blank ss t r k → ProgramEnds Unread chunk out
+  ends-unread : {ss : List (List ℕ)} {t chunk out : List ℕ} {r : Run} {k : KeptLine} → ChunksTaken start nothingHeld ss t r k → ProgramEnds Unread chunk out
   -- the output took no more
-  unwritten : {ss : List (List ℕ)} {t chunk out : List ℕ} {r : Run} {k : Kept} → ChunksTaken start blank ss t r k → ProgramEnds Unwritten chunk out
+  ends-unwritten : {ss : List (List ℕ)} {t chunk out : List ℕ} {r : Run} {k : KeptLine} → ChunksTaken start nothingHeld ss t r k → ProgramEnds Unwritten chunk out

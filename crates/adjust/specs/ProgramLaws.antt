@@ -7,7 +7,7 @@ use native.Mathlib.Omega.{arith}
 use lib.ListN.{length, length-take}
 use lib.IntN.{ℤ}
 use Rattle.io.specs.Counts.{clamped}
-use Rattle.text.specs.Lines.{Kept, blank}
+use Rattle.text.specs.Lines.{KeptLine, nothingHeld}
 use Rattle.input_lines.specs.Runs.{Phase, unopened, opened, ended, Run, start}
 use Rattle.night_print.specs.declared.Progress.{Progress}
 use Rattle.night_print.specs.declared.Progress.the-variants as progress
@@ -17,16 +17,16 @@ use Rattle.night_print.specs.Steps.{isEnded, Steps}
 use Rattle.night_print.specs.StepLaws.{differ}
 use Rattle.night_print.specs.Whole.{ChunksTaken, no-more, chunks-more, whole-text, stopped-text}
 use Rattle.adjust.specs.declared.Finish.the-variants.{Printed, Refused, Unread, Unwritten}
-use Rattle.adjust.specs.Program.{readGave, ProgramEnds, printed, refused, unread, unwritten}
+use Rattle.adjust.specs.Program.{readGave, ProgramEnds, ends-printed, ends-refused, ends-unread, ends-unwritten}
 
 -- the turns so far have led to the run r, with k held of a line
-pub record Led (r : Run) (k : Kept) : Type 0 where
+pub record Led (r : Run) (k : KeptLine) : Type 0 where
   pub chunks : List (List ℕ)
   pub bytes : List ℕ
-  pub led : ChunksTaken start blank chunks bytes r k
+  pub led : ChunksTaken start nothingHeld chunks bytes r k
   pub going : isEnded (r .phase) ≡ false
 
-pub led-start : {r : Run} {k : Kept} → r ≡ start → k ≡ blank → Led r k
+pub led-start : {r : Run} {k : KeptLine} → r ≡ start → k ≡ nothingHeld → Led r k
 unfolding isEnded
 led-start e b = rw (e, b) (record { chunks = []; bytes = []; led = no-more; going = refl })
 
@@ -41,7 +41,7 @@ ended-is unopened e = differ (cc)
 ended-is (opened b) e = differ (cc)
 ended-is ended e = refl
 
-module _ {r r₁ : Run} {k k₁ : Kept} {failed : Bool} {came before after : List ℕ} {p : Progress} {n : ℕ} (s : Steps r k failed came before p r₁ k₁ n after) where
+module _ {r r₁ : Run} {k k₁ : KeptLine} {failed : Bool} {came before after : List ℕ} {p : Progress} {n : ℕ} (s : Steps r k failed came before p r₁ k₁ n after) where
   pub took : p ≡ progress.Reading → Takes r k came before r₁ k₁ n after × (isEnded (r₁ .phase) ≡ false)
   took e = by failed came refl refl
     where
@@ -88,10 +88,10 @@ module _ {r r₁ : Run} {k k₁ : Kept} {failed : Bool} {came before after : Lis
     led-on e = let t = took e in record { chunks = _; bytes = _; led = chunks-more (l .led) (t .0); going = t .1 }
 
     pub ran-printed : (chunk : List ℕ) → p ≡ progress.Finished → ProgramEnds Printed chunk after
-    ran-printed chunk e = printed (l .led) (l .going) (closed e) (whole-text (l .led) (closed e))
+    ran-printed chunk e = ends-printed (l .led) (l .going) (closed e) (whole-text (l .led) (closed e))
 
 pub ran-refused :
-    {r r₁ : Run} {k k₁ : Kept} {failed : Bool} {chunk before after : List ℕ} {p : Progress} {n : ℕ} (answer : ℤ) →
+    {r r₁ : Run} {k k₁ : KeptLine} {failed : Bool} {chunk before after : List ℕ} {p : Progress} {n : ℕ} (answer : ℤ) →
     Steps r k failed (readGave answer chunk) before p r₁ k₁ n after →
     Led r k →
     p ≡ progress.Refused →
@@ -99,10 +99,10 @@ pub ran-refused :
 ran-refused answer s l e =
     let t = was-ended s e in
     let c = chunks-more (l .led) (t .0) in
-    refused answer (l .led) (l .going) (t .0) (t .1) (λ rest. stopped-text rest c (t .1))
+    ends-refused answer (l .led) (l .going) (t .0) (t .1) (λ rest. stopped-text rest c (t .1))
 
-pub ran-unread : {r : Run} {k : Kept} (chunk out : List ℕ) → Led r k → ProgramEnds Unread chunk out
-ran-unread chunk out l = unread (l .led)
+pub ran-unread : {r : Run} {k : KeptLine} (chunk out : List ℕ) → Led r k → ProgramEnds Unread chunk out
+ran-unread chunk out l = ends-unread (l .led)
 
-pub ran-unwritten : {r : Run} {k : Kept} (chunk out : List ℕ) → Led r k → ProgramEnds Unwritten chunk out
-ran-unwritten chunk out l = unwritten (l .led)
+pub ran-unwritten : {r : Run} {k : KeptLine} (chunk out : List ℕ) → Led r k → ProgramEnds Unwritten chunk out
+ran-unwritten chunk out l = ends-unwritten (l .led)

@@ -9,8 +9,8 @@ ghost use lib.ListN.{length};
 ghost use Rattle.layout.specs.Bytes.{bookOf};
 ghost use Rattle.layout.specs.Layout.{bookBytes};
 ghost use Rattle.text.specs.Lines.{holds};
-ghost use Rattle.commands.specs.Commands.{longestLine};
-ghost use Rattle.input_lines.specs.Runs.{listRoom};
+ghost use Rattle.commands.specs.Commands.{mostCorrections, mostEntries, longestLine};
+ghost use Rattle.input_lines.specs.Runs.{mostLines, listRoom};
 ghost use Rattle.input_lines.specs.States.{runOf, Ready};
 ghost use Rattle.night_print.specs.Steps.{Steps, Continues};
 ghost use Rattle.adjust.specs.Program.{chunkRoom, outRoom, readFailed, readGave, ProgramEnds};
@@ -44,7 +44,7 @@ fn turn(
     out: &mut [u8],
 ) -> Stepped
     requires { ⌜ Ready (taken .state) (now book) (now list) (now x) (now m) ⌝ }
-    requires { ⌜ (length (now line) ≡ longestLine) × (taken .len ≤ longestLine) × (taken .state .lines + chunkRoom + 1 < 18446744073709551616) × (length (now chunk) ≡ chunkRoom) × (outRoom ≤ length (now out)) ⌝ }
+    requires { ⌜ (length (now line) ≡ longestLine) × (taken .len ≤ longestLine) × (taken .state .lines + chunkRoom + 1 ≤ mostLines) × (length (now chunk) ≡ chunkRoom) × (outRoom ≤ length (now out)) ⌝ }
     ensures { λ s. ⌜ Steps (runOf (taken .state) (bookOf (now (book .entry))) (now (list .entry)) (now (x .entry)) (now (m .entry))) (holds (now (line .entry)) (taken .len) (taken .over)) (readFailed (now (answer .exit))) (readGave (now (answer .exit)) (now (chunk .exit))) (now (out .entry)) (s .progress) (runOf (s .taken .state) (bookOf (now (book .exit))) (now (list .exit)) (now (x .exit)) (now (m .exit))) (holds (now (line .exit)) (s .taken .len) (s .taken .over)) (s .printed) (now (out .exit)) ⌝ }
     ensures { λ s. ⌜ Continues taken (readGave (now (answer .exit)) (now (chunk .exit))) (s .progress) (s .taken) (s .printed) (now (book .exit)) (now (list .exit)) (now (x .exit)) (now (m .exit)) (now (out .exit)) ⌝ }
 {
@@ -65,7 +65,7 @@ fn run(
     chunk: &mut [u8],
     out: &mut [u8],
 ) -> Finish
-    requires { ⌜ (length (now line) ≡ longestLine) × (bookBytes ≤ length (now book)) × (listRoom ≤ length (now list)) × (48 ≤ length (now x)) × (2304 ≤ length (now m)) × (length (now chunk) ≡ chunkRoom) × (outRoom ≤ length (now out)) ⌝ }
+    requires { ⌜ (length (now line) ≡ longestLine) × (bookBytes ≤ length (now book)) × (listRoom ≤ length (now list)) × (mostCorrections ≤ length (now x)) × (mostEntries ≤ length (now m)) × (length (now chunk) ≡ chunkRoom) × (outRoom ≤ length (now out)) ⌝ }
     ensures { λ f. ⌜ ProgramEnds f (now (chunk .exit)) (now (out .exit)) ⌝ }
 {
     let mut taken = adjustment::begin();

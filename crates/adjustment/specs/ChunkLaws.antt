@@ -8,7 +8,7 @@ use lib.ListN.{length, take, drop, drop-of-length-le}
 use lib.IntN.{ℤ}
 use Rattle.layout.specs.Bytes.{bookOf}
 use Rattle.text.specs.declared.Fed.{Fed}
-use Rattle.text.specs.Lines.{Kept, blank, inFront, came, holds, Feeds}
+use Rattle.text.specs.Lines.{KeptLine, nothingHeld, inFront, came, holds, Feeds}
 use Rattle.text.specs.LineLaws.{fed-fits, fed-on, fed-line, fed-part}
 use Rattle.commands.specs.Commands.{longestLine}
 use Rattle.printing.specs.Rooms.{lineRoom}
@@ -19,30 +19,30 @@ use Rattle.input_lines.specs.StateLaws.{written-front, written-beyond, drop-fur
 use Rattle.adjustment.specs.Chunks.{Takes, Ahead}
 
 -- ════ the lines of a chunk
-module _ (r₀ : Run) (k₀ : Kept) (chunk before : List ℕ) where
+module _ (r₀ : Run) (k₀ : KeptLine) (chunk before : List ℕ) where
   pub ahead-start : Ahead r₀ k₀ chunk before r₀ k₀ 0 0 before
   ahead-start = record { run = refl; going = refl; printed = refl; beyond = refl }
 
-  module _ {r : Run} {k : Kept} {at p : ℕ} {out : List ℕ} (h : Ahead r₀ k₀ chunk before r k at p out) where
+  module _ {r : Run} {k : KeptLine} {at p : ℕ} {out : List ℕ} (h : Ahead r₀ k₀ chunk before r k at p out) where
     -- a line ended
     pub ahead-line :
-        {line : Kept} {on q : ℕ} {after : List ℕ} (n : Run) →
-        came longestLine k (drop at chunk) ≡ inFront line (came longestLine blank (drop on chunk)) →
+        {line : KeptLine} {on q : ℕ} {after : List ℕ} (n : Run) →
+        came longestLine k (drop at chunk) ≡ inFront line (came longestLine nothingHeld (drop on chunk)) →
         n ≡ next r line →
         take q after ≡ take p out ++ says r line →
         drop q after ≡ drop q before →
-        Ahead r₀ k₀ chunk before n blank on q after
+        Ahead r₀ k₀ chunk before n nothingHeld on q after
     unfolding runAfter saysAll
     ahead-line {line} {on} {q} {after} n c e t d =
         record {
           run = rw e (rw c at (h .run));
           going = rw c at (h .going);
-          printed = rw (t, e) (append-assoc (take p out) (says r line) (saysAll (next r line) (came longestLine blank (drop on chunk) .ended)) ∙ (rw c at (h .printed)));
+          printed = rw (t, e) (append-assoc (take p out) (says r line) (saysAll (next r line) (came longestLine nothingHeld (drop on chunk) .ended)) ∙ (rw c at (h .printed)));
           beyond = d;
         }
 
     -- the chunk ends
-    pub ahead-part : {line : Kept} → came longestLine k (drop at chunk) ≡ record { ended = []; going = line } → Takes r₀ k₀ chunk before r line p out
+    pub ahead-part : {line : KeptLine} → came longestLine k (drop at chunk) ≡ record { ended = []; going = line } → Takes r₀ k₀ chunk before r line p out
     unfolding runAfter saysAll
     ahead-part {line} c =
         record {
@@ -96,7 +96,7 @@ module _ {s₀ : State} {bytes₀ : List ℕ} {list₀ x₀ m₀ : List ℤ} {li
     fits = omega (arith, h .len-fits, h .line-long)
 
     pub middle-line :
-        {fed : Fed} {line′ : List ℕ} (k : Kept) {s′ : State} {bytes′ : List ℕ} {list′ x′ m′ : List ℤ} {q : ℕ} {out′ : List ℕ} →
+        {fed : Fed} {line′ : List ℕ} (k : KeptLine) {s′ : State} {bytes′ : List ℕ} {list′ x′ m′ : List ℤ} {q : ℕ} {out′ : List ℕ} →
         Feeds line len over chunk at fed line′ →
         fed .whole ≡ true →
         length line′ ≡ length line →

@@ -13,7 +13,7 @@ use Rattle.layout.specs.Bytes.{bookOf}
 use Rattle.lent_edits.specs.LentEdits.{Opens}
 use Rattle.text.specs.Writing.{Written, written-as, nothing}
 use Rattle.printing.specs.Rooms.{sheetRoom}
-use Rattle.printing.specs.Messages.{refused}
+use Rattle.printing.specs.Messages.{refusedText}
 use Rattle.printing.specs.Reports.{checkSays, Offer, offerSays, no-pair}
 use Rattle.printing.specs.Reports as reports
 use Rattle.input_lines.specs.declared.Phase as code-phase
@@ -22,13 +22,13 @@ use Rattle.input_lines.specs.declared.Given as code-given
 use Rattle.input_lines.specs.declared.Given.the-variants as code
 use Rattle.input_lines.specs.declared.State.{State}
 use Rattle.input_lines.specs.Runs.{Phase, opened, ended, phaseWith, phaseOpened, openingSays}
-use Rattle.input_lines.specs.States.{phaseOf, givenOf, isGiven, countOf, runOf, openedPhase, endedPhase}
+use Rattle.input_lines.specs.States.{phaseOf, givenOf, isGiven, givenLength, runOf, openedPhase, endedPhase}
 use Rattle.adjustment.specs.Ends.{bookEnds, phaseEnds, endSays, BookEnds, RunEnds}
 
 -- ════ a book
 module _ (b : Book) (x m : List ℤ) where
-  pub ends-check : (g h : code-given.Given) → (isGiven g || isGiven h) ≡ true → checkSays b (take (countOf g) x) (take (countOf h) m) ≡ bookEnds (givenOf g x) (givenOf h m) b reports.none
-  unfolding isGiven countOf givenOf bookEnds
+  pub ends-check : (g h : code-given.Given) → (isGiven g || isGiven h) ≡ true → checkSays b (take (givenLength g) x) (take (givenLength h) m) ≡ bookEnds (givenOf g x) (givenOf h m) b reports.none
+  unfolding isGiven givenLength givenOf bookEnds
   ends-check code.Nothing code.Nothing e = let z : false ≡ true = e in cc
   ends-check code.Nothing (code.Numbers n) e = refl
   ends-check (code.Numbers k) code.Nothing e = refl
@@ -94,14 +94,14 @@ module _ (s : State) (b : Book) (list x m : List ℤ) (out : List ℕ) where
     fresh-phase : number ≡ 0 → phaseWith (book.opening (take (s .words) list)) ≡ opened (bookOf bytes)
     fresh-phase q = rw (← o .number, eq-eqb number 0 q, o .reads q)
 
-    pub end-refused : {n : ℕ} {after : List ℕ} → (number ≡ 0 → ⊥) → Written out 0 (refused number) n after → n ≤ sheetRoom → RunEnds (runOf s b list x m) out n after
+    pub end-refused : {n : ℕ} {after : List ℕ} → (number ≡ 0 → ⊥) → Written out 0 (refusedText number) n after → n ≤ sheetRoom → RunEnds (runOf s b list x m) out n after
     unfolding endSays openingSays phaseEnds phaseOf phaseOpened
     end-refused q w k =
         rw u
         (record {
           offer = reports.none;
           offers = λ c r. no-pair;
-          written = rw (refused-phase q, ← o .number, ne-eqb number 0 q) (written-as (sym (append-nil (refused number))) w);
+          written = rw (refused-phase q, ← o .number, ne-eqb number 0 q) (written-as (sym (append-nil (refusedText number))) w);
           small = k;
         })
 

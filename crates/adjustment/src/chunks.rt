@@ -12,6 +12,7 @@ ghost use Rattle.text.specs.Lines.{holds};
 ghost use Rattle.commands.specs.Commands.{longestLine};
 ghost use Rattle.printing.specs.Rooms.{lineRoom};
 ghost use Rattle.input_lines.specs.States.{runOf, Ready};
+ghost use Rattle.input_lines.specs.Runs.{mostLines};
 ghost use Rattle.adjustment.specs.Chunks.{Takes, Begun};
 
 // A run before its first byte.
@@ -47,7 +48,7 @@ pub fn take_chunk(
     out: &mut [u8],
 ) -> Taken
     requires { ⌜ Ready (taken .state) (now book) (now list) (now x) (now m) ⌝ }
-    requires { ⌜ (length (now line) ≡ longestLine) × (taken .len ≤ longestLine) × (taken .state .lines + length (now chunk) < 18446744073709551616) × (lineRoom * length (now chunk) ≤ length (now out)) ⌝ }
+    requires { ⌜ (length (now line) ≡ longestLine) × (taken .len ≤ longestLine) × (taken .state .lines + length (now chunk) ≤ mostLines) × (lineRoom * length (now chunk) ≤ length (now out)) ⌝ }
     ensures { λ t. ⌜ Takes (runOf (taken .state) (bookOf (now (book .entry))) (now (list .entry)) (now (x .entry)) (now (m .entry))) (holds (now (line .entry)) (taken .len) (taken .over)) (now (chunk .entry)) (now (out .entry)) (runOf (t .state) (bookOf (now (book .exit))) (now (list .exit)) (now (x .exit)) (now (m .exit))) (holds (now (line .exit)) (t .len) (t .over)) (t .printed) (now (out .exit)) ⌝ }
     ensures { λ t. ⌜ Ready (t .state) (now (book .exit)) (now (list .exit)) (now (x .exit)) (now (m .exit)) × (t .len ≤ longestLine) × (t .state .lines ≤ taken .state .lines + length (now (chunk .entry))) × (t .printed ≤ lineRoom * length (now (chunk .entry))) ⌝ }
 {

@@ -7,11 +7,11 @@ ghost use Prim.Native.Nat.{_≤_};
 ghost use lib.ListN.{length};
 ghost use Rattle.layout.specs.Bytes.{bookOf, bytesFit};
 ghost use Rattle.printing.specs.Rooms.{sheetRoom};
-ghost use Rattle.input_lines.specs.States.{countOf, givenOf, isGiven, runOf, Ready};
+ghost use Rattle.input_lines.specs.States.{givenLength, givenOf, isGiven, runOf, Ready};
 ghost use Rattle.adjustment.specs.Ends.{BookEnds, RunEnds};
 
 fn count(given: Given) -> usize
-    ensures { λ r. ⌜ r ≡ countOf given ⌝ }
+    ensures { λ r. ⌜ r ≡ givenLength given ⌝ }
 {
     match given {
         Given::Nothing => 0,
@@ -37,7 +37,7 @@ fn conclude(
     x: &[i64],
     m: &[i64],
 ) -> usize
-    requires { ⌜ (bytesFit (now book) ≡ true) × (countOf corrections ≤ length (now x)) × (countOf matrix ≤ length (now m)) × (sheetRoom ≤ length (now out)) ⌝ }
+    requires { ⌜ (bytesFit (now book) ≡ true) × (givenLength corrections ≤ length (now x)) × (givenLength matrix ≤ length (now m)) × (sheetRoom ≤ length (now out)) ⌝ }
     ensures { λ r. ⌜ BookEnds (givenOf corrections (now (x .entry))) (givenOf matrix (now (m .entry))) (bookOf (now (book .entry))) (now (out .entry)) r (now (out .exit)) ⌝ }
 {
     if is_given(corrections) | is_given(matrix) {

@@ -20,8 +20,8 @@ use Rattle.network.specs.declared.Kind.{Kind}
 use Rattle.network.specs.declared.Record.{Record}
 use Rattle.book.specs.declared.Change.the-variants.{Add, Replace}
 use Rattle.book.specs.declared.Call.the-variants.{Edit, Undo}
-use Rattle.text.specs.Numbers.{numberOf}
-use Rattle.text.specs.Fields.{firstField, restFields, letterOf, Numbers, numbers, unreadable, numbersOf, atMost, countOf, storedIn, Stored}
+use Rattle.text.specs.Numbers.{numberIn}
+use Rattle.text.specs.Fields.{firstField, restFields, letterOf, FieldNumbers, numbers, unreadable, numbersIn, atMost, countOf, storedIn, Stored}
 use Rattle.text.specs.FieldLaws.{first-and-rest, no-rest, some-rest, fields-more, letter-cut}
 use Rattle.text.specs.Lines.{kept}
 use Rattle.text.specs.declared.Number.{Number}
@@ -32,7 +32,7 @@ use Rattle.commands.specs.declared.Entry.{Entry}
 use Rattle.commands.specs.declared.Entry.the-variants as entry
 use Rattle.commands.specs.declared.Command.{Command}
 use Rattle.commands.specs.declared.Command.the-variants.{Call, Corrections, Matrix, Unreadable}
-use Rattle.commands.specs.Commands.{letter-S, letter-X, letter-M, longestLine, exactly, levelEntry, entryOf, added, replaced, replaceOf, undoOf, counted, correctionsIn, matrixIn, stationWith, kindOf, inTurn, stationOf, otherOf, fieldsCommand, letterIn, commandOf, isStationLine, keptCommand, correctionsAfter, matrixAfter, Obeys}
+use Rattle.commands.specs.Commands.{letter-S, letter-X, letter-M, longestLine, exactly, levelEntry, entryOf, added, replaced, replaceOf, undoOf, countedAs, correctionsIn, matrixIn, stationWith, stationOfKind, numberedInTurn, stationOf, otherOf, fieldsCommand, letterIn, commandOf, isStationLine, keptCommand, correctionsAfter, matrixAfter, Obeys}
 
 -- all of a list is stored over
 sets-all : (out vs : List ℤ) → length vs ≡ length out → sets out 0 vs ≡ vs
@@ -41,7 +41,7 @@ sets-all out vs e =
     ∙ ap (λ (l : List ℤ). vs ++ l) (drop-of-length-le out {i = 0 + length vs} (omega arith))
     ∙ append-nil vs
 
-module _ {A : Type 0} (k : ℕ) (other : A) (f : (ℕ → ℤ) → A) (out : List ℤ) (ns : Numbers) (r : Count) (after : List ℤ) (s : Stored out (atMost k ns) r after) where
+module _ {A : Type 0} (k : ℕ) (other : A) (f : (ℕ → ℤ) → A) (out : List ℤ) (ns : FieldNumbers) (r : Count) (after : List ℤ) (s : Stored out (atMost k ns) r after) where
   pub exactly-none : r ≡ count.Unreadable → other ≡ exactly k other f ns
   unfolding exactly atMost countOf
   exactly-none e = by ns (sym e ∙ s .counts)
@@ -50,14 +50,14 @@ module _ {A : Type 0} (k : ℕ) (other : A) (f : (ℕ → ℤ) → A) (out : Lis
       some vs true h c = cc
       some vs false h c = rw (ne-eqb (length vs) k (λ q. omega (arith, leb-false (length vs) k h)))
 
-      by : (ns : Numbers) → count.Unreadable ≡ countOf (atMost k ns) → other ≡ exactly k other f ns
+      by : (ns : FieldNumbers) → count.Unreadable ≡ countOf (atMost k ns) → other ≡ exactly k other f ns
       by unreadable c = refl
       by (numbers vs) c = some vs (leb (length vs) k) refl c
 
   -- n of them were read: these are after's first
   read-all : (n : ℕ) → r ≡ count.Numbers n → (vs : List ℤ) → ns ≡ numbers vs → (length vs ≡ n) × (after ≡ sets out 0 vs)
   unfolding atMost countOf storedIn
-  read-all n e vs q = by (leb (length vs) k) (sym e ∙ s .counts ∙ ap (λ (x : Numbers). countOf (atMost k x)) q) (s .stores ∙ ap (λ (x : Numbers). storedIn out (atMost k x)) q)
+  read-all n e vs q = by (leb (length vs) k) (sym e ∙ s .counts ∙ ap (λ (x : FieldNumbers). countOf (atMost k x)) q) (s .stores ∙ ap (λ (x : FieldNumbers). storedIn out (atMost k x)) q)
     where
       by : (t : Bool) → count.Numbers n ≡ countOf (cond t (numbers vs) unreadable) → after ≡ storedIn out (cond t (numbers vs) unreadable) → (length vs ≡ n) × (after ≡ sets out 0 vs)
       by true c w = (cc, w)
@@ -67,7 +67,7 @@ module _ {A : Type 0} (k : ℕ) (other : A) (f : (ℕ → ℤ) → A) (out : Lis
   unfolding exactly
   exactly-other n e q = by ns (read-all n e)
     where
-      by : (ns : Numbers) → ((vs : List ℤ) → ns ≡ numbers vs → (length vs ≡ n) × (after ≡ sets out 0 vs)) → other ≡ exactly k other f ns
+      by : (ns : FieldNumbers) → ((vs : List ℤ) → ns ≡ numbers vs → (length vs ≡ n) × (after ≡ sets out 0 vs)) → other ≡ exactly k other f ns
       by unreadable all = refl
       by (numbers vs) all = rw (ne-eqb (length vs) k (λ p. q (omega (arith, all vs refl .0))))
 
@@ -76,7 +76,7 @@ module _ {A : Type 0} (k : ℕ) (other : A) (f : (ℕ → ℤ) → A) (out : Lis
   exactly-all n e q room = by ns (read-all n e) (sym e ∙ s .counts)
     where
       by :
-          (ns : Numbers) →
+          (ns : FieldNumbers) →
           ((vs : List ℤ) → ns ≡ numbers vs → (length vs ≡ n) × (after ≡ sets out 0 vs)) →
           count.Numbers n ≡ countOf (atMost k ns) →
           f (λ i. getD after i (pos 0)) ≡ exactly k other f ns
@@ -159,23 +159,23 @@ module _ (s : List ℕ) (e : ℕ) (is : e ≡ 0 + length (firstField s)) where
       both : f < length s → restFields s ≡ take (f - (e + 1)) (drop (e + 1) s) ∷ firstField (drop (f + 1) s) ∷ restFields (drop (f + 1) s)
       both g = some-rest s 0 e is h ∙ fields-more s (e + 1) f next g ∙ rw (first-and-rest (drop (f + 1) s))
 
-      module _ (g : f < length s) (r : Number) (reads : r ≡ numberOf (take (f - (e + 1)) (drop (e + 1) s))) where
-        pub station-wrong : inTurn read r ≡ false → Unreadable ≡ stationOf read (restFields s)
+      module _ (g : f < length s) (r : Number) (reads : r ≡ numberIn (take (f - (e + 1)) (drop (e + 1) s))) where
+        pub station-wrong : numberedInTurn read r ≡ false → Unreadable ≡ stationOf read (restFields s)
         unfolding stationOf
         station-wrong t = rw (both g, ← reads, t)
 
         pub station-turn :
-            inTurn read r ≡ true →
-            kindOf (letterOf (firstField (drop (f + 1) s))) (numbersOf (restFields (drop (f + 1) s))) ≡ stationOf read (restFields s)
+            numberedInTurn read r ≡ true →
+            stationOfKind (letterOf (firstField (drop (f + 1) s))) (numbersIn (restFields (drop (f + 1) s))) ≡ stationOf read (restFields s)
         unfolding stationOf
         station-turn t = rw (both g, ← reads, t)
 
-pub turn-none : (read : ℕ) (r : Number) → r ≡ number.Unreadable → inTurn read r ≡ false
-unfolding inTurn
+pub turn-none : (read : ℕ) (r : Number) → r ≡ number.Unreadable → numberedInTurn read r ≡ false
+unfolding numberedInTurn
 turn-none read r e = rw e
 
-pub turn-is : (read : ℕ) (r : Number) (v : ℤ) (t : Bool) → r ≡ number.Value v → t ≡ eqZ v (pos (suc read)) → inTurn read r ≡ t
-unfolding inTurn
+pub turn-is : (read : ℕ) (r : Number) (v : ℤ) (t : Bool) → r ≡ number.Value v → t ≡ eqZ v (pos (suc read)) → numberedInTurn read r ≡ t
+unfolding numberedInTurn
 turn-is read r v t e q = rw (e, q)
 
 -- ════ one more than `read`
@@ -193,20 +193,20 @@ turn-size (pos (suc k)) n m s e q = let j : m - 1 ≡ k = omega arith in rw (j, 
 turn-size (negsuc k) n m s e q = clash refl s
 
 -- ════ X and M
-module _ (make : ℕ → Command) (ns : Numbers) (r : Count) (is : r ≡ countOf ns) where
-  pub counted-none : r ≡ count.Unreadable → Unreadable ≡ counted make ns
-  unfolding counted countOf
+module _ (make : ℕ → Command) (ns : FieldNumbers) (r : Count) (is : r ≡ countOf ns) where
+  pub counted-none : r ≡ count.Unreadable → Unreadable ≡ countedAs make ns
+  unfolding countedAs countOf
   counted-none e = by ns (sym e ∙ is)
     where
-      by : (ns : Numbers) → count.Unreadable ≡ countOf ns → Unreadable ≡ counted make ns
+      by : (ns : FieldNumbers) → count.Unreadable ≡ countOf ns → Unreadable ≡ countedAs make ns
       by unreadable c = refl
       by (numbers vs) c = cc
 
-  pub counted-some : (n : ℕ) → r ≡ count.Numbers n → make n ≡ counted make ns
-  unfolding counted countOf
+  pub counted-some : (n : ℕ) → r ≡ count.Numbers n → make n ≡ countedAs make ns
+  unfolding countedAs countOf
   counted-some n e = by ns (sym e ∙ is)
     where
-      by : (ns : Numbers) → count.Numbers n ≡ countOf ns → make n ≡ counted make ns
+      by : (ns : FieldNumbers) → count.Numbers n ≡ countOf ns → make n ≡ countedAs make ns
       by unreadable c = cc
       by (numbers vs) c = let k : n ≡ length vs = cc in ap make k
 
@@ -239,7 +239,7 @@ module _ (read : ℕ) (unopened : Bool) (line : List ℕ) (over : Bool) (x m : L
     pub obeys-corrections :
         (xs : List ℤ) →
         letter ≡ letter-X →
-        r ≡ counted Corrections (correctionsIn (restFields line)) →
+        r ≡ countedAs Corrections (correctionsIn (restFields line)) →
         xs ≡ storedIn x (correctionsIn (restFields line)) →
         Obeys read unopened (record { text = line; over = over }) x m r xs m
     unfolding keptCommand correctionsAfter matrixAfter fieldsCommand
@@ -253,7 +253,7 @@ module _ (read : ℕ) (unopened : Bool) (line : List ℕ) (over : Bool) (x m : L
     pub obeys-matrix :
         (ms : List ℤ) →
         letter ≡ letter-M →
-        r ≡ counted Matrix (matrixIn (restFields line)) →
+        r ≡ countedAs Matrix (matrixIn (restFields line)) →
         ms ≡ storedIn m (matrixIn (restFields line)) →
         Obeys read unopened (record { text = line; over = over }) x m r x ms
     unfolding keptCommand correctionsAfter matrixAfter fieldsCommand

@@ -1,6 +1,6 @@
 -- A line to a command, in the words of document 01's "The night print". Assumes nothing.
 use mathlib.Core.Path.{_≡_}
-use Prim.Native.Nat.{ℕ, suc}
+use Prim.Native.Nat.{ℕ, suc, _*_}
 use mathlib.Core.Bool.{Bool, cond, false}
 use mathlib.Core.List.{List, [], _∷_}
 use lib.Dec.{ltb, eqb}
@@ -12,9 +12,9 @@ use Rattle.network.specs.declared.Kind.{Kind}
 use Rattle.network.specs.declared.Kind.the-variants as kind
 use Rattle.book.specs.declared.Change.the-variants.{Add, Replace, Strike}
 use Rattle.book.specs.declared.Call.the-variants.{Edit, Undo}
-use Rattle.text.specs.Numbers.{numberOf}
-use Rattle.text.specs.Fields.{firstField, restFields, letterOf, Numbers, numbers, unreadable, numbersOf, atMost, storedIn}
-use Rattle.text.specs.Lines.{Kept}
+use Rattle.text.specs.Numbers.{numberIn}
+use Rattle.text.specs.Fields.{firstField, restFields, letterOf, FieldNumbers, numbers, unreadable, numbersIn, atMost, storedIn}
+use Rattle.text.specs.Lines.{KeptLine}
 use Rattle.text.specs.declared.Number.{Number}
 use Rattle.text.specs.declared.Number.the-variants as number
 use Rattle.commands.specs.declared.Entry.{Entry}
@@ -62,7 +62,7 @@ longestLine = 50000
 
 -- ════ numbers
 -- "A wrong number of fields … makes a line unreadable": f of just k numbers, counted from 0; else `other`
-unfoldable pub exactly : {A : Type 0} → ℕ → A → ((ℕ → ℤ) → A) → Numbers → A
+unfoldable pub exactly : {A : Type 0} → ℕ → A → ((ℕ → ℤ) → A) → FieldNumbers → A
 exactly k other f unreadable = other
 exactly k other f (numbers vs) = cond (eqb (length vs) k) (f (λ i. getD vs i (pos 0))) other
 
@@ -78,8 +78,8 @@ baselineEntry v = entry.Of (v 0) (baselineOf (v 1) (v 2) (v 3 ∷ v 4 ∷ v 5 �
 -- the fields after the letter
 unfoldable pub entryOf : ℕ → List (List ℕ) → Entry
 entryOf letter fields =
-    cond (eqb letter letter-H) (exactly 5 entry.Unreadable levelEntry (numbersOf fields))
-    (cond (eqb letter letter-B) (exactly 12 entry.Unreadable baselineEntry (numbersOf fields)) entry.Unreadable)
+    cond (eqb letter letter-H) (exactly 5 entry.Unreadable levelEntry (numbersIn fields))
+    (cond (eqb letter letter-B) (exactly 12 entry.Unreadable baselineEntry (numbersIn fields)) entry.Unreadable)
 
 -- "H or B adds"
 unfoldable pub added : Entry → Command
@@ -106,52 +106,58 @@ undoOf [] = Call Undo
 undoOf (f ∷ fs) = Unreadable
 
 -- "X gives the corrections, M the matrix by rows": how many there are, where they are readable
-unfoldable pub counted : (ℕ → Command) → Numbers → Command
-counted make unreadable = Unreadable
-counted make (numbers vs) = make (length vs)
+unfoldable pub countedAs : (ℕ → Command) → FieldNumbers → Command
+countedAs make unreadable = Unreadable
+countedAs make (numbers vs) = make (length vs)
 
 -- "over 48 numbers for X or 2,304 for M … makes a line unreadable"
-abbrev pub correctionsIn : List (List ℕ) → Numbers
-correctionsIn fields = atMost 48 (numbersOf fields)
+abbrev pub mostCorrections : ℕ
+mostCorrections = 48
 
-abbrev pub matrixIn : List (List ℕ) → Numbers
-matrixIn fields = atMost 2304 (numbersOf fields)
+abbrev pub mostEntries : ℕ
+mostEntries = mostCorrections * mostCorrections
+
+abbrev pub correctionsIn : List (List ℕ) → FieldNumbers
+correctionsIn fields = atMost mostCorrections (numbersIn fields)
+
+abbrev pub matrixIn : List (List ℕ) → FieldNumbers
+matrixIn fields = atMost mostEntries (numbersIn fields)
 
 -- ════ S: "(K known, F free, V height …)", number, kind and coordinates
 abbrev pub stationWith : Kind → (ℕ → ℤ) → Command
 stationWith k v = Station (record { kind = k; east = v 0; north = v 1; up = v 2 })
 
 -- "of another kind letter is unreadable"
-unfoldable pub kindOf : ℕ → Numbers → Command
-kindOf letter ns =
+unfoldable pub stationOfKind : ℕ → FieldNumbers → Command
+stationOfKind letter ns =
     cond (eqb letter letter-K) (exactly 3 Unreadable (stationWith kind.Known) ns)
     (cond (eqb letter letter-F) (exactly 3 Unreadable (stationWith kind.Free) ns)
     (cond (eqb letter letter-V) (exactly 3 Unreadable (stationWith kind.Height) ns) Unreadable))
 
 -- "not numbered in turn from 1": the number is one more than there were S lines read
-unfoldable pub inTurn : ℕ → Number → Bool
-inTurn read number.Unreadable = false
-inTurn read (number.Value v) = eqZ v (pos (suc read))
+unfoldable pub numberedInTurn : ℕ → Number → Bool
+numberedInTurn read number.Unreadable = false
+numberedInTurn read (number.Value v) = eqZ v (pos (suc read))
 
 unfoldable pub stationOf : ℕ → List (List ℕ) → Command
 stationOf read [] = Unreadable
 stationOf read (n ∷ []) = Unreadable
-stationOf read (n ∷ k ∷ fs) = cond (inTurn read (numberOf n)) (kindOf (letterOf k) (numbersOf fs)) Unreadable
+stationOf read (n ∷ k ∷ fs) = cond (numberedInTurn read (numberIn n)) (stationOfKind (letterOf k) (numbersIn fs)) Unreadable
 
 -- ════ a line
 -- what the first field's letter asks of the others
 unfoldable pub otherOf : ℕ → List (List ℕ) → Command
 otherOf letter fields =
     cond (eqb letter letter-R) (replaceOf fields)
-    (cond (eqb letter letter-D) (exactly 1 Unreadable strikeOf (numbersOf fields))
+    (cond (eqb letter letter-D) (exactly 1 Unreadable strikeOf (numbersIn fields))
     (cond (eqb letter letter-U) (undoOf fields) (added (entryOf letter fields))))
 
 -- "An S line later … is unreadable": `unopened` while the station list may go on
 unfoldable pub fieldsCommand : ℕ → Bool → ℕ → List (List ℕ) → Command
 fieldsCommand read unopened letter fields =
     cond (eqb letter letter-S) (cond unopened (stationOf read fields) Unreadable)
-    (cond (eqb letter letter-X) (counted Corrections (correctionsIn fields))
-    (cond (eqb letter letter-M) (counted Matrix (matrixIn fields)) (otherOf letter fields)))
+    (cond (eqb letter letter-X) (countedAs Corrections (correctionsIn fields))
+    (cond (eqb letter letter-M) (countedAs Matrix (matrixIn fields)) (otherOf letter fields)))
 
 abbrev pub letterIn : List ℕ → ℕ
 letterIn line = letterOf (firstField line)
@@ -166,18 +172,18 @@ abbrev pub isStationLine : List ℕ → Bool
 isStationLine line = eqb (letterIn line) letter-S
 
 -- ════ the same of what is kept of a line, and the numbers that X and M leave
-unfoldable pub keptCommand : ℕ → Bool → Kept → Command
+unfoldable pub keptCommand : ℕ → Bool → KeptLine → Command
 keptCommand read unopened k = cond (k .over) Unreadable (fieldsCommand read unopened (letterIn (k .text)) (restFields (k .text)))
 
 -- "a later one replaces an earlier", from the front; an unreadable line leaves them
-unfoldable pub correctionsAfter : List ℤ → Kept → List ℤ
+unfoldable pub correctionsAfter : List ℤ → KeptLine → List ℤ
 correctionsAfter x k = cond (k .over) x (cond (eqb (letterIn (k .text)) letter-X) (storedIn x (correctionsIn (restFields (k .text)))) x)
 
-unfoldable pub matrixAfter : List ℤ → Kept → List ℤ
+unfoldable pub matrixAfter : List ℤ → KeptLine → List ℤ
 matrixAfter m k = cond (k .over) m (cond (eqb (letterIn (k .text)) letter-M) (storedIn m (matrixIn (restFields (k .text)))) m)
 
 -- what a line asked, and what it left of the corrections and the matrix
-pub record Obeys (read : ℕ) (unopened : Bool) (k : Kept) (x m : List ℤ) (r : Command) (xs ms : List ℤ) : Type 0 where
+pub record Obeys (read : ℕ) (unopened : Bool) (k : KeptLine) (x m : List ℤ) (r : Command) (xs ms : List ℤ) : Type 0 where
   pub asks : r ≡ keptCommand read unopened k
   pub corrections : xs ≡ correctionsAfter x k
   pub matrix : ms ≡ matrixAfter m k

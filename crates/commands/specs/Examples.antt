@@ -9,23 +9,23 @@ use Rattle.network.specs.declared.Record.the-variants as record-of
 use Rattle.book.specs.declared.Change.the-variants.{Add, Replace, Strike}
 use Rattle.book.specs.declared.Call.the-variants.{Edit, Undo}
 use Rattle.text.specs.Before.{before}
-use Rattle.text.specs.Numbers.{allDigits, isDecimal, valueAfter, signedOf, numberOf}
-use Rattle.text.specs.Fields.{fieldsOf, restFields, letterOf, numbersOf, atMost}
-use Rattle.commands.specs.Commands.{exactly, entryOf, added, replaced, replaceOf, undoOf, counted, kindOf, inTurn, stationOf, otherOf, fieldsCommand, commandOf}
+use Rattle.text.specs.Numbers.{allDigits, isDecimal, valueAfter, signedOf, numberIn}
+use Rattle.text.specs.Fields.{fieldsOf, restFields, letterOf, numbersIn, atMost}
+use Rattle.commands.specs.Commands.{exactly, entryOf, added, replaced, replaceOf, undoOf, countedAs, stationOfKind, numberedInTurn, stationOf, otherOf, fieldsCommand, commandOf}
 use Rattle.commands.specs.declared.Command.the-variants.{Station, Call, Corrections, Unreadable}
 
 -- `S 2 V 0 0 7`, after one S line
 station : commandOf 1 true (83 ∷ 32 ∷ 50 ∷ 32 ∷ 86 ∷ 32 ∷ 48 ∷ 32 ∷ 48 ∷ 32 ∷ 55 ∷ []) ≡ Station (record { kind = kind.Height; east = pos 0; north = pos 0; up = pos 7 })
-unfolding commandOf fieldsCommand stationOf inTurn kindOf exactly letterOf restFields fieldsOf before numbersOf numberOf signedOf isDecimal allDigits valueAfter
+unfolding commandOf fieldsCommand stationOf numberedInTurn stationOfKind exactly letterOf restFields fieldsOf before numbersIn numberIn signedOf isDecimal allDigits valueAfter
 station = refl
 
 -- the same line as the first, and once the book is open
 out-of-turn : commandOf 0 true (83 ∷ 32 ∷ 50 ∷ 32 ∷ 86 ∷ 32 ∷ 48 ∷ 32 ∷ 48 ∷ 32 ∷ 55 ∷ []) ≡ Unreadable
-unfolding commandOf fieldsCommand stationOf inTurn kindOf exactly letterOf restFields fieldsOf before numbersOf numberOf signedOf isDecimal allDigits valueAfter
+unfolding commandOf fieldsCommand stationOf numberedInTurn stationOfKind exactly letterOf restFields fieldsOf before numbersIn numberIn signedOf isDecimal allDigits valueAfter
 out-of-turn = refl
 
 late : commandOf 1 false (83 ∷ 32 ∷ 50 ∷ 32 ∷ 86 ∷ 32 ∷ 48 ∷ 32 ∷ 48 ∷ 32 ∷ 55 ∷ []) ≡ Unreadable
-unfolding commandOf fieldsCommand stationOf inTurn kindOf exactly letterOf restFields fieldsOf before numbersOf numberOf signedOf isDecimal allDigits valueAfter
+unfolding commandOf fieldsCommand stationOf numberedInTurn stationOfKind exactly letterOf restFields fieldsOf before numbersIn numberIn signedOf isDecimal allDigits valueAfter
 late = refl
 
 -- `H 1 1 2 9 3`, and `R` before it
@@ -33,16 +33,16 @@ level-line : List ℕ
 level-line = 72 ∷ 32 ∷ 49 ∷ 32 ∷ 49 ∷ 32 ∷ 50 ∷ 32 ∷ 57 ∷ 32 ∷ 51 ∷ []
 
 adds : commandOf 2 false level-line ≡ Call (Edit (pos 1) (Add (record-of.Height (record { from = pos 1; to = pos 2; up = pos 9; weight = pos 3 }))))
-unfolding level-line commandOf fieldsCommand otherOf added entryOf exactly letterOf restFields fieldsOf before numbersOf numberOf signedOf isDecimal allDigits valueAfter
+unfolding level-line commandOf fieldsCommand otherOf added entryOf exactly letterOf restFields fieldsOf before numbersIn numberIn signedOf isDecimal allDigits valueAfter
 adds = refl
 
 replaces : commandOf 2 false (82 ∷ 32 ∷ level-line) ≡ Call (Edit (pos 1) (Replace (record-of.Height (record { from = pos 1; to = pos 2; up = pos 9; weight = pos 3 }))))
-unfolding level-line commandOf fieldsCommand otherOf replaceOf replaced entryOf exactly letterOf restFields fieldsOf before numbersOf numberOf signedOf isDecimal allDigits valueAfter
+unfolding level-line commandOf fieldsCommand otherOf replaceOf replaced entryOf exactly letterOf restFields fieldsOf before numbersIn numberIn signedOf isDecimal allDigits valueAfter
 replaces = refl
 
 -- `D 7`, `U`, `R D 7`, `R U`, `U `
 strikes : commandOf 2 false (68 ∷ 32 ∷ 55 ∷ []) ≡ Call (Edit (pos 7) Strike)
-unfolding commandOf fieldsCommand otherOf exactly letterOf restFields fieldsOf before numbersOf numberOf signedOf isDecimal allDigits valueAfter
+unfolding commandOf fieldsCommand otherOf exactly letterOf restFields fieldsOf before numbersIn numberIn signedOf isDecimal allDigits valueAfter
 strikes = refl
 
 undoes : commandOf 2 false (85 ∷ []) ≡ Call Undo
@@ -63,15 +63,15 @@ no-more-fields = refl
 
 -- `X 50`, `X`, `X `, an empty line
 one-correction : commandOf 2 false (88 ∷ 32 ∷ 53 ∷ 48 ∷ []) ≡ Corrections 1
-unfolding commandOf fieldsCommand counted atMost letterOf restFields fieldsOf before numbersOf numberOf signedOf isDecimal allDigits valueAfter
+unfolding commandOf fieldsCommand countedAs atMost letterOf restFields fieldsOf before numbersIn numberIn signedOf isDecimal allDigits valueAfter
 one-correction = refl
 
 no-corrections : commandOf 2 false (88 ∷ []) ≡ Corrections 0
-unfolding commandOf fieldsCommand counted atMost letterOf restFields fieldsOf before numbersOf
+unfolding commandOf fieldsCommand countedAs atMost letterOf restFields fieldsOf before numbersIn
 no-corrections = refl
 
 empty-correction : commandOf 2 false (88 ∷ 32 ∷ []) ≡ Unreadable
-unfolding commandOf fieldsCommand counted atMost letterOf restFields fieldsOf before numbersOf numberOf
+unfolding commandOf fieldsCommand countedAs atMost letterOf restFields fieldsOf before numbersIn numberIn
 empty-correction = refl
 
 empty-line : commandOf 2 false [] ≡ Unreadable

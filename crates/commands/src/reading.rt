@@ -13,9 +13,9 @@ ghost use Prim.Native.Nat.{suc, _≤_};
 ghost use lib.IntN.{pos};
 ghost use lib.ListN.{length, drop};
 ghost use Rattle.words.specs.Signed.{eqZ};
-ghost use Rattle.text.specs.Fields.{firstField, restFields, letterOf, numbersOf, storedIn};
-ghost use Rattle.commands.specs.Commands.{exactly, levelEntry, baselineEntry, entryOf, added, replaced, replaceOf, strikeOf, undoOf};
-ghost use Rattle.commands.specs.Commands.{counted, correctionsIn, matrixIn, stationWith, kindOf, stationOf, otherOf, letterIn, isStationLine, Obeys};
+ghost use Rattle.text.specs.Fields.{firstField, restFields, letterOf, numbersIn, storedIn};
+ghost use Rattle.commands.specs.Commands.{mostCorrections, mostEntries, exactly, levelEntry, baselineEntry, entryOf, added, replaced, replaceOf, strikeOf, undoOf};
+ghost use Rattle.commands.specs.Commands.{countedAs, correctionsIn, matrixIn, stationWith, stationOfKind, stationOf, otherOf, letterIn, isStationLine, Obeys};
 ghost use Rattle.commands.specs.declared.Entry.the-variants as entry;
 ghost use Rattle.commands.specs.declared.Command.the-variants as command;
 
@@ -24,7 +24,7 @@ const MATRIX_ENTRIES: usize = Unit::UNKNOWNS * Unit::UNKNOWNS;
 
 // The fields after the letter at `from`: place, from, to, difference, weight.
 fn level_entry(line: &[u8], from: usize) -> Entry
-    ensures { λ r. ⌜ r ≡ exactly 5 entry.Unreadable levelEntry (numbersOf (restFields (drop from (now (line .entry))))) ⌝ }
+    ensures { λ r. ⌜ r ≡ exactly 5 entry.Unreadable levelEntry (numbersIn (restFields (drop from (now (line .entry))))) ⌝ }
 {
     let mut a = [0i64; 5];
     match text::read_rest(line, from, 5, &mut a) {
@@ -41,7 +41,7 @@ fn level_entry(line: &[u8], from: usize) -> Entry
 
 // The fields after the letter at `from`: place, from, to, three differences, six weights.
 fn baseline_entry(line: &[u8], from: usize) -> Entry
-    ensures { λ r. ⌜ r ≡ exactly 12 entry.Unreadable baselineEntry (numbersOf (restFields (drop from (now (line .entry))))) ⌝ }
+    ensures { λ r. ⌜ r ≡ exactly 12 entry.Unreadable baselineEntry (numbersIn (restFields (drop from (now (line .entry))))) ⌝ }
 {
     let mut a = [0i64; 12];
     match text::read_rest(line, from, 12, &mut a) {
@@ -99,7 +99,7 @@ fn replace_line(line: &[u8]) -> Command
 }
 
 fn strike_line(line: &[u8]) -> Command
-    ensures { λ r. ⌜ r ≡ exactly 1 command.Unreadable strikeOf (numbersOf (restFields (now (line .entry)))) ⌝ }
+    ensures { λ r. ⌜ r ≡ exactly 1 command.Unreadable strikeOf (numbersIn (restFields (now (line .entry)))) ⌝ }
 {
     let mut a = [0i64; 1];
     match text::read_rest(line, 0, 1, &mut a) {
@@ -124,8 +124,8 @@ fn undo_line(line: &[u8]) -> Command
 }
 
 fn corrections_line(line: &[u8], x: &mut [i64]) -> Command
-    requires { ⌜ 48 ≤ length (now x) ⌝ }
-    ensures { λ r. ⌜ (r ≡ counted command.Corrections (correctionsIn (restFields (now (line .entry))))) × (now (x .exit) ≡ storedIn (now (x .entry)) (correctionsIn (restFields (now (line .entry))))) ⌝ }
+    requires { ⌜ mostCorrections ≤ length (now x) ⌝ }
+    ensures { λ r. ⌜ (r ≡ countedAs command.Corrections (correctionsIn (restFields (now (line .entry))))) × (now (x .exit) ≡ storedIn (now (x .entry)) (correctionsIn (restFields (now (line .entry))))) ⌝ }
 {
     match text::read_rest(line, 0, Unit::UNKNOWNS, x) {
         Count::Unreadable => Command::Unreadable,
@@ -134,8 +134,8 @@ fn corrections_line(line: &[u8], x: &mut [i64]) -> Command
 }
 
 fn matrix_line(line: &[u8], m: &mut [i64]) -> Command
-    requires { ⌜ 2304 ≤ length (now m) ⌝ }
-    ensures { λ r. ⌜ (r ≡ counted command.Matrix (matrixIn (restFields (now (line .entry))))) × (now (m .exit) ≡ storedIn (now (m .entry)) (matrixIn (restFields (now (line .entry))))) ⌝ }
+    requires { ⌜ mostEntries ≤ length (now m) ⌝ }
+    ensures { λ r. ⌜ (r ≡ countedAs command.Matrix (matrixIn (restFields (now (line .entry))))) × (now (m .exit) ≡ storedIn (now (m .entry)) (matrixIn (restFields (now (line .entry))))) ⌝ }
 {
     match text::read_rest(line, 0, MATRIX_ENTRIES, m) {
         Count::Unreadable => Command::Unreadable,
@@ -145,7 +145,7 @@ fn matrix_line(line: &[u8], m: &mut [i64]) -> Command
 
 // A station of a kind, with the three coordinates in the fields after the one at `from`.
 fn station_with(line: &[u8], from: usize, kind: Kind) -> Command
-    ensures { λ r. ⌜ r ≡ exactly 3 command.Unreadable (stationWith kind) (numbersOf (restFields (drop from (now (line .entry))))) ⌝ }
+    ensures { λ r. ⌜ r ≡ exactly 3 command.Unreadable (stationWith kind) (numbersIn (restFields (drop from (now (line .entry))))) ⌝ }
 {
     let mut a = [0i64; 3];
     match text::read_rest(line, from, 3, &mut a) {
@@ -167,7 +167,7 @@ fn station_with(line: &[u8], from: usize, kind: Kind) -> Command
 
 // The field at `from` is the letter of a kind.
 fn kind_at(line: &[u8], from: usize) -> Command
-    ensures { λ r. ⌜ r ≡ kindOf (letterOf (firstField (drop from (now (line .entry))))) (numbersOf (restFields (drop from (now (line .entry))))) ⌝ }
+    ensures { λ r. ⌜ r ≡ stationOfKind (letterOf (firstField (drop from (now (line .entry))))) (numbersIn (restFields (drop from (now (line .entry))))) ⌝ }
 {
     let letter = text::letter_at(line, from);
     if letter == b'K' {
@@ -245,7 +245,7 @@ pub fn read_command(
     x: &mut [i64],
     m: &mut [i64],
 ) -> Command
-    requires { ⌜ (48 ≤ length (now x)) × (2304 ≤ length (now m)) ⌝ }
+    requires { ⌜ (mostCorrections ≤ length (now x)) × (mostEntries ≤ length (now m)) ⌝ }
     ensures { λ r. ⌜ Obeys read unopened (record { text = now (line .entry); over = over }) (now (x .entry)) (now (m .entry)) r (now (x .exit)) (now (m .exit)) ⌝ }
 {
     if over {

@@ -10,13 +10,13 @@ use Rattle.network.specs.declared.Station as station
 use Rattle.book.specs.declared.Book.{Book}
 use Rattle.book.specs.declared.Edited.{Edited}
 use Rattle.book.specs.Book.{opening, outcome}
-use Rattle.text.specs.Fields.{restFields, Numbers, numbers, unreadable}
-use Rattle.text.specs.Lines.{Kept}
+use Rattle.text.specs.Fields.{restFields, FieldNumbers, numbers, unreadable}
+use Rattle.text.specs.Lines.{KeptLine}
 use Rattle.commands.specs.declared.Command.{Command}
 use Rattle.commands.specs.declared.Command.the-variants.{Station, Call, Corrections, Matrix, Unreadable}
 use Rattle.commands.specs.Commands.{correctionsIn, matrixIn, isStationLine, keptCommand}
 use Rattle.commands.specs.Brings.{brings, corrections, matrix}
-use Rattle.printing.specs.Messages.{refusedLine, unreadableLine, refused}
+use Rattle.printing.specs.Messages.{refusedLine, unreadableLine, refusedText}
 
 -- ════ the state of a run
 -- "S lines come first"; then a book, unless its opening was refused, which "ends"
@@ -41,6 +41,10 @@ pub record Run : Type 0 where
   pub corrections : Given
   pub matrix : Given
 
+-- a line's number is one of 64 bits: at most 2 ^ 64 - 1
+abbrev pub mostLines : ℕ
+mostLines = 18446744073709551615
+
 abbrev pub start : Run
 start = record { words = []; read = 0; lines = 0; phase = unopened; corrections = none; matrix = none }
 
@@ -63,7 +67,7 @@ phaseOpened words ended = ended
 
 -- "A refused opening … prints `REFUSED no` … and ends"
 abbrev pub openingAnswer : ℕ → List ℕ
-openingAnswer number = cond (eqb number 0) [] (refused number)
+openingAnswer number = cond (eqb number 0) [] (refusedText number)
 
 unfoldable pub openingSays : List ℤ → Phase → List ℕ
 openingSays words unopened = openingAnswer (opening words .refusal)
@@ -94,7 +98,7 @@ isUnopened unopened = true
 isUnopened (opened b) = false
 isUnopened ended = false
 
-abbrev pub asked : Run → Kept → Command
+abbrev pub asked : Run → KeptLine → Command
 asked r k = keptCommand (r .read) (isUnopened (r .phase)) k
 
 unfoldable pub wordsAfter : List ℤ → Command → List ℤ
@@ -128,7 +132,7 @@ phaseAfter (opened b) c = opened (edits b c .book)
 phaseAfter ended c = ended
 
 -- "X gives the corrections, M the matrix by rows; … a later one replaces an earlier"; an unreadable one changes nothing
-unfoldable pub givenBy : Numbers → Given
+unfoldable pub givenBy : FieldNumbers → Given
 givenBy unreadable = none
 givenBy (numbers vs) = given vs
 
@@ -158,7 +162,7 @@ phaseSays ended k c = []
 
 -- ════ one line: what it leaves, and what it prints
 -- c is what the line asks
-abbrev pub obeyed : Run → Kept → Command → Run
+abbrev pub obeyed : Run → KeptLine → Command → Run
 obeyed r k c =
     record {
       words = wordsAfter (r .words) c;
@@ -169,20 +173,20 @@ obeyed r k c =
       matrix = matrixNext (r .matrix) (restFields (k .text)) c;
     }
 
-unfoldable pub next : Run → Kept → Run
+unfoldable pub next : Run → KeptLine → Run
 next r k = obeyed (beforeLine r (k .text)) k (asked (beforeLine r (k .text)) k)
 
 abbrev pub obeyedSays : Run → Command → List ℕ
 obeyedSays r c = phaseSays (r .phase) (suc (r .lines)) c
 
-unfoldable pub says : Run → Kept → List ℕ
+unfoldable pub says : Run → KeptLine → List ℕ
 says r k = beforeLineSays r (k .text) ++ obeyedSays (beforeLine r (k .text)) (asked (beforeLine r (k .text)) k)
 
 -- ════ lines one after the other
-unfoldable pub runAfter : Run → List Kept → Run
+unfoldable pub runAfter : Run → List KeptLine → Run
 runAfter r [] = r
 runAfter r (k ∷ ks) = runAfter (next r k) ks
 
-unfoldable pub saysAll : Run → List Kept → List ℕ
+unfoldable pub saysAll : Run → List KeptLine → List ℕ
 saysAll r [] = []
 saysAll r (k ∷ ks) = says r k ++ saysAll (next r k) ks

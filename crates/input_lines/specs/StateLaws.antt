@@ -17,8 +17,8 @@ use Rattle.book.specs.declared.Edited.{Edited}
 use Rattle.book.specs.Book as book
 use Rattle.layout.specs.Bytes.{bookOf, bytesFit}
 use Rattle.lent_edits.specs.LentEdits.{Opens}
-use Rattle.text.specs.Fields.{Numbers}
-use Rattle.text.specs.Lines.{Kept}
+use Rattle.text.specs.Fields.{FieldNumbers}
+use Rattle.text.specs.Lines.{KeptLine}
 use Rattle.text.specs.Writing.{Written, written-as, nothing, _then_}
 use Rattle.commands.specs.declared.Command.{Command}
 use Rattle.commands.specs.declared.Command.the-variants.{Station, Call, Corrections, Matrix, Unreadable}
@@ -31,7 +31,7 @@ use Rattle.input_lines.specs.declared.Given as code-given
 use Rattle.input_lines.specs.declared.State.{State}
 use Rattle.input_lines.specs.declared.LineRead.{LineRead}
 use Rattle.input_lines.specs.Runs.{Phase, opened, ended, Given, given, Run, listRoom, noted, phaseWith, phaseOpened, openingAnswer, openingSays, openRun, beforeLine, beforeLineSays, isUnopened, asked, readAfter, unedited, edits, phaseAfter, givenBy, commandSays, phaseSays, obeyed, next, obeyedSays, says}
-use Rattle.input_lines.specs.States.{phaseOf, givenOf, runOf, unopenedPhase, openedPhase, endedPhase, phaseAt, countOf, Ready, openedWith, EditLeaves, Noted, givenCount, Reads, RunsTo, LineEnters}
+use Rattle.input_lines.specs.States.{phaseOf, givenOf, runOf, unopenedPhase, openedPhase, endedPhase, phaseAt, givenLength, Ready, openedWith, EditLeaves, Noted, givenCount, Reads, RunsTo, LineEnters}
 
 -- ════ text written after the front of a buffer
 module _ {l t m : List ℕ} {p q : ℕ} (w : Written l p t q m) (room : q ≤ length l) where
@@ -82,7 +82,7 @@ put-four l at s k e n u p q r t =
     rw (a, b, c, p, q, r, t)
 
 -- ════ what a line brought
-module _ {part : SolutionPart} {most : ℕ} {c : Command} {ns : Numbers} {l after : List ℤ} (b : Brought part most c ns l after) (room : most ≤ length l) (g : code-given.Given) where
+module _ {part : SolutionPart} {most : ℕ} {c : Command} {ns : FieldNumbers} {l after : List ℤ} (b : Brought part most c ns l after) (room : most ≤ length l) (g : code-given.Given) where
   pub brought-given : givenOf (givenCount part g c) after ≡ cond (brings c part) (givenBy ns) (givenOf g l)
   unfolding givenOf givenBy
   brought-given = by b
@@ -93,16 +93,16 @@ module _ {part : SolutionPart} {most : ℕ} {c : Command} {ns : Numbers} {l afte
           rw (e, n, m, q)
           (ap given (rw (sets-eq vs l 0 (omega arith)) (take-at vs (drop (0 + length vs) l) (length vs) refl)))
 
-  pub brought-few : countOf g ≤ most → countOf (givenCount part g c) ≤ most
-  unfolding countOf
+  pub brought-few : givenLength g ≤ most → givenLength (givenCount part g c) ≤ most
+  unfolding givenLength
   brought-few few = by b
     where
-      by : Brought part most c ns l after → countOf (givenCount part g c) ≤ most
+      by : Brought part most c ns l after → givenLength (givenCount part g c) ≤ most
       by (other e q) = rw e few
       by (these vs e n m q h) = rw (e, m) h
 
 -- the same, with the test for S lines as the code has it
-pub asked-in : (read : ℕ) {u v : Bool} {k : Kept} {x m : List ℤ} {c : Command} {xs ms : List ℤ} → u ≡ v → Obeys read u k x m c xs ms → Obeys read v k x m c xs ms
+pub asked-in : (read : ℕ) {u v : Bool} {k : KeptLine} {x m : List ℤ} {c : Command} {xs ms : List ℤ} → u ≡ v → Obeys read u k x m c xs ms → Obeys read v k x m c xs ms
 asked-in read e o = rw e at o
 
 -- ════ phases
@@ -233,7 +233,7 @@ read-few n (Matrix j) = omega arith
 read-few n Unreadable = omega arith
 
 pub ready-next :
-    {s : State} {bytes after : List ℕ} {list x m : List ℤ} {k : Kept} {a : LineRead} {list′ x′ m′ : List ℤ} →
+    {s : State} {bytes after : List ℕ} {list x m : List ℤ} {k : KeptLine} {a : LineRead} {list′ x′ m′ : List ℤ} →
     Ready s bytes list x m →
     Reads s k list x m a list′ x′ m′ →
     length after ≡ length bytes →
@@ -281,7 +281,7 @@ module _ {s : State} {bytes : List ℕ} {list : List ℤ} {line before : List �
       }
 
 -- ════ a line, once entered: what it asks, leaves and prints
-module _ (s : State) (b : Book) (list x m : List ℤ) (k : Kept) (a : LineRead) (list′ x′ m′ : List ℤ) (rd : Reads s k list x m a list′ x′ m′) (n : ℕ) (after : List ℕ) (ed : EditLeaves (cond (openedPhase (s .phase)) (edits b (a .command)) (unedited b)) n after) where
+module _ (s : State) (b : Book) (list x m : List ℤ) (k : KeptLine) (a : LineRead) (list′ x′ m′ : List ℤ) (rd : Reads s k list x m a list′ x′ m′) (n : ℕ) (after : List ℕ) (ed : EditLeaves (cond (openedPhase (s .phase)) (edits b (a .command)) (unedited b)) n after) where
   asked-is : asked (runOf s b list x m) k ≡ a .command
   asked-is = rw (unopened-is (s .phase) b) (sym (rd .command))
 
@@ -292,7 +292,7 @@ module _ (s : State) (b : Book) (list x m : List ℤ) (k : Kept) (a : LineRead) 
   said-is : cond (endedPhase (s .phase)) [] (commandSays (a .state .lines) n (a .command)) ≡ obeyedSays (runOf s b list x m) (asked (runOf s b list x m) k)
   said-is = rw (asked-is, rd .lines, ed .number) (message-is (s .phase) b (a .command) (suc (s .lines)))
 
-module _ {s : State} {bytes : List ℕ} {list x m : List ℤ} {k : Kept} {before : List ℕ} {at : ℕ} {s₁ : State} {bytes₁ : List ℕ} {p : ℕ} {out : List ℕ} (e : LineEnters s bytes list (k .text) before at s₁ bytes₁ p out) where
+module _ {s : State} {bytes : List ℕ} {list x m : List ℤ} {k : KeptLine} {before : List ℕ} {at : ℕ} {s₁ : State} {bytes₁ : List ℕ} {p : ℕ} {out : List ℕ} (e : LineEnters s bytes list (k .text) before at s₁ bytes₁ p out) where
   pub line-obeyed :
       {a : LineRead} {list′ x′ m′ : List ℤ} {opened ended : Bool} {n : ℕ} {bytes₂ : List ℕ} {q : ℕ} {after : List ℕ} →
       Reads s₁ k list x m a list′ x′ m′ →

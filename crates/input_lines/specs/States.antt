@@ -12,9 +12,9 @@ use Rattle.book.specs.declared.Edited.{Edited}
 use Rattle.layout.specs.Layout.{bookBytes}
 use Rattle.layout.specs.Bytes.{bookOf, bytesFit}
 use Rattle.text.specs.Fields.{restFields}
-use Rattle.text.specs.Lines.{Kept}
+use Rattle.text.specs.Lines.{KeptLine}
 use Rattle.text.specs.Writing as writing
-use Rattle.commands.specs.Commands.{keptCommand}
+use Rattle.commands.specs.Commands.{mostCorrections, mostEntries, keptCommand}
 use Rattle.commands.specs.Brings.{SolutionPart, brings, howMany}
 use Rattle.commands.specs.declared.Command.{Command}
 use Rattle.printing.specs.Rooms.{refusedRoom}
@@ -68,9 +68,9 @@ abbrev pub phaseAt : ℕ → code-phase.Phase
 phaseAt refusal = cond (eqb refusal 0) Opened Ended
 
 -- ════ what the code keeps up
-unfoldable pub countOf : code-given.Given → ℕ
-countOf Nothing = 0
-countOf (Numbers n) = n
+unfoldable pub givenLength : code-given.Given → ℕ
+givenLength Nothing = 0
+givenLength (Numbers n) = n
 
 unfoldable pub isGiven : code-given.Given → Bool
 isGiven Nothing = false
@@ -79,11 +79,11 @@ isGiven (Numbers n) = true
 pub record Ready (s : State) (bytes : List ℕ) (list x m : List ℤ) : Type 0 where
   pub room-book : bookBytes ≤ length bytes
   pub room-list : listRoom ≤ length list
-  pub room-x : 48 ≤ length x
-  pub room-m : 2304 ≤ length m
+  pub room-x : mostCorrections ≤ length x
+  pub room-m : mostEntries ≤ length m
   pub words : s .words ≤ listRoom
-  pub corrections : countOf (s .corrections) ≤ 48
-  pub matrix : countOf (s .matrix) ≤ 2304
+  pub corrections : givenLength (s .corrections) ≤ mostCorrections
+  pub matrix : givenLength (s .matrix) ≤ mostEntries
   pub read : s .read ≤ s .lines
   pub fits : openedPhase (s .phase) ≡ true → bytesFit bytes ≡ true
 
@@ -111,7 +111,7 @@ abbrev pub givenCount : SolutionPart → code-given.Given → Command → code-g
 givenCount part g c = cond (brings c part) (Numbers (howMany c)) g
 
 -- what a line asks, and what it leaves of the state and the lent lists. Beyond what the state counts the lists are free: no later call looks there
-pub record Reads (s : State) (k : Kept) (list x m : List ℤ) (a : LineRead) (list′ x′ m′ : List ℤ) : Type 0 where
+pub record Reads (s : State) (k : KeptLine) (list x m : List ℤ) (a : LineRead) (list′ x′ m′ : List ℤ) : Type 0 where
   pub command : a .command ≡ keptCommand (s .read) (unopenedPhase (s .phase)) k
   pub words : take (a .state .words) list′ ≡ wordsAfter (take (s .words) list) (a .command)
   pub read : a .state .read ≡ readAfter (s .read) (a .command)
@@ -120,8 +120,8 @@ pub record Reads (s : State) (k : Kept) (list x m : List ℤ) (a : LineRead) (li
   pub corrections : givenOf (a .state .corrections) x′ ≡ correctionsNext (givenOf (s .corrections) x) (restFields (k .text)) (a .command)
   pub matrix : givenOf (a .state .matrix) m′ ≡ matrixNext (givenOf (s .matrix) m) (restFields (k .text)) (a .command)
   pub few-words : a .state .words ≤ listRoom
-  pub few-corrections : countOf (a .state .corrections) ≤ 48
-  pub few-matrix : countOf (a .state .matrix) ≤ 2304
+  pub few-corrections : givenLength (a .state .corrections) ≤ mostCorrections
+  pub few-matrix : givenLength (a .state .matrix) ≤ mostEntries
 
 -- ════ the run comes to r′, and `says` is printed from `at` on, in so much room at most
 pub record RunsTo (r′ : Run) (says : List ℕ) (room : ℕ) (before : List ℕ) (at : ℕ) (r : Run) (next : ℕ) (after : List ℕ) : Type 0 where

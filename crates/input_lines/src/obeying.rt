@@ -9,7 +9,7 @@ ghost use lib.ListN.{length};
 ghost use Rattle.layout.specs.Bytes.{bookOf};
 ghost use Rattle.layout.specs.Layout.{bookBytes};
 ghost use Rattle.printing.specs.Rooms.{refusedRoom, lineRoom};
-ghost use Rattle.input_lines.specs.Runs.{next, says};
+ghost use Rattle.input_lines.specs.Runs.{mostLines, next, says};
 ghost use Rattle.input_lines.specs.States.{runOf, Ready, RunsTo, LineEnters};
 
 // The first line whose first field is not S opens the book, and a refusal is printed.
@@ -39,7 +39,7 @@ pub fn obey(
     out: &mut [u8],
 ) -> Reached
     requires { ⌜ Ready (from .state) (now book) (now list) (now x) (now m) ⌝ }
-    requires { ⌜ (from .state .lines < 18446744073709551615) × (from .printed + lineRoom ≤ length (now out)) ⌝ }
+    requires { ⌜ (from .state .lines < mostLines) × (from .printed + lineRoom ≤ length (now out)) ⌝ }
     ensures { λ r. ⌜ RunsTo (next (runOf (from .state) (bookOf (now (book .entry))) (now (list .entry)) (now (x .entry)) (now (m .entry))) (record { text = now (line .entry); over = over })) (says (runOf (from .state) (bookOf (now (book .entry))) (now (list .entry)) (now (x .entry)) (now (m .entry))) (record { text = now (line .entry); over = over })) lineRoom (now (out .entry)) (from .printed) (runOf (r .state) (bookOf (now (book .exit))) (now (list .exit)) (now (x .exit)) (now (m .exit))) (r .printed) (now (out .exit)) ⌝ }
     ensures { λ r. ⌜ Ready (r .state) (now (book .exit)) (now (list .exit)) (now (x .exit)) (now (m .exit)) × (r .state .lines ≡ suc (from .state .lines)) ⌝ }
 {

@@ -8,8 +8,9 @@ ghost use mathlib.Core.Path.{_≡_};
 ghost use Prim.Native.Nat.{_+_, _≤_, _<_};
 ghost use lib.ListN.{length};
 ghost use Rattle.commands.specs.Brings.{corrections, matrix};
-ghost use Rattle.input_lines.specs.Runs.{listRoom, readAfter};
-ghost use Rattle.input_lines.specs.States.{countOf, givenCount, WordsNoted, Reads};
+ghost use Rattle.input_lines.specs.Runs.{mostLines, listRoom, readAfter};
+ghost use Rattle.commands.specs.Commands.{mostCorrections, mostEntries};
+ghost use Rattle.input_lines.specs.States.{givenLength, givenCount, WordsNoted, Reads};
 
 // The station of an S line, after those in the list.
 fn note_words(list: &mut [i64], words: usize, command: Command) -> usize
@@ -23,7 +24,7 @@ fn note_words(list: &mut [i64], words: usize, command: Command) -> usize
 }
 
 fn read_after(read: u64, command: Command) -> u64
-    requires { ⌜ read < 18446744073709551615 ⌝ }
+    requires { ⌜ read < mostLines ⌝ }
     ensures { λ r. ⌜ r ≡ readAfter read command ⌝ }
 {
     match command {
@@ -59,9 +60,9 @@ pub(crate) fn read_line(
     x: &mut [i64],
     m: &mut [i64],
 ) -> LineRead
-    requires { ⌜ (listRoom ≤ length (now list)) × (48 ≤ length (now x)) × (2304 ≤ length (now m)) ⌝ }
-    requires { ⌜ (state .words ≤ listRoom) × (countOf (state .corrections) ≤ 48) × (countOf (state .matrix) ≤ 2304) ⌝ }
-    requires { ⌜ (state .read ≤ state .lines) × (state .lines < 18446744073709551615) ⌝ }
+    requires { ⌜ (listRoom ≤ length (now list)) × (mostCorrections ≤ length (now x)) × (mostEntries ≤ length (now m)) ⌝ }
+    requires { ⌜ (state .words ≤ listRoom) × (givenLength (state .corrections) ≤ mostCorrections) × (givenLength (state .matrix) ≤ mostEntries) ⌝ }
+    requires { ⌜ (state .read ≤ state .lines) × (state .lines < mostLines) ⌝ }
     ensures { λ a. ⌜ Reads state (record { text = now (line .entry); over = over }) (now (list .entry)) (now (x .entry)) (now (m .entry)) a (now (list .exit)) (now (x .exit)) (now (m .exit)) ⌝ }
 {
     let command = commands::read_command(line, over, state.read, opening::is_unopened(state), x, m);

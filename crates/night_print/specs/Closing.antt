@@ -3,7 +3,7 @@ use Prim.Native.Nat.{ℕ, _+_, _≤_}
 use mathlib.Core.Path.{_≡_}
 use mathlib.Core.List.{List, _++_}
 use lib.ListN.{take, drop}
-use Rattle.text.specs.Lines.{Kept, lastKept}
+use Rattle.text.specs.Lines.{KeptLine, lastKept}
 use Rattle.printing.specs.Rooms.{sheetRoom, lineRoom}
 use Rattle.printing.specs.Reports.{Offer}
 use Rattle.input_lines.specs.Runs.{Run, runAfter, saysAll}
@@ -15,7 +15,7 @@ endRoom = lineRoom + sheetRoom
 
 -- the end of the input with k held of a line: where that is a line, one that lacks its LF, it is obeyed first. What it and the end print stands at the
 -- front of `before`, which leaves `after`
-pub record Concludes (r : Run) (k : Kept) (before : List ℕ) (next : ℕ) (after : List ℕ) : Type 0 where
+pub record Concludes (r : Run) (k : KeptLine) (before : List ℕ) (next : ℕ) (after : List ℕ) : Type 0 where
   pub offer : Offer
   pub offers : OffersAt (runAfter r (lastKept k)) offer
   pub printed : take next after ≡ saysAll r (lastKept k) ++ endSays (runAfter r (lastKept k)) offer

@@ -102,11 +102,11 @@ endPrints r offer = openingSays (flat (r .stations)) (r .phase) ++ phaseEnds (r 
 abbrev pub afterLines : List ℕ → WholeRun
 afterLines text = linesNext atStart (linesOf text)
 
-unfoldable pub printed : List ℕ → Offer → List ℕ
-printed text offer = linesSay atStart (linesOf text) ++ endPrints (afterLines text) offer
+unfoldable pub printOf : List ℕ → Offer → List ℕ
+printOf text offer = linesSay atStart (linesOf text) ++ endPrints (afterLines text) offer
 
 -- ════ "It prints exactly": the bytes are those of the text, with an offer that is named: "a pair the check accepts, or no proposal"
 pub record Prints (text bytes : List ℕ) : Type 0 where
   pub offer : Offer
   pub offers : (b : Book) → opensRun (afterLines text) .phase ≡ opened b → ValidOffer b offer
-  pub are : bytes ≡ printed text offer
+  pub are : bytes ≡ printOf text offer

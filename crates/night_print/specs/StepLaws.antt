@@ -7,7 +7,7 @@ use native.Mathlib.Omega.{arith}
 use lib.ListN.{length}
 use lib.IntN.{ℤ}
 use Rattle.book.specs.declared.Book.{Book}
-use Rattle.text.specs.Lines.{Kept}
+use Rattle.text.specs.Lines.{KeptLine}
 use Rattle.input_lines.specs.Runs.{Run}
 use Rattle.input_lines.specs.States.{phaseOf, endedPhase}
 use Rattle.input_lines.specs.declared.Phase as code-phase
@@ -36,7 +36,7 @@ none-left : (l : List ℕ) → length l ≡ 0 → l ≡ []
 none-left [] e = refl
 none-left (c ∷ l) e = absurd (omega arith)
 
-module _ {r r₁ : Run} {k k₁ : Kept} {failed : Bool} {came before : List ℕ} where
+module _ {r r₁ : Run} {k k₁ : KeptLine} {failed : Bool} {came before : List ℕ} where
   pub step-unread : failed ≡ true → Steps r k failed came before Unread r₁ k₁ 0 before
   step-unread e =
       record {

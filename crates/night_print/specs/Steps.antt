@@ -5,7 +5,7 @@ use mathlib.Core.Bool.{Bool, true, false, cond}
 use mathlib.Core.List.{List, []}
 use lib.ListN.{length}
 use lib.IntN.{ℤ}
-use Rattle.text.specs.Lines.{Kept}
+use Rattle.text.specs.Lines.{KeptLine}
 use Rattle.commands.specs.Commands.{longestLine}
 use Rattle.input_lines.specs.Runs.{Phase, unopened, opened, ended, Run}
 use Rattle.input_lines.specs.States.{Ready}
@@ -23,7 +23,7 @@ isEnded ended = true
 
 -- from the run r, with k held of a line, where a read gave the bytes `came` or `failed`: what is to be written stands at the front of `after`, up to n. The run that is left, r₁ with k₁ held, is
 -- free at the end of the input and after a failed read
-pub record Steps (r : Run) (k : Kept) (failed : Bool) (came before : List ℕ) (p : Progress) (r₁ : Run) (k₁ : Kept) (n : ℕ) (after : List ℕ) : Type 0 where
+pub record Steps (r : Run) (k : KeptLine) (failed : Bool) (came before : List ℕ) (p : Progress) (r₁ : Run) (k₁ : KeptLine) (n : ℕ) (after : List ℕ) : Type 0 where
   -- a read that failed: nothing more is printed, no sheet of half an input
   pub unread : failed ≡ true → (p ≡ Unread) × (n ≡ 0) × (after ≡ before)
   -- the end of the input: the last line, where it lacks its LF, and the end

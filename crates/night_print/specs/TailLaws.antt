@@ -9,7 +9,7 @@ use borrow.Author.Tests.{le-leb, lt-leb}
 use lib.Dec.{leb}
 use lib.ListN.{length, take, drop, length-drop, length-append, drop-of-length-le}
 use lib.Seq.{take-all, take-append-add, drop-append-add, drop-drop, length-take-le}
-use Rattle.text.specs.Lines.{Kept, blank, came, concat, isLine, lastKept}
+use Rattle.text.specs.Lines.{lineFeed, KeptLine, nothingHeld, came, concat, isLine, lastKept}
 use Rattle.commands.specs.Commands.{longestLine}
 use Rattle.printing.specs.Rooms.{lineRoom}
 use Rattle.input_lines.specs.Runs.{Run, start, runAfter, saysAll}
@@ -63,13 +63,13 @@ room-test text out h = by (decLe text ((out - endRoom) / lineRoom))
     by (no g) = lt-leb text ((out - endRoom) / lineRoom) (omega arith) ∙ sym (lt-leb (lineRoom * text + endRoom) out (omega arith))
 
 -- ════ the end, without a last line that is held, and with one
-last-none : (k : Kept) → isLine k ≡ false → lastKept k ≡ []
+last-none : (k : KeptLine) → isLine k ≡ false → lastKept k ≡ []
 last-none k e = rw e
 
-last-line : (k : Kept) → isLine k ≡ true → lastKept k ≡ k ∷ []
+last-line : (k : KeptLine) → isLine k ≡ true → lastKept k ≡ k ∷ []
 last-line k e = rw e
 
-pub closes-none : {r : Run} {k : Kept} {before : List ℕ} {n : ℕ} {after : List ℕ} → isLine k ≡ false → endRoom ≤ length before → RunEnds r before n after → Concludes r k before n after
+pub closes-none : {r : Run} {k : KeptLine} {before : List ℕ} {n : ℕ} {after : List ℕ} → isLine k ≡ false → endRoom ≤ length before → RunEnds r before n after → Concludes r k before n after
 unfolding runAfter saysAll
 closes-none {r} {k} {before} {n} {after} e room h =
     let z = last-none k e in
@@ -84,18 +84,18 @@ closes-none {r} {k} {before} {n} {after} e room h =
       small = omega arith;
     }
 
--- the LF (10) that the last line lacks ends it
-lf-ends : (k : Kept) → came longestLine k (10 ∷ []) ≡ record { ended = k ∷ []; going = blank }
+-- the LF that the last line lacks ends it
+lf-ends : (k : KeptLine) → came longestLine k (lineFeed ∷ []) ≡ record { ended = k ∷ []; going = nothingHeld }
 unfolding came
 lf-ends k = refl
 
-module _ {r r₁ : Run} {k k₁ : Kept} {before mid part : List ℕ} {p n : ℕ} where
+module _ {r r₁ : Run} {k k₁ : KeptLine} {before mid part : List ℕ} {p n : ℕ} where
   pub closes-line :
       isLine k ≡ true →
       endRoom ≤ length before →
       length mid ≡ length before →
       p ≤ lineRoom →
-      Takes r k (10 ∷ []) before r₁ k₁ p mid →
+      Takes r k (lineFeed ∷ []) before r₁ k₁ p mid →
       RunEnds r₁ (lentFrom p mid) n part →
       Concludes r k before (p + n) (backFrom p mid part)
   closes-line e room same few t h =
@@ -123,7 +123,7 @@ module _ {r r₁ : Run} {k k₁ : Kept} {before mid part : List ℕ} {p n : ℕ}
       length part ≡ length (lentFrom p mid) →
       p ≤ lineRoom * length text →
       r ≡ start →
-      k ≡ blank →
+      k ≡ nothingHeld →
       Takes r k text before r₁ k₁ p mid →
       Concludes r₁ k₁ (lentFrom p mid) n part →
       PrintsAll text before (p + n) (backFrom p mid part)

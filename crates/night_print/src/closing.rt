@@ -9,9 +9,9 @@ ghost use lib.Dec.{leb};
 ghost use Rattle.layout.specs.Bytes.{bookOf};
 ghost use Rattle.layout.specs.Layout.{bookBytes};
 ghost use Rattle.text.specs.Lines.{holds};
-ghost use Rattle.commands.specs.Commands.{longestLine};
+ghost use Rattle.commands.specs.Commands.{mostCorrections, mostEntries, longestLine};
 ghost use Rattle.printing.specs.Rooms.{lineRoom};
-ghost use Rattle.input_lines.specs.Runs.{listRoom};
+ghost use Rattle.input_lines.specs.Runs.{mostLines, listRoom};
 ghost use Rattle.input_lines.specs.States.{runOf, Ready};
 ghost use Rattle.night_print.specs.Closing.{endRoom, Concludes};
 ghost use Rattle.night_print.specs.Texts.{PrintsAll, Printed};
@@ -30,7 +30,7 @@ pub fn close(
     out: &mut [u8],
 ) -> usize
     requires { ⌜ Ready (taken .state) (now book) (now list) (now x) (now m) ⌝ }
-    requires { ⌜ (length (now line) ≡ longestLine) × (taken .len ≤ longestLine) × (taken .state .lines + 1 < 18446744073709551616) × (endRoom ≤ length (now out)) ⌝ }
+    requires { ⌜ (length (now line) ≡ longestLine) × (taken .len ≤ longestLine) × (taken .state .lines + 1 ≤ mostLines) × (endRoom ≤ length (now out)) ⌝ }
     ensures { λ n. ⌜ Concludes (runOf (taken .state) (bookOf (now (book .entry))) (now (list .entry)) (now (x .entry)) (now (m .entry))) (holds (now (line .entry)) (taken .len) (taken .over)) (now (out .entry)) n (now (out .exit)) ⌝ }
 {
     if text::is_line(taken.len, taken.over) {
@@ -54,7 +54,7 @@ fn print_all(
     m: &mut [i64],
     out: &mut [u8],
 ) -> usize
-    requires { ⌜ (length (now line) ≡ longestLine) × (bookBytes ≤ length (now book)) × (listRoom ≤ length (now list)) × (48 ≤ length (now x)) × (2304 ≤ length (now m)) × (lineRoom * length (now text) + endRoom ≤ length (now out)) ⌝ }
+    requires { ⌜ (length (now line) ≡ longestLine) × (bookBytes ≤ length (now book)) × (listRoom ≤ length (now list)) × (mostCorrections ≤ length (now x)) × (mostEntries ≤ length (now m)) × (lineRoom * length (now text) + endRoom ≤ length (now out)) ⌝ }
     ensures { λ n. ⌜ PrintsAll (now (text .entry)) (now (out .entry)) n (now (out .exit)) ⌝ }
 {
     let begun = adjustment::begin();

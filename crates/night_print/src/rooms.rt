@@ -4,7 +4,7 @@ use normals::Normals;
 ghost use mathlib.Core.Path.{_≡_};
 ghost use lib.ListN.{length};
 ghost use Rattle.layout.specs.Layout.{bookBytes};
-ghost use Rattle.commands.specs.Commands.{longestLine};
+ghost use Rattle.commands.specs.Commands.{mostCorrections, mostEntries, longestLine};
 ghost use Rattle.input_lines.specs.Runs.{listRoom};
 
 pub fn line_room() -> [u8; commands::LONGEST_LINE]
@@ -26,13 +26,13 @@ pub fn list_room() -> [i64; input_lines::LIST_ROOM]
 }
 
 pub fn corrections_room() -> [i64; Normals::ROW]
-    ensures { λ r. ⌜ 48 ≡ length r ⌝ }
+    ensures { λ r. ⌜ mostCorrections ≡ length r ⌝ }
 {
     [0; Normals::ROW]
 }
 
 pub fn matrix_room() -> [i64; Normals::ENTRIES]
-    ensures { λ r. ⌜ 2304 ≡ length r ⌝ }
+    ensures { λ r. ⌜ mostEntries ≡ length r ⌝ }
 {
     [0; Normals::ENTRIES]
 }

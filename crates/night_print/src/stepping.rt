@@ -14,6 +14,7 @@ ghost use Rattle.printing.specs.Rooms.{lineRoom};
 ghost use Rattle.input_lines.specs.States.{runOf, Ready};
 ghost use Rattle.night_print.specs.declared.Progress.the-variants.{Reading, Refused};
 ghost use Rattle.night_print.specs.Closing.{endRoom};
+ghost use Rattle.input_lines.specs.Runs.{mostLines};
 ghost use Rattle.night_print.specs.Steps.{Steps, Continues};
 
 // A refused opening ends a run.
@@ -40,7 +41,7 @@ pub fn step(
     out: &mut [u8],
 ) -> Stepped
     requires { ⌜ Ready (taken .state) (now book) (now list) (now x) (now m) ⌝ }
-    requires { ⌜ (length (now line) ≡ longestLine) × (taken .len ≤ longestLine) × (taken .state .lines + length (now came) + 1 < 18446744073709551616) × (lineRoom * length (now came) ≤ length (now out)) × (endRoom ≤ length (now out)) ⌝ }
+    requires { ⌜ (length (now line) ≡ longestLine) × (taken .len ≤ longestLine) × (taken .state .lines + length (now came) + 1 ≤ mostLines) × (lineRoom * length (now came) ≤ length (now out)) × (endRoom ≤ length (now out)) ⌝ }
     ensures { λ s. ⌜ Steps (runOf (taken .state) (bookOf (now (book .entry))) (now (list .entry)) (now (x .entry)) (now (m .entry))) (holds (now (line .entry)) (taken .len) (taken .over)) failed (now (came .entry)) (now (out .entry)) (s .progress) (runOf (s .taken .state) (bookOf (now (book .exit))) (now (list .exit)) (now (x .exit)) (now (m .exit))) (holds (now (line .exit)) (s .taken .len) (s .taken .over)) (s .printed) (now (out .exit)) ⌝ }
     ensures { λ s. ⌜ Continues taken (now (came .entry)) (s .progress) (s .taken) (s .printed) (now (book .exit)) (now (list .exit)) (now (x .exit)) (now (m .exit)) (now (out .exit)) ⌝ }
 {

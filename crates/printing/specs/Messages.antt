@@ -1,8 +1,9 @@
--- The printed message lines, each with its LF (10): `LINE k REFUSED no`, `LINE k UNREADABLE`, `REFUSED no`, `REFUSED 11 unknown`, `NO PROPOSAL`.
+-- The printed message lines, each with its LF: `LINE k REFUSED no`, `LINE k UNREADABLE`, `REFUSED no`, `REFUSED 11 unknown`, `NO PROPOSAL`.
 -- Assumes nothing.
 use Prim.Native.Nat.{ℕ}
 use mathlib.Core.List.{List, [], _∷_, _++_}
-use Rattle.text.specs.Numbers.{decimalIn}
+use Rattle.text.specs.Lines.{lineFeed}
+use Rattle.text.specs.Numbers.{mostDigits, decimalIn}
 
 -- `LINE `, ` REFUSED `, ` UNREADABLE`, `REFUSED `, `REFUSED 11 `, `NO PROPOSAL`
 abbrev LINE- : List ℕ
@@ -22,20 +23,20 @@ REFUSED-11- = 82 ∷ 69 ∷ 70 ∷ 85 ∷ 83 ∷ 69 ∷ 68 ∷ 32 ∷ 49 ∷ 49 
 
 -- "A refused edit prints `LINE k REFUSED no`, k from 1"
 unfoldable pub refusedLine : ℕ → ℕ → List ℕ
-refusedLine k number = LINE- ++ decimalIn 20 k ++ -REFUSED- ++ decimalIn 20 number ++ (10 ∷ [])
+refusedLine k number = LINE- ++ decimalIn mostDigits k ++ -REFUSED- ++ decimalIn mostDigits number ++ (lineFeed ∷ [])
 
 -- "any other line `LINE k UNREADABLE`"
 unfoldable pub unreadableLine : ℕ → List ℕ
-unreadableLine k = LINE- ++ decimalIn 20 k ++ -UNREADABLE
+unreadableLine k = LINE- ++ decimalIn mostDigits k ++ -UNREADABLE
 
 -- "A refused opening or check prints `REFUSED no`"
-unfoldable pub refused : ℕ → List ℕ
-refused number = REFUSED- ++ decimalIn 20 number ++ (10 ∷ [])
+unfoldable pub refusedText : ℕ → List ℕ
+refusedText number = REFUSED- ++ decimalIn mostDigits number ++ (lineFeed ∷ [])
 
 -- "for 11 also the unknown"
-unfoldable pub refusedUnknown : ℕ → List ℕ
-refusedUnknown unknown = REFUSED-11- ++ decimalIn 20 unknown ++ (10 ∷ [])
+unfoldable pub refusedUnknownText : ℕ → List ℕ
+refusedUnknownText unknown = REFUSED-11- ++ decimalIn mostDigits unknown ++ (lineFeed ∷ [])
 
 -- "with no proposal, `NO PROPOSAL`"
-abbrev pub noProposal : List ℕ
-noProposal = 78 ∷ 79 ∷ 32 ∷ 80 ∷ 82 ∷ 79 ∷ 80 ∷ 79 ∷ 83 ∷ 65 ∷ 76 ∷ 10 ∷ []
+abbrev pub noProposalText : List ℕ
+noProposalText = 78 ∷ 79 ∷ 32 ∷ 80 ∷ 82 ∷ 79 ∷ 80 ∷ 79 ∷ 83 ∷ 65 ∷ 76 ∷ 10 ∷ []

@@ -13,7 +13,7 @@ use Rattle.sheet.specs.Sheet.{sheetWords}
 use Rattle.checks.specs.Checks.{checked}
 use Rattle.text.specs.Writing as writing
 use Rattle.printing.specs.Rooms.{sheetRoom}
-use Rattle.printing.specs.Messages.{refused, refusedUnknown, noProposal}
+use Rattle.printing.specs.Messages.{refusedText, refusedUnknownText, noProposalText}
 use Rattle.printing.specs.SheetText.{sheetText}
 
 -- the printed sheet of a pair
@@ -22,7 +22,7 @@ sheetOf b x m = sheetText (sheetWords (b .network) (b .places) x m) (b .network 
 
 -- ════ a check: "A refused … check prints `REFUSED no`, for 11 also the unknown, and ends"
 unfoldable pub refusalSays : ℕ → ℕ → List ℕ
-refusalSays number unknown = cond (eqb number 11) (refusedUnknown unknown) (refused number)
+refusalSays number unknown = cond (eqb number 11) (refusedUnknownText unknown) (refusedText number)
 
 unfoldable pub answerSays : Answer → List ℕ → List ℕ
 answerSays Accepted sheet = sheet
@@ -42,7 +42,7 @@ pub data ValidOffer (b : Book) : Offer → Type 0 where
 
 -- "Without a readable X or M line the engine proposes; with no proposal, `NO PROPOSAL`"
 unfoldable pub offerSays : Book → Offer → List ℕ
-offerSays b none = noProposal
+offerSays b none = noProposalText
 offerSays b (pair x m) = sheetOf b x m
 
 -- the engine's offer is named, and printed at the front of `before`, which leaves `after`

@@ -1,9 +1,10 @@
--- The room that a printed line or the whole sheet takes, in bytes: at most so many. A number takes 21 (a sign and 20 digits), without a sign 20. Assumes nothing.
+-- The room that a printed line or the whole sheet takes, in bytes: at most so many. Assumes nothing.
 use Prim.Native.Nat.{ℕ, _+_, _*_}
+use Rattle.text.specs.Writing.{naturalRoom, numberRoom}
 
 -- a number with the blank after it
 abbrev pub fieldRoom : ℕ
-fieldRoom = 22
+fieldRoom = numberRoom + 1
 
 -- `LOOSE`
 abbrev pub verdictRoom : ℕ
@@ -12,7 +13,7 @@ verdictRoom = 5
 -- ════ the lines of a sheet, each with its LF
 -- `SHEET ` n ` RECORDS ` n ` UNKNOWNS`
 abbrev pub headRoom : ℕ
-headRoom = 67
+headRoom = 6 + numberRoom + 9 + numberRoom + 10
 
 -- seven numbers
 abbrev pub stationRoom : ℕ
@@ -34,22 +35,26 @@ globalRoom = 7 + 2 * fieldRoom + verdictRoom + 1
 abbrev pub sheetRoom : ℕ
 sheetRoom = headRoom + 32 * stationRoom + 256 * baselineRoom + globalRoom
 
+-- the words of the longest sheet: two counts, 7 for each of 32 stations and 256 baselines, and 3 of the global test
+abbrev pub longestSheet : ℕ
+longestSheet = 2 + 32 * 7 + 256 * 7 + 3
+
 -- ════ messages, each with its LF
 -- `LINE ` k ` REFUSED ` no, the longest
 abbrev pub messageRoom : ℕ
-messageRoom = 55
+messageRoom = 5 + naturalRoom + 9 + naturalRoom + 1
 
 -- `LINE ` k ` UNREADABLE`
 abbrev pub unreadableRoom : ℕ
-unreadableRoom = 37
+unreadableRoom = 5 + naturalRoom + 12
 
 -- `REFUSED ` no
 abbrev pub refusedRoom : ℕ
-refusedRoom = 29
+refusedRoom = 8 + naturalRoom + 1
 
 -- `REFUSED 11 ` unknown
 abbrev pub refusedUnknownRoom : ℕ
-refusedUnknownRoom = 32
+refusedUnknownRoom = 11 + naturalRoom + 1
 
 -- `NO PROPOSAL`
 abbrev pub noProposalRoom : ℕ

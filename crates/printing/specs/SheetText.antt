@@ -5,6 +5,8 @@ use mathlib.Core.List.{List, [], _∷_, _++_}
 use lib.Dec.{eqb}
 use lib.ListN.{getD, take, drop}
 use lib.IntN.{ℤ, pos}
+use Rattle.text.specs.Lines.{lineFeed}
+use Rattle.text.specs.Fields.{space}
 use Rattle.integers.specs.Sums.{sumN}
 use Rattle.words.specs.Signed.{eqZ}
 use Rattle.network.specs.Records.{observations, recordAt}
@@ -13,13 +15,13 @@ use Rattle.network.specs.declared.Record.{Record}
 use Rattle.sheet.specs.Sheet.{lineLength}
 use Rattle.text.specs.Numbers.{decimal}
 
-abbrev word : List ℤ → ℕ → ℤ
-word w i = getD w i (pos 0)
+abbrev wordAt : List ℤ → ℕ → ℤ
+wordAt w i = getD w i (pos 0)
 
 -- numbers with a blank after each
 unfoldable pub spaced : List ℤ → List ℕ
 spaced [] = []
-spaced (v ∷ vs) = decimal v ++ (32 ∷ []) ++ spaced vs
+spaced (v ∷ vs) = decimal v ++ (space ∷ []) ++ spaced vs
 
 -- n words from o on, with a blank after each
 abbrev pub fields : List ℤ → ℕ → ℕ → List ℕ
@@ -49,47 +51,47 @@ abbrev GLOBAL- : List ℕ
 GLOBAL- = 71 ∷ 76 ∷ 79 ∷ 66 ∷ 65 ∷ 76 ∷ 32 ∷ []
 
 -- `SHEET 2 RECORDS 1 UNKNOWNS`
-unfoldable pub headLine : List ℤ → List ℕ
-headLine w = SHEET- ++ decimal (word w 0) ++ -RECORDS- ++ decimal (word w 1) ++ -UNKNOWNS
+unfoldable pub headText : List ℤ → List ℕ
+headText w = SHEET- ++ decimal (wordAt w 0) ++ -RECORDS- ++ decimal (wordAt w 1) ++ -UNKNOWNS
 
 -- a station's seven words from o on: number, E, N, U, three variances
-unfoldable pub stationLine : List ℤ → ℕ → List ℕ
-stationLine w o = fields w o 6 ++ decimal (word w (o + 6)) ++ (10 ∷ [])
+unfoldable pub stationText : List ℤ → ℕ → List ℕ
+stationText w o = fields w o 6 ++ decimal (wordAt w (o + 6)) ++ (lineFeed ∷ [])
 
 -- "a baseline's line is place, three residuals, three verdicts"
-unfoldable pub baselineLine : List ℤ → ℕ → List ℕ
-baselineLine w o =
-    fields w o 4 ++ verdict (word w (o + 4)) ++ (32 ∷ []) ++ verdict (word w (o + 5)) ++ (32 ∷ []) ++ verdict (word w (o + 6)) ++ (10 ∷ [])
+unfoldable pub baselineText : List ℤ → ℕ → List ℕ
+baselineText w o =
+    fields w o 4 ++ verdict (wordAt w (o + 4)) ++ (space ∷ []) ++ verdict (wordAt w (o + 5)) ++ (space ∷ []) ++ verdict (wordAt w (o + 6)) ++ (lineFeed ∷ [])
 
 -- a height difference's three words: place, residual, verdict
-unfoldable pub heightLine : List ℤ → ℕ → List ℕ
-heightLine w o = fields w o 2 ++ verdict (word w (o + 2)) ++ (10 ∷ [])
+unfoldable pub heightText : List ℤ → ℕ → List ℕ
+heightText w o = fields w o 2 ++ verdict (wordAt w (o + 2)) ++ (lineFeed ∷ [])
 
 -- `GLOBAL 500000 1 PASS`: T, D, verdict
-unfoldable pub globalLine : List ℤ → ℕ → List ℕ
-globalLine w o = GLOBAL- ++ fields w o 2 ++ verdict (word w (o + 2)) ++ (10 ∷ [])
+unfoldable pub globalText : List ℤ → ℕ → List ℕ
+globalText w o = GLOBAL- ++ fields w o 2 ++ verdict (wordAt w (o + 2)) ++ (lineFeed ∷ [])
 
 -- ════ the whole
 -- "Stations, then records, print by rising number": the lines of the first n stations, whose words start at 2
-unfoldable pub stationLines : List ℤ → ℕ → List ℕ
-stationLines w zero = []
-stationLines w (suc n) = stationLines w n ++ stationLine w (2 + n * 7)
+unfoldable pub stationTexts : List ℤ → ℕ → List ℕ
+stationTexts w zero = []
+stationTexts w (suc n) = stationTexts w n ++ stationText w (2 + n * 7)
 
 -- a record's line, its words from o on, follows from how many components the record observes: 3 a baseline's, 1 a height difference's; an empty place has none
-unfoldable pub lineFor : List ℤ → ℕ → ℕ → List ℕ
-lineFor w o observed = cond (eqb observed 3) (baselineLine w o) (cond (eqb observed 1) (heightLine w o) [])
+unfoldable pub textFor : List ℤ → ℕ → ℕ → List ℕ
+textFor w o observed = cond (eqb observed 3) (baselineText w o) (cond (eqb observed 1) (heightText w o) [])
 
-abbrev pub recordLine : List ℤ → ℕ → Record → List ℕ
-recordLine w o r = lineFor w o (observations r)
+abbrev pub recordText : List ℤ → ℕ → Record → List ℕ
+recordText w o r = textFor w o (observations r)
 
 -- where the words of the record at place k start, those of the first place at o
 unfoldable pub recordStart : ℕ → List Place → ℕ → ℕ
 recordStart o places k = o + sumN k (λ p. lineLength (recordAt places p))
 
 -- the lines of the first k places
-unfoldable pub recordLines : List ℤ → ℕ → List Place → ℕ → List ℕ
-recordLines w o places zero = []
-recordLines w o places (suc k) = recordLines w o places k ++ recordLine w (recordStart o places k) (recordAt places k)
+unfoldable pub recordTexts : List ℤ → ℕ → List Place → ℕ → List ℕ
+recordTexts w o places zero = []
+recordTexts w o places (suc k) = recordTexts w o places k ++ recordText w (recordStart o places k) (recordAt places k)
 
 -- where the words of the global test start, after n stations and all records
 abbrev pub globalStart : ℕ → List Place → ℕ
@@ -98,4 +100,4 @@ globalStart n places = recordStart (2 + n * 7) places 256
 -- the printed sheet of n stations and these records
 unfoldable pub sheetText : List ℤ → ℕ → List Place → List ℕ
 sheetText w n places =
-    headLine w ++ stationLines w n ++ recordLines w (2 + n * 7) places 256 ++ globalLine w (globalStart n places)
+    headText w ++ stationTexts w n ++ recordTexts w (2 + n * 7) places 256 ++ globalText w (globalStart n places)

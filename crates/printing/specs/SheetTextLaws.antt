@@ -12,6 +12,7 @@ use borrow.Author.Tests.{eq-eqb, ne-eqb}
 use mir.Syntax.{w64}
 use mir.Val.{SFits, toZ, ofZ}
 use mir.Facts.{toZ-ofZ}
+use Rattle.text.specs.Fields.{space}
 use Rattle.integers.specs.Sums.{sumN, sumN-+1, sumN-first}
 use Rattle.words.specs.Signed.{eqZ}
 use Rattle.network.specs.Records.{observations, isEmpty, recordAt}
@@ -21,26 +22,26 @@ use Rattle.network.specs.declared.Record.{Record}
 use Rattle.sheet.specs.Sheet.{lineLength, room}
 use Rattle.text.specs.Numbers.{decimal}
 use Rattle.text.specs.Writing.{Written, nothing}
-use Rattle.printing.specs.SheetText.{spaced, fields, highVerdict, verdict, stationLine, baselineLine, heightLine, stationLines, lineFor, recordLine, recordStart, recordLines, globalStart}
+use Rattle.printing.specs.SheetText.{spaced, fields, highVerdict, verdict, stationText, baselineText, heightText, stationTexts, textFor, recordText, recordStart, recordTexts, globalStart}
 
 -- the text of a number that was handed over by its bits
 pub by-bits : (text : ℤ → List ℕ) {v : ℤ} → SFits w64 v → text (toZ w64 (ofZ w64 v)) ≡ text v
 by-bits text f = ap text (toZ-ofZ f)
 
 -- ════ fields
-spaced-snoc : (vs : List ℤ) (v : ℤ) → spaced vs ++ decimal v ++ (32 ∷ []) ≡ spaced (vs ++ (v ∷ []))
+spaced-snoc : (vs : List ℤ) (v : ℤ) → spaced vs ++ decimal v ++ (space ∷ []) ≡ spaced (vs ++ (v ∷ []))
 unfolding spaced
-spaced-snoc [] v = sym (append-nil (decimal v ++ (32 ∷ [])))
+spaced-snoc [] v = sym (append-nil (decimal v ++ (space ∷ [])))
 spaced-snoc (u ∷ vs) v =
-    ap (λ (l : List ℕ). l ++ (32 ∷ [])) (append-assoc (decimal u ++ (32 ∷ [])) (spaced vs) (decimal v))
-    ∙ append-assoc (decimal u ++ (32 ∷ [])) (spaced vs ++ decimal v) (32 ∷ [])
-    ∙ ap (λ (l : List ℕ). decimal u ++ (32 ∷ []) ++ l) (spaced-snoc vs v)
+    ap (λ (l : List ℕ). l ++ (space ∷ [])) (append-assoc (decimal u ++ (space ∷ [])) (spaced vs) (decimal v))
+    ∙ append-assoc (decimal u ++ (space ∷ [])) (spaced vs ++ decimal v) (space ∷ [])
+    ∙ ap (λ (l : List ℕ). decimal u ++ (space ∷ []) ++ l) (spaced-snoc vs v)
 
 pub fields-start : (l : List ℕ) (at : ℕ) (w : List ℤ) (o : ℕ) → Written l at (fields w o 0) at l
 unfolding spaced
 fields-start l at w o = nothing l at
 
-pub fields-more : (w : List ℤ) (o i : ℕ) → o + i < length w → fields w o i ++ decimal (getD w (o + i) (pos 0)) ++ (32 ∷ []) ≡ fields w o (i + 1)
+pub fields-more : (w : List ℤ) (o i : ℕ) → o + i < length w → fields w o i ++ decimal (getD w (o + i) (pos 0)) ++ (space ∷ []) ≡ fields w o (i + 1)
 fields-more w o i h =
     let inside : i < length (drop o w) = rw length-drop (omega arith) in
     let e : take (i + 1) (drop o w) ≡ take i (drop o w) ++ (getD w (o + i) (pos 0) ∷ []) =
@@ -81,27 +82,27 @@ module _ (v : ℤ) where
     is-none e = rw (a, e)
 
 -- ════ the lines of several
-pub stations-start : (l : List ℕ) (at : ℕ) (w : List ℤ) → Written l at (stationLines w 0) at l
-unfolding stationLines
+pub stations-start : (l : List ℕ) (at : ℕ) (w : List ℤ) → Written l at (stationTexts w 0) at l
+unfolding stationTexts
 stations-start l at w = nothing l at
 
-pub stations-more : (w : List ℤ) (n : ℕ) → stationLines w n ++ stationLine w (2 + n * 7) ≡ stationLines w (n + 1)
-unfolding stationLines
+pub stations-more : (w : List ℤ) (n : ℕ) → stationTexts w n ++ stationText w (2 + n * 7) ≡ stationTexts w (n + 1)
+unfolding stationTexts
 stations-more w n = rw add-one
 
 -- ════ the line of a record
 module _ (w : List ℤ) (o : ℕ) (r : Record) where
-  pub a-baseline : observations r ≡ 3 → baselineLine w o ≡ recordLine w o r
-  unfolding lineFor
+  pub a-baseline : observations r ≡ 3 → baselineText w o ≡ recordText w o r
+  unfolding textFor
   a-baseline e = rw (eq-eqb (observations r) 3 e)
 
   module _ (q : observations r ≡ 3 → ⊥) where
-    pub a-height : observations r ≡ 1 → heightLine w o ≡ recordLine w o r
-    unfolding lineFor
+    pub a-height : observations r ≡ 1 → heightText w o ≡ recordText w o r
+    unfolding textFor
     a-height e = rw (ne-eqb (observations r) 3 q, eq-eqb (observations r) 1 e)
 
-    pub no-line : (observations r ≡ 1 → ⊥) → [] ≡ recordLine w o r
-    unfolding lineFor
+    pub no-line : (observations r ≡ 1 → ⊥) → [] ≡ recordText w o r
+    unfolding textFor
     no-line e = rw (ne-eqb (observations r) 3 q, ne-eqb (observations r) 1 e)
 
 -- the words that a record takes that observes something
@@ -111,8 +112,8 @@ words-observed r n e q = rw (e, ne-eqb n 0 q)
 
 -- ════ the lines of the records
 module _ (o : ℕ) (places : List Place) where
-  pub records-start : (l : List ℕ) (at : ℕ) (w : List ℤ) → Written l at (recordLines w o places 0) at l
-  unfolding recordLines
+  pub records-start : (l : List ℕ) (at : ℕ) (w : List ℤ) → Written l at (recordTexts w o places 0) at l
+  unfolding recordTexts
   records-start l at w = nothing l at
 
   pub start-zero : o ≡ recordStart o places 0
@@ -124,8 +125,8 @@ module _ (o : ℕ) (places : List Place) where
   start-more k = omega (arith, sumN-+1 k (λ p. lineLength (recordAt places p)))
 
   pub records-more :
-      (w : List ℤ) (k : ℕ) → recordLines w o places k ++ recordLine w (recordStart o places k) (recordAt places k) ≡ recordLines w o places (k + 1)
-  unfolding recordLines
+      (w : List ℤ) (k : ℕ) → recordTexts w o places k ++ recordText w (recordStart o places k) (recordAt places k) ≡ recordTexts w o places (k + 1)
+  unfolding recordTexts
   records-more w k = rw add-one
 
   -- the words of the places up to the k-th end where those of the last do, at most

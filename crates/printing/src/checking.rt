@@ -10,12 +10,12 @@ ghost use lib.ListN.{length};
 ghost use Rattle.layout.specs.Bytes.{bookOf, bytesFit};
 ghost use Rattle.sheet.specs.Sheet.{room};
 ghost use Rattle.text.specs.Writing.{Written};
-ghost use Rattle.printing.specs.Rooms.{sheetRoom};
+ghost use Rattle.printing.specs.Rooms.{sheetRoom, longestSheet};
 ghost use Rattle.printing.specs.SheetText.{sheetText};
 ghost use Rattle.printing.specs.Reports.{refusalSays, checkSays};
 
-// The words of the longest sheet: 5, 7 for each of 32 stations, and 7 for each of 256 baselines.
-const LONGEST: usize = 5 + 7 * Unit::STATIONS + 7 * Unit::PLACES;
+// The words of the longest sheet: two counts, 7 for each station and each baseline, and 3 of the global test.
+const LONGEST_SHEET: usize = 2 + Unit::STATIONS * 7 + Unit::PLACES * 7 + 3;
 
 // The words that the book's sheet takes.
 fn room_in(s: &[u8]) -> usize
@@ -68,10 +68,10 @@ fn report_check(out: &mut [u8], s: &[u8], x: &[i64], m: &[i64], words: &mut [i64
 }
 
 // Room for the words of any sheet.
-fn no_words() -> [i64; LONGEST]
-    ensures { λ r. ⌜ 2021 ≡ length r ⌝ }
+fn no_words() -> [i64; LONGEST_SHEET]
+    ensures { λ r. ⌜ longestSheet ≡ length r ⌝ }
 {
-    [0; LONGEST]
+    [0; LONGEST_SHEET]
 }
 
 // The check of a pair on the book that the bytes hold, printed at the front of out: the sheet, or the refusal.

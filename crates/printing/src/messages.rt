@@ -6,7 +6,7 @@ ghost use Prim.Native.Nat.{_+_, _≤_};
 ghost use lib.ListN.{length};
 ghost use Rattle.text.specs.Writing.{Written};
 ghost use Rattle.printing.specs.Rooms.{messageRoom, unreadableRoom, refusedRoom, refusedUnknownRoom, noProposalRoom};
-ghost use Rattle.printing.specs.Messages.{refusedLine, unreadableLine, refused, refusedUnknown, noProposal};
+ghost use Rattle.printing.specs.Messages.{refusedLine, unreadableLine, refusedText, refusedUnknownText, noProposalText};
 
 // `LINE k REFUSED no`
 pub fn write_refused_line(out: &mut [u8], at: usize, k: u64, number: u64) -> usize
@@ -35,7 +35,7 @@ pub fn write_unreadable_line(out: &mut [u8], at: usize, k: u64) -> usize
 // `REFUSED no`
 pub fn write_refused(out: &mut [u8], at: usize, number: u64) -> usize
     requires { ⌜ at + refusedRoom ≤ length (now out) ⌝ }
-    ensures { λ r. ⌜ Written (now (out .entry)) at (refused number) r (now (out .exit)) ⌝ }
+    ensures { λ r. ⌜ Written (now (out .entry)) at (refusedText number) r (now (out .exit)) ⌝ }
     ensures { λ r. ⌜ r ≤ at + refusedRoom ⌝ }
 {
     let a = write_text(out, at, b"REFUSED ");
@@ -46,7 +46,7 @@ pub fn write_refused(out: &mut [u8], at: usize, number: u64) -> usize
 // `REFUSED 11 unknown`
 pub fn write_refused_unknown(out: &mut [u8], at: usize, unknown: u64) -> usize
     requires { ⌜ at + refusedUnknownRoom ≤ length (now out) ⌝ }
-    ensures { λ r. ⌜ Written (now (out .entry)) at (refusedUnknown unknown) r (now (out .exit)) ⌝ }
+    ensures { λ r. ⌜ Written (now (out .entry)) at (refusedUnknownText unknown) r (now (out .exit)) ⌝ }
     ensures { λ r. ⌜ r ≤ at + refusedUnknownRoom ⌝ }
 {
     let a = write_text(out, at, b"REFUSED 11 ");
@@ -57,7 +57,7 @@ pub fn write_refused_unknown(out: &mut [u8], at: usize, unknown: u64) -> usize
 // `NO PROPOSAL`
 pub fn write_no_proposal(out: &mut [u8], at: usize) -> usize
     requires { ⌜ at + noProposalRoom ≤ length (now out) ⌝ }
-    ensures { λ r. ⌜ Written (now (out .entry)) at noProposal r (now (out .exit)) ⌝ }
+    ensures { λ r. ⌜ Written (now (out .entry)) at noProposalText r (now (out .exit)) ⌝ }
 {
     write_text(out, at, b"NO PROPOSAL\n")
 }

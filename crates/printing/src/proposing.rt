@@ -13,9 +13,7 @@ ghost use Rattle.printing.specs.Rooms.{sheetRoom};
 ghost use Rattle.printing.specs.Reports.{Reported};
 
 // What the engine works in, and room for the pair of a book with 48 unknowns.
-fn no_work() -> [f64; engine::WORK]
-    ensures { λ r. ⌜ 4608 ≡ length r ⌝ }
-{
+fn no_work() -> [f64; engine::WORK] {
     [0.0; engine::WORK]
 }
 

@@ -1,5 +1,5 @@
 // The lines of the printed sheet, from the sheet's words, into a lent buffer: each takes the position to write at and gives the position after.
-use super::Printed;
+use super::SheetPrinted;
 use network::Record;
 use network::Unit;
 use text::write_byte;
@@ -12,8 +12,8 @@ ghost use Rattle.network.specs.Places.{placesLength, placesIn};
 ghost use Rattle.sheet.specs.Sheet.{lineLength};
 ghost use Rattle.text.specs.Writing.{Written};
 ghost use Rattle.printing.specs.Rooms.{fieldRoom, verdictRoom, headRoom, stationRoom, baselineRoom, heightRoom, globalRoom, sheetRoom};
-ghost use Rattle.printing.specs.SheetText.{fields, highVerdict, verdict, headLine, stationLine, baselineLine, heightLine, globalLine};
-ghost use Rattle.printing.specs.SheetText.{stationLines, recordLine, recordStart, recordLines, globalStart, sheetText};
+ghost use Rattle.printing.specs.SheetText.{fields, highVerdict, verdict, headText, stationText, baselineText, heightText, globalText};
+ghost use Rattle.printing.specs.SheetText.{stationTexts, recordText, recordStart, recordTexts, globalStart, sheetText};
 
 // n words of w from o on, a blank after each.
 fn write_fields(out: &mut [u8], at: usize, w: &[i64], o: usize, n: usize) -> usize
@@ -66,7 +66,7 @@ fn write_verdict(out: &mut [u8], at: usize, v: i64) -> usize
 // `SHEET 2 RECORDS 1 UNKNOWNS`
 fn write_head(out: &mut [u8], at: usize, w: &[i64]) -> usize
     requires { ⌜ (2 ≤ length (now w)) × (at + headRoom ≤ length (now out)) ⌝ }
-    ensures { λ r. ⌜ Written (now (out .entry)) at (headLine (now (w .entry))) r (now (out .exit)) ⌝ }
+    ensures { λ r. ⌜ Written (now (out .entry)) at (headText (now (w .entry))) r (now (out .exit)) ⌝ }
     ensures { λ r. ⌜ r ≤ at + headRoom ⌝ }
 {
     let a = write_text(out, at, b"SHEET ");
@@ -79,7 +79,7 @@ fn write_head(out: &mut [u8], at: usize, w: &[i64]) -> usize
 // A station's line, from its seven words.
 fn write_station(out: &mut [u8], at: usize, w: &[i64], o: usize) -> usize
     requires { ⌜ (o + 7 ≤ length (now w)) × (at + stationRoom ≤ length (now out)) ⌝ }
-    ensures { λ r. ⌜ Written (now (out .entry)) at (stationLine (now (w .entry)) o) r (now (out .exit)) ⌝ }
+    ensures { λ r. ⌜ Written (now (out .entry)) at (stationText (now (w .entry)) o) r (now (out .exit)) ⌝ }
     ensures { λ r. ⌜ r ≤ at + stationRoom ⌝ }
 {
     let a = write_fields(out, at, w, o, 6);
@@ -90,7 +90,7 @@ fn write_station(out: &mut [u8], at: usize, w: &[i64], o: usize) -> usize
 // A baseline's line, from its seven words.
 fn write_baseline(out: &mut [u8], at: usize, w: &[i64], o: usize) -> usize
     requires { ⌜ (o + 7 ≤ length (now w)) × (at + baselineRoom ≤ length (now out)) ⌝ }
-    ensures { λ r. ⌜ Written (now (out .entry)) at (baselineLine (now (w .entry)) o) r (now (out .exit)) ⌝ }
+    ensures { λ r. ⌜ Written (now (out .entry)) at (baselineText (now (w .entry)) o) r (now (out .exit)) ⌝ }
     ensures { λ r. ⌜ r ≤ at + baselineRoom ⌝ }
 {
     let a = write_fields(out, at, w, o, 4);
@@ -105,7 +105,7 @@ fn write_baseline(out: &mut [u8], at: usize, w: &[i64], o: usize) -> usize
 // A height difference's line, from its three words.
 fn write_height(out: &mut [u8], at: usize, w: &[i64], o: usize) -> usize
     requires { ⌜ (o + 3 ≤ length (now w)) × (at + heightRoom ≤ length (now out)) ⌝ }
-    ensures { λ r. ⌜ Written (now (out .entry)) at (heightLine (now (w .entry)) o) r (now (out .exit)) ⌝ }
+    ensures { λ r. ⌜ Written (now (out .entry)) at (heightText (now (w .entry)) o) r (now (out .exit)) ⌝ }
     ensures { λ r. ⌜ r ≤ at + heightRoom ⌝ }
 {
     let a = write_fields(out, at, w, o, 2);
@@ -116,7 +116,7 @@ fn write_height(out: &mut [u8], at: usize, w: &[i64], o: usize) -> usize
 // `GLOBAL 500000 1 PASS`
 fn write_global(out: &mut [u8], at: usize, w: &[i64], o: usize) -> usize
     requires { ⌜ (o + 3 ≤ length (now w)) × (at + globalRoom ≤ length (now out)) ⌝ }
-    ensures { λ r. ⌜ Written (now (out .entry)) at (globalLine (now (w .entry)) o) r (now (out .exit)) ⌝ }
+    ensures { λ r. ⌜ Written (now (out .entry)) at (globalText (now (w .entry)) o) r (now (out .exit)) ⌝ }
     ensures { λ r. ⌜ r ≤ at + globalRoom ⌝ }
 {
     let a = write_text(out, at, b"GLOBAL ");
@@ -128,7 +128,7 @@ fn write_global(out: &mut [u8], at: usize, w: &[i64], o: usize) -> usize
 // The lines of n stations.
 fn write_stations(out: &mut [u8], at: usize, w: &[i64], n: usize) -> usize
     requires { ⌜ (2 + n * 7 ≤ length (now w)) × (at + n * stationRoom ≤ length (now out)) ⌝ }
-    ensures { λ r. ⌜ Written (now (out .entry)) at (stationLines (now (w .entry)) n) r (now (out .exit)) ⌝ }
+    ensures { λ r. ⌜ Written (now (out .entry)) at (stationTexts (now (w .entry)) n) r (now (out .exit)) ⌝ }
     ensures { λ r. ⌜ r ≤ at + n * stationRoom ⌝ }
 {
     let mut p = at;
@@ -143,7 +143,7 @@ fn write_stations(out: &mut [u8], at: usize, w: &[i64], n: usize) -> usize
 // A record's line, its words from o on, by how many components it observes; nothing for an empty place.
 fn write_record(out: &mut [u8], at: usize, w: &[i64], o: usize, r: Record) -> usize
     requires { ⌜ (o + lineLength r ≤ length (now w)) × (at + baselineRoom ≤ length (now out)) ⌝ }
-    ensures { λ k. ⌜ Written (now (out .entry)) at (recordLine (now (w .entry)) o r) k (now (out .exit)) ⌝ }
+    ensures { λ k. ⌜ Written (now (out .entry)) at (recordText (now (w .entry)) o r) k (now (out .exit)) ⌝ }
     ensures { λ k. ⌜ k ≤ at + baselineRoom ⌝ }
 {
     let observed = network::observations_of(r);
@@ -157,9 +157,9 @@ fn write_record(out: &mut [u8], at: usize, w: &[i64], o: usize, r: Record) -> us
 }
 
 // The lines of the records, whose words start at o, and where the words after them start.
-fn write_records(out: &mut [u8], at: usize, w: &[i64], o: usize, places: &[i64]) -> Printed
+fn write_records(out: &mut [u8], at: usize, w: &[i64], o: usize, places: &[i64]) -> SheetPrinted
     requires { ⌜ (placesLength ≤ length (now places)) × (recordStart o (placesIn (now places)) 256 ≤ length (now w)) × (at + 256 * baselineRoom ≤ length (now out)) ⌝ }
-    ensures { λ r. ⌜ Written (now (out .entry)) at (recordLines (now (w .entry)) o (placesIn (now (places .entry))) 256) (r .next) (now (out .exit)) ⌝ }
+    ensures { λ r. ⌜ Written (now (out .entry)) at (recordTexts (now (w .entry)) o (placesIn (now (places .entry))) 256) (r .next) (now (out .exit)) ⌝ }
     ensures { λ r. ⌜ (r .next ≤ at + 256 * baselineRoom) × (r .word ≡ recordStart o (placesIn (now (places .entry))) 256) ⌝ }
 {
     let mut next = at;
@@ -171,7 +171,7 @@ fn write_records(out: &mut [u8], at: usize, w: &[i64], o: usize, places: &[i64])
         word += sheet::words_in(r);
         p += 1;
     }
-    Printed { next, word }
+    SheetPrinted { next, word }
 }
 
 // The printed sheet of n stations and the records of these places, from its words.

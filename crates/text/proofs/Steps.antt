@@ -11,7 +11,7 @@ use lib.Seq.{take-suc, take-all}
 use lib.IntN.{ℤ, pos, natAbs}
 use lib.Signed.{ltZ}
 use borrow.Author.Tests.{lt-ltb, le-ltb}
-use Rattle.text.specs.Numbers.{decimalIn, decimal}
+use Rattle.text.specs.Numbers.{zeroDigit, minusSign, mostDigits, decimalIn, decimal}
 use Rattle.text.specs.Writing.{Written, nothing, _then_}
 
 -- ════ a text, byte by byte
@@ -40,11 +40,11 @@ module _ (l : List ℕ) (at k n : ℕ) where
   no-digit e = rw e (nothing l at)
 
   module _ (p : ℕ) (m : List ℕ) (q : k ≡ 0 → ⊥) where
-    pub one-digit : n < 10 → Written l at ((48 + n) ∷ []) p m → Written l at (decimalIn k n) p m
+    pub one-digit : n < 10 → Written l at ((zeroDigit + n) ∷ []) p m → Written l at (decimalIn k n) p m
     unfolding decimalIn
     one-digit h w = rw (one k q) at w
       where
-        one : (j : ℕ) → (j ≡ 0 → ⊥) → (48 + n) ∷ [] ≡ decimalIn j n
+        one : (j : ℕ) → (j ≡ 0 → ⊥) → (zeroDigit + n) ∷ [] ≡ decimalIn j n
         one zero r = absurd (r refl)
         one (suc j) r = rw (lt-ltb n 10 h)
 
@@ -52,26 +52,26 @@ module _ (l : List ℕ) (at k n : ℕ) where
         (next : ℕ) (after : List ℕ) →
         10 ≤ n →
         Written l at (decimalIn (k - 1) (n / 10)) p m →
-        Written m p ((48 + n % 10) ∷ []) next after →
+        Written m p ((zeroDigit + n % 10) ∷ []) next after →
         Written l at (decimalIn k n) next after
     unfolding decimalIn
     more-digits next after h w v = rw (more k q) at (w then v)
       where
-        more : (j : ℕ) → (j ≡ 0 → ⊥) → decimalIn (j - 1) (n / 10) ++ ((48 + n % 10) ∷ []) ≡ decimalIn j n
+        more : (j : ℕ) → (j ≡ 0 → ⊥) → decimalIn (j - 1) (n / 10) ++ ((zeroDigit + n % 10) ∷ []) ≡ decimalIn j n
         more zero r = absurd (r refl)
         more (suc j) r = let e : suc j - 1 ≡ j = omega arith in rw (le-ltb n 10 h, e)
 
 -- ════ the sign
 module _ (l : List ℕ) (at next : ℕ) (after : List ℕ) (v : ℤ) (n : ℕ) (e : n ≡ natAbs v) where
-  pub unsigned-decimal : ltZ v (pos 0) ≡ false → Written l at (decimalIn 20 n) next after → Written l at (decimal v) next after
+  pub unsigned-decimal : ltZ v (pos 0) ≡ false → Written l at (decimalIn mostDigits n) next after → Written l at (decimal v) next after
   unfolding decimal
   unsigned-decimal t w = rw (t, ← e) w
 
   pub signed-decimal :
       (p : ℕ) (m : List ℕ) →
       ltZ v (pos 0) ≡ true →
-      Written l at (45 ∷ []) p m →
-      Written m p (decimalIn 20 n) next after →
+      Written l at (minusSign ∷ []) p m →
+      Written m p (decimalIn mostDigits n) next after →
       Written l at (decimal v) next after
   unfolding decimal
   signed-decimal p m t w u = rw (t, ← e) (w then u)

@@ -15,7 +15,7 @@ use mir.Val.{toZ}
 use mir.ValLaws.{toZ-neg}
 use borrow.Author.Tests.{leb-true, eq-eqb, ne-eqb, le-leb, lt-leb}
 use Rattle.words.specs.Bools.{and-left, and-right}
-use Rattle.text.specs.Numbers.{isDigit, allDigits, isDecimal, valueAfter, valueOf, minus, signedOf, numberOf}
+use Rattle.text.specs.Numbers.{zeroDigit, nineDigit, minusSign, mostPositive, mostNegative, isDigit, allDigits, isDecimal, valueAfter, valueOf, minus, signedOf, numberIn}
 use Rattle.text.specs.declared.Number.{Number}
 use Rattle.text.specs.declared.Number.the-variants.{Value, Unreadable}
 use Rattle.text.specs.declared.Digits.{Digits}
@@ -33,13 +33,13 @@ unfoldable pub digitsOf : List ℕ → Digits
 digitsOf ds = cond (isDecimal ds) (digits.Value (cut (valueOf ds))) digits.Unreadable
 
 -- a sign, where the value is at most `most`
-abbrev pub within : (ℕ → ℤ) → ℕ → Digits → Number
-within sign most digits.Unreadable = Unreadable
-within sign most (digits.Value n) = cond (leb n most) (Value (sign n)) Unreadable
+abbrev pub signedWithin : (ℕ → ℤ) → ℕ → Digits → Number
+signedWithin sign most digits.Unreadable = Unreadable
+signedWithin sign most (digits.Value n) = cond (leb n most) (Value (sign n)) Unreadable
 
 -- ════ the laws of the loop
-pub digit-bounds : (c : ℕ) → isDigit c ≡ true → (48 ≤ c) × (c ≤ 57)
-digit-bounds c e = (leb-true 48 c (and-left (leb 48 c) (leb c 57) e), leb-true c 57 (and-right (leb 48 c) (leb c 57) e))
+pub digit-bounds : (c : ℕ) → isDigit c ≡ true → (zeroDigit ≤ c) × (c ≤ nineDigit)
+digit-bounds c e = (leb-true zeroDigit c (and-left (leb zeroDigit c) (leb c nineDigit) e), leb-true c nineDigit (and-right (leb zeroDigit c) (leb c nineDigit) e))
 
 cut-step : (n k : ℕ) → cut (cut n * 10 + k) ≡ cut (n * 10 + k)
 cut-step n k = omega arith
@@ -49,18 +49,18 @@ cut-after : (n : ℕ) (ds : List ℕ) → cut (valueAfter (cut n) ds) ≡ cut (v
 unfolding valueAfter
 cut-after n [] = omega arith
 cut-after n (c ∷ cs) =
-    sym (cut-after (cut n * 10 + (c - 48)) cs) ∙ ap (λ (m : ℕ). cut (valueAfter m cs)) (cut-step n (c - 48)) ∙ cut-after (n * 10 + (c - 48)) cs
+    sym (cut-after (cut n * 10 + (c - zeroDigit)) cs) ∙ ap (λ (m : ℕ). cut (valueAfter m cs)) (cut-step n (c - zeroDigit)) ∙ cut-after (n * 10 + (c - zeroDigit)) cs
 
 module _ (s : List ℕ) (n i : ℕ) where
   pub digits-more :
       (m : ℕ) →
-      m ≡ cut (n * 10 + (getD s i 0 - 48)) →
+      m ≡ cut (n * 10 + (getD s i 0 - zeroDigit)) →
       i < length s →
       isDigit (getD s i 0) ≡ true →
       digitsAfter m (drop (i + 1) s) ≡ digitsAfter n (drop i s)
   unfolding digitsAfter valueAfter allDigits
   digits-more m q h e =
-      sym (rw (drop-cons s i 0 h, e, add-one, q, cut-after (n * 10 + (getD s i 0 - 48)) (drop (suc i) s)))
+      sym (rw (drop-cons s i 0 h, e, add-one, q, cut-after (n * 10 + (getD s i 0 - zeroDigit)) (drop (suc i) s)))
 
   pub digits-wrong : i < length s → isDigit (getD s i 0) ≡ false → digits.Unreadable ≡ digitsAfter n (drop i s)
   unfolding digitsAfter allDigits
@@ -79,14 +79,14 @@ unfolding digitsAfter digitsOf isDecimal
 digits-start s i h = rw (drop-cons s i 0 h)
 
 -- ════ the sign
-within-is : (sign : ℕ → ℤ) (most : ℕ) (ds : List ℕ) → most < 9223372036854775809 → within sign most (digitsOf ds) ≡ signedOf sign most ds
+within-is : (sign : ℕ → ℤ) (most : ℕ) (ds : List ℕ) → most < 9223372036854775809 → signedWithin sign most (digitsOf ds) ≡ signedOf sign most ds
 unfolding digitsOf signedOf
 within-is sign most ds h = by (isDecimal ds) (decLe (valueOf ds) most)
   where
     by :
         (t : Bool) →
         Dec (valueOf ds ≤ most) →
-        within sign most (cond t (digits.Value (cut (valueOf ds))) digits.Unreadable) ≡ cond (t && leb (valueOf ds) most) (Value (sign (valueOf ds))) Unreadable
+        signedWithin sign most (cond t (digits.Value (cut (valueOf ds))) digits.Unreadable) ≡ cond (t && leb (valueOf ds) most) (Value (sign (valueOf ds))) Unreadable
     by false d = refl
     by true (yes k) = let e : cut (valueOf ds) ≡ valueOf ds = omega arith in rw e
     by true (no k) = rw (lt-leb (valueOf ds) most (omega arith), lt-leb (cut (valueOf ds)) most (omega arith))
@@ -95,30 +95,30 @@ module _ (s : List ℕ) (h : 0 < length s) where
   whole : s ≡ getD s 0 0 ∷ drop 1 s
   whole = drop-cons s 0 0 h
 
-  pub number-minus : (d : Digits) → getD s 0 0 ≡ 45 → d ≡ digitsOf (drop 1 s) → within minus 9223372036854775808 d ≡ numberOf s
-  unfolding numberOf
+  pub number-minus : (d : Digits) → getD s 0 0 ≡ minusSign → d ≡ digitsOf (drop 1 s) → signedWithin minus mostNegative d ≡ numberIn s
+  unfolding numberIn
   number-minus d e q =
-      rw q (within-is minus 9223372036854775808 (drop 1 s) (omega arith) ∙ sym (ap numberOf whole ∙ rw (eq-eqb (getD s 0 0) 45 e)))
+      rw q (within-is minus mostNegative (drop 1 s) (omega arith) ∙ sym (ap numberIn whole ∙ rw (eq-eqb (getD s 0 0) minusSign e)))
 
-  pub number-plus : (d : Digits) → (getD s 0 0 ≡ 45 → ⊥) → d ≡ digitsOf s → within pos 9223372036854775807 d ≡ numberOf s
-  unfolding numberOf
+  pub number-plus : (d : Digits) → (getD s 0 0 ≡ minusSign → ⊥) → d ≡ digitsOf s → signedWithin pos mostPositive d ≡ numberIn s
+  unfolding numberIn
   number-plus d e q =
-      rw q (within-is pos 9223372036854775807 s (omega arith)
-      ∙ sym (ap numberOf whole ∙ rw (ne-eqb (getD s 0 0) 45 e) (ap (signedOf pos 9223372036854775807) (sym whole))))
+      rw q (within-is pos mostPositive s (omega arith)
+      ∙ sym (ap numberIn whole ∙ rw (ne-eqb (getD s 0 0) minusSign e) (ap (signedOf pos mostPositive) (sym whole))))
 
-pub number-none : (s : List ℕ) → length s ≡ 0 → Unreadable ≡ numberOf s
-unfolding numberOf
+pub number-none : (s : List ℕ) → length s ≡ 0 → Unreadable ≡ numberIn s
+unfolding numberIn
 number-none [] h = refl
 number-none (c ∷ cs) h = absurd (omega arith)
 
 module _ (sign : ℕ → ℤ) (most : ℕ) (d : Digits) where
-  pub within-none : d ≡ digits.Unreadable → Unreadable ≡ within sign most d
+  pub within-none : d ≡ digits.Unreadable → Unreadable ≡ signedWithin sign most d
   within-none e = rw e
 
-  pub within-in : (n : ℕ) → d ≡ digits.Value n → n ≤ most → Value (sign n) ≡ within sign most d
+  pub within-in : (n : ℕ) → d ≡ digits.Value n → n ≤ most → Value (sign n) ≡ signedWithin sign most d
   within-in n e h = rw (e, le-leb n most h)
 
-  pub within-beyond : (n : ℕ) → d ≡ digits.Value n → most < n → Unreadable ≡ within sign most d
+  pub within-beyond : (n : ℕ) → d ≡ digits.Value n → most < n → Unreadable ≡ signedWithin sign most d
   within-beyond n e h = rw (e, lt-leb n most h)
 
 -- ════ -n by its bits

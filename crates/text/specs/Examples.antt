@@ -3,51 +3,51 @@ use mathlib.Core.Path.{_≡_, refl}
 use mathlib.Core.List.{List, [], _∷_}
 use Prim.Native.Nat.{ℕ}
 use lib.IntN.{pos, negsuc}
-use Rattle.text.specs.Numbers.{allDigits, isDecimal, valueAfter, signedOf, numberOf, decimalIn, decimal}
+use Rattle.text.specs.Numbers.{allDigits, isDecimal, valueAfter, signedOf, numberIn, decimalIn, decimal}
 use Rattle.text.specs.Fields.{fieldsOf}
-use Rattle.text.specs.Lines.{linesOf, linesAfter, kept, keep, came, cameAll, blank}
+use Rattle.text.specs.Lines.{linesOf, linesAfter, kept, keep, came, cameAll, nothingHeld}
 use Rattle.text.specs.declared.Number.the-variants.{Value, Unreadable}
 
 -- `007`, `-0`, `-12`
-zeros-read : numberOf (48 ∷ 48 ∷ 55 ∷ []) ≡ Value (pos 7)
-unfolding numberOf signedOf isDecimal allDigits valueAfter
+zeros-read : numberIn (48 ∷ 48 ∷ 55 ∷ []) ≡ Value (pos 7)
+unfolding numberIn signedOf isDecimal allDigits valueAfter
 zeros-read = refl
 
-minus-zero-read : numberOf (45 ∷ 48 ∷ []) ≡ Value (pos 0)
-unfolding numberOf signedOf isDecimal allDigits valueAfter
+minus-zero-read : numberIn (45 ∷ 48 ∷ []) ≡ Value (pos 0)
+unfolding numberIn signedOf isDecimal allDigits valueAfter
 minus-zero-read = refl
 
-negative-read : numberOf (45 ∷ 49 ∷ 50 ∷ []) ≡ Value (negsuc 11)
-unfolding numberOf signedOf isDecimal allDigits valueAfter
+negative-read : numberIn (45 ∷ 49 ∷ 50 ∷ []) ≡ Value (negsuc 11)
+unfolding numberIn signedOf isDecimal allDigits valueAfter
 negative-read = refl
 
 -- `+1`, ``, `-`, `1x`
-plus-wrong : numberOf (43 ∷ 49 ∷ []) ≡ Unreadable
-unfolding numberOf signedOf isDecimal allDigits valueAfter
+plus-wrong : numberIn (43 ∷ 49 ∷ []) ≡ Unreadable
+unfolding numberIn signedOf isDecimal allDigits valueAfter
 plus-wrong = refl
 
-empty-wrong : numberOf [] ≡ Unreadable
-unfolding numberOf
+empty-wrong : numberIn [] ≡ Unreadable
+unfolding numberIn
 empty-wrong = refl
 
-sign-wrong : numberOf (45 ∷ []) ≡ Unreadable
-unfolding numberOf signedOf isDecimal allDigits valueAfter
+sign-wrong : numberIn (45 ∷ []) ≡ Unreadable
+unfolding numberIn signedOf isDecimal allDigits valueAfter
 sign-wrong = refl
 
-letter-wrong : numberOf (49 ∷ 120 ∷ []) ≡ Unreadable
-unfolding numberOf signedOf isDecimal allDigits valueAfter
+letter-wrong : numberIn (49 ∷ 120 ∷ []) ≡ Unreadable
+unfolding numberIn signedOf isDecimal allDigits valueAfter
 letter-wrong = refl
 
 -- `-9223372036854775808` is read, `9223372036854775808` is not
 least : List ℕ
 least = 57 ∷ 50 ∷ 50 ∷ 51 ∷ 51 ∷ 55 ∷ 50 ∷ 48 ∷ 51 ∷ 54 ∷ 56 ∷ 53 ∷ 52 ∷ 55 ∷ 55 ∷ 53 ∷ 56 ∷ 48 ∷ 56 ∷ []
 
-least-read : numberOf (45 ∷ least) ≡ Value (negsuc 9223372036854775807)
-unfolding numberOf signedOf isDecimal allDigits valueAfter least
+least-read : numberIn (45 ∷ least) ≡ Value (negsuc 9223372036854775807)
+unfolding numberIn signedOf isDecimal allDigits valueAfter least
 least-read = refl
 
-beyond-wrong : numberOf least ≡ Unreadable
-unfolding numberOf signedOf isDecimal allDigits valueAfter least
+beyond-wrong : numberIn least ≡ Unreadable
+unfolding numberIn signedOf isDecimal allDigits valueAfter least
 beyond-wrong = refl
 
 -- `-120`
@@ -66,6 +66,6 @@ unfolding linesAfter
 three-lines = refl
 
 -- of `abc` two bytes are kept, with the mark, also where the chunk ends within it
-cut-line : cameAll 2 blank ((97 ∷ []) ∷ (98 ∷ 99 ∷ 10 ∷ []) ∷ []) ≡ record { ended = kept 2 (97 ∷ 98 ∷ 99 ∷ []) ∷ []; going = blank }
+cut-line : cameAll 2 nothingHeld ((97 ∷ []) ∷ (98 ∷ 99 ∷ 10 ∷ []) ∷ []) ≡ record { ended = kept 2 (97 ∷ 98 ∷ 99 ∷ []) ∷ []; going = nothingHeld }
 unfolding cameAll came keep
 cut-line = refl

@@ -8,13 +8,13 @@ use lib.Dec.{eqb}
 use lib.ListN.{length, take, drop, getD, length-drop}
 use lib.Seq.{drop-cons, drop-drop}
 use Rattle.text.specs.Before.{before, before-length, before-take, before-cut}
-use Rattle.text.specs.Fields.{onto, fieldsOf, firstField, restFields, letterOf}
+use Rattle.text.specs.Fields.{space, onto, fieldsOf, firstField, restFields, letterOf}
 
 -- ════ over a list
 pub first-and-rest : (l : List ℕ) → fieldsOf l ≡ firstField l ∷ restFields l
 unfolding fieldsOf before restFields
 first-and-rest [] = refl
-first-and-rest (c ∷ cs) = by (eqb c 32) (first-and-rest cs)
+first-and-rest (c ∷ cs) = by (eqb c space) (first-and-rest cs)
   where
     by :
         (t : Bool) →
@@ -27,7 +27,7 @@ first-and-rest (c ∷ cs) = by (eqb c 32) (first-and-rest cs)
 whole-rest : (l : List ℕ) → length l ≤ length (firstField l) → restFields l ≡ []
 unfolding before restFields
 whole-rest [] h = refl
-whole-rest (c ∷ cs) h = by (eqb c 32) (whole-rest cs) h
+whole-rest (c ∷ cs) h = by (eqb c space) (whole-rest cs) h
   where
     by :
         (t : Bool) →
@@ -41,7 +41,7 @@ whole-rest (c ∷ cs) h = by (eqb c 32) (whole-rest cs) h
 part-rest : (l : List ℕ) → length (firstField l) < length l → restFields l ≡ fieldsOf (drop (suc (length (firstField l))) l)
 unfolding before restFields
 part-rest [] h = absurd (omega arith)
-part-rest (c ∷ cs) h = by (eqb c 32) (part-rest cs) h
+part-rest (c ∷ cs) h = by (eqb c space) (part-rest cs) h
   where
     by :
         (t : Bool) →
@@ -54,13 +54,13 @@ part-rest (c ∷ cs) h = by (eqb c 32) (part-rest cs) h
 -- ════ the field that starts at i of a line, and ends before e
 module _ (s : List ℕ) (i e : ℕ) (is : e ≡ i + length (firstField (drop i s))) where
   rest-length : length (firstField (drop i s)) ≤ length s - i
-  rest-length = rw length-drop at (before-length 32 (drop i s))
+  rest-length = rw length-drop at (before-length space (drop i s))
 
   pub end-within : i ≤ length s → e ≤ length s
   end-within h = omega (arith, rest-length)
 
   field-is : take (e - i) (drop i s) ≡ firstField (drop i s)
-  field-is = let k : e - i ≡ length (firstField (drop i s)) = omega arith in rw k (before-take 32 (drop i s))
+  field-is = let k : e - i ≡ length (firstField (drop i s)) = omega arith in rw k (before-take space (drop i s))
 
   pub no-rest : length s ≤ e → restFields (drop i s) ≡ []
   no-rest h = whole-rest (drop i s) (rw length-drop (omega arith))
@@ -88,7 +88,7 @@ module _ (s : List ℕ) (i e : ℕ) (is : e ≡ i + length (firstField (drop i s
       rw (drop-cons s i 0 inside) (only (getD s i 0) (drop (suc i) s) (rw (drop-cons s i 0 inside) at k))
     where
       only : (c : ℕ) (cs : List ℕ) → length (firstField (c ∷ cs)) ≡ 1 → letterOf (firstField (c ∷ cs)) ≡ c
-      only c cs q = by (eqb c 32) (firstField cs) q
+      only c cs q = by (eqb c space) (firstField cs) q
         where
           by : (t : Bool) (f : List ℕ) → length (cond t [] (c ∷ f)) ≡ 1 → letterOf (cond t [] (c ∷ f)) ≡ c
           by true f q = absurd (omega arith)
@@ -111,7 +111,7 @@ module _ (s : List ℕ) (i e : ℕ) (is : e ≡ i + length (firstField (drop i s
 -- its first field is still known where that is one letter
 pub letter-cut : (n : ℕ) (l : List ℕ) → 2 ≤ n → letterOf (firstField (take n l)) ≡ letterOf (firstField l)
 unfolding letterOf
-letter-cut n l h = ap letterOf (before-cut 32 n l) ∙ by n (firstField l) h
+letter-cut n l h = ap letterOf (before-cut space n l) ∙ by n (firstField l) h
   where
     by : (n : ℕ) (f : List ℕ) → 2 ≤ n → letterOf (take n f) ≡ letterOf f
     by zero f h = absurd (omega arith)

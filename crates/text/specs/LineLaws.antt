@@ -14,29 +14,29 @@ use borrow.Author.Tests.{lt-ltb, le-ltb, ltb-true, ltb-false}
 use Rattle.text.specs.declared.Fed.{Fed}
 use Rattle.text.specs.Before.{before, before-length, before-take}
 use Rattle.text.specs.Writing.{Written}
-use Rattle.text.specs.Lines.{lastLine, linesAfter, linesOf, Kept, kept, blank, keep, inFront, came, joined, cameAll, concat, isLine, lastKept, holds, part, fedAt, Feeds}
+use Rattle.text.specs.Lines.{lineFeed, lastLine, linesAfter, linesOf, KeptLine, kept, nothingHeld, keep, inFront, came, joined, cameAll, concat, isLine, lastKept, holds, linePart, fedAt, Feeds}
 
 -- ════ the cases of the code
-module _ (buffer : List ℕ) (len : ℕ) (over : Bool) (chunk : List ℕ) (at end : ℕ) (is : end ≡ at + length (part chunk at)) where
-  left : length (part chunk at) ≤ length chunk - at
-  left = rw length-drop at (before-length 10 (drop at chunk))
+module _ (buffer : List ℕ) (len : ℕ) (over : Bool) (chunk : List ℕ) (at end : ℕ) (is : end ≡ at + length (linePart chunk at)) where
+  left : length (linePart chunk at) ≤ length chunk - at
+  left = rw length-drop at (before-length lineFeed (drop at chunk))
 
-  whole-part : take (end - at) (drop at chunk) ≡ part chunk at
-  whole-part = let e : end - at ≡ length (part chunk at) = omega arith in rw e (before-take 10 (drop at chunk))
+  whole-part : take (end - at) (drop at chunk) ≡ linePart chunk at
+  whole-part = let e : end - at ≡ length (linePart chunk at) = omega arith in rw e (before-take lineFeed (drop at chunk))
 
   said :
       (r : Fed) (m : ℕ) (o : Bool) →
       r ≡ fedAt (length chunk) end m o →
-      m ≡ len + length (take (length buffer - len) (part chunk at)) →
-      o ≡ (over || ltb (length buffer - len) (length (part chunk at))) →
-      r ≡ fedAt (length chunk) (at + length (part chunk at)) (len + length (take (length buffer - len) (part chunk at))) (over || ltb (length buffer - len) (length (part chunk at)))
+      m ≡ len + length (take (length buffer - len) (linePart chunk at)) →
+      o ≡ (over || ltb (length buffer - len) (length (linePart chunk at))) →
+      r ≡ fedAt (length chunk) (at + length (linePart chunk at)) (len + length (take (length buffer - len) (linePart chunk at))) (over || ltb (length buffer - len) (length (linePart chunk at)))
   said r m o e p q = e ∙ cc
 
   pub feeds-none : (r : Fed) → length chunk < end → r ≡ fedAt (length chunk) end len over → Feeds buffer len over chunk at r buffer
   unfolding before
   feeds-none r h e =
       let beyond : length chunk ≤ at = omega (arith, left) in
-      let p : part chunk at ≡ [] = ap (before 10) (drop-of-length-le chunk beyond) in
+      let p : linePart chunk at ≡ [] = ap (before lineFeed) (drop-of-length-le chunk beyond) in
       record {
         leaves = rw (p, take-nil (length buffer - len));
         says =
@@ -51,11 +51,11 @@ module _ (buffer : List ℕ) (len : ℕ) (over : Bool) (chunk : List ℕ) (at en
         r ≡ fedAt (length chunk) end p over →
         Feeds buffer len over chunk at r after
     feeds-all h w e =
-        let all : take (length buffer - len) (part chunk at) ≡ take (end - at) (drop at chunk) =
-        take-all (length buffer - len) (part chunk at) (omega arith) ∙ sym whole-part in
+        let all : take (length buffer - len) (linePart chunk at) ≡ take (end - at) (drop at chunk) =
+        take-all (length buffer - len) (linePart chunk at) (omega arith) ∙ sym whole-part in
         record {
           leaves = w .leaves ∙ rw all;
-          says = said r p over e (w .past ∙ rw all) (rw (le-ltb (length buffer - len) (length (part chunk at)) (omega arith)) (sym (or-false over)));
+          says = said r p over e (w .past ∙ rw all) (rw (le-ltb (length buffer - len) (length (linePart chunk at)) (omega arith)) (sym (or-false over)));
         }
 
     pub feeds-cut :
@@ -65,11 +65,11 @@ module _ (buffer : List ℕ) (len : ℕ) (over : Bool) (chunk : List ℕ) (at en
         Feeds buffer len over chunk at r after
     feeds-cut h w e =
         let k : at + room - at ≡ room = omega arith in
-        let front : take (length buffer - len) (part chunk at) ≡ take (at + room - at) (drop at chunk) =
+        let front : take (length buffer - len) (linePart chunk at) ≡ take (at + room - at) (drop at chunk) =
         sym (rw (k, is-room) (sym (take-take (length buffer - len) (end - at) (drop at chunk) (omega arith)) ∙ ap (take (length buffer - len)) whole-part)) in
         record {
           leaves = w .leaves ∙ rw front;
-          says = said r p true e (w .past ∙ rw front) (rw (lt-ltb (length buffer - len) (length (part chunk at)) (omega arith)) (sym (or-true over)));
+          says = said r p true e (w .past ∙ rw front) (rw (lt-ltb (length buffer - len) (length (linePart chunk at)) (omega arith)) (sym (or-true over)));
         }
 
 -- ════ a step as a step on what is kept
@@ -77,13 +77,13 @@ pub feeds-keep :
     (buffer : List ℕ) (len : ℕ) (over : Bool) (chunk : List ℕ) (at : ℕ) (r : Fed) (after : List ℕ) →
     len ≤ length buffer →
     Feeds buffer len over chunk at r after →
-    holds after (r .len) (r .over) ≡ keep (length buffer) (holds buffer len over) (part chunk at)
+    holds after (r .len) (r .over) ≡ keep (length buffer) (holds buffer len over) (linePart chunk at)
 unfolding keep fedAt
 feeds-keep buffer len over chunk at r after h f =
     let size : length (take len buffer) ≡ len = length-take-le len buffer h in
     rw (f .says, f .leaves, size)
-    (ap (λ (t : List ℕ). record { text = t; over = over || ltb (length buffer - len) (length (part chunk at)) })
-    (front (take (length buffer - len) (part chunk at)) (rw length-take (omega arith))))
+    (ap (λ (t : List ℕ). record { text = t; over = over || ltb (length buffer - len) (length (linePart chunk at)) })
+    (front (take (length buffer - len) (linePart chunk at)) (rw length-take (omega arith))))
   where
     front : (x : List ℕ) → length x ≤ length buffer - len → take (len + length x) (sets buffer len x) ≡ take len buffer ++ x
     front x k =
@@ -106,7 +106,7 @@ same-less a b c d f g = by (decLt a b)
     by (no h) = le-ltb a b (omega arith) ∙ sym (le-ltb c d (g (omega arith)))
 
 -- the bytes of a, then those of b
-pub keep-append : (most : ℕ) (k : Kept) (a b : List ℕ) → keep most (keep most k a) b ≡ keep most k (a ++ b)
+pub keep-append : (most : ℕ) (k : KeptLine) (a b : List ℕ) → keep most (keep most k a) b ≡ keep most k (a ++ b)
 unfolding keep
 keep-append most k a b = cc (text, over)
   where
@@ -128,70 +128,70 @@ keep-append most k a b = cc (text, over)
     over : (k .over || ltb r (length a) || ltb (most - length (k .text ++ take r a)) (length b)) ≡ (k .over || ltb r (length (a ++ b)))
     over = rw (rest, length-append, or-assoc) (ap (λ (t : Bool). k .over || t) (many (decLe (length a) r)))
 
-keep-none : (most : ℕ) (k : Kept) → keep most k [] ≡ k
+keep-none : (most : ℕ) (k : KeptLine) → keep most k [] ≡ k
 unfolding keep
 keep-none most k =
     rw (take-nil (most - length (k .text)), append-nil, le-ltb (most - length (k .text)) 0 (omega arith), or-false)
 
 -- keeping all of a line's bytes keeps the line
-kept-is : (most : ℕ) (t : List ℕ) → keep most blank t ≡ kept most t
+kept-is : (most : ℕ) (t : List ℕ) → keep most nothingHeld t ≡ kept most t
 unfolding keep
 kept-is most t = let e : most - 0 ≡ most = omega arith in rw e
 
 pub kept-append : (most : ℕ) (t s : List ℕ) → keep most (kept most t) s ≡ kept most (t ++ s)
 kept-append most t s =
-    ap (λ (k : Kept). keep most k s) (sym (kept-is most t)) ∙ keep-append most blank t s ∙ kept-is most (t ++ s)
+    ap (λ (k : KeptLine). keep most k s) (sym (kept-is most t)) ∙ keep-append most nothingHeld t s ∙ kept-is most (t ++ s)
 
 -- ════ a chunk, up to its first LF
 -- it has none
-pub came-part : (most : ℕ) (k : Kept) (l : List ℕ) → length l ≤ length (before 10 l) → came most k l ≡ record { ended = []; going = keep most k (before 10 l) }
+pub came-part : (most : ℕ) (k : KeptLine) (l : List ℕ) → length l ≤ length (before lineFeed l) → came most k l ≡ record { ended = []; going = keep most k (before lineFeed l) }
 unfolding came before
 came-part most k [] h = rw (keep-none most k)
-came-part most k (c ∷ cs) h = by (eqb c 10) h (came-part most (keep most k (c ∷ [])) cs)
+came-part most k (c ∷ cs) h = by (eqb c lineFeed) h (came-part most (keep most k (c ∷ [])) cs)
   where
     by :
         (t : Bool) →
-        suc (length cs) ≤ length (cond t [] (c ∷ before 10 cs)) →
-        (length cs ≤ length (before 10 cs) → came most (keep most k (c ∷ [])) cs ≡ record { ended = []; going = keep most (keep most k (c ∷ [])) (before 10 cs) }) →
-        cond t (inFront k (came most blank cs)) (came most (keep most k (c ∷ [])) cs) ≡ record { ended = []; going = keep most k (cond t [] (c ∷ before 10 cs)) }
+        suc (length cs) ≤ length (cond t [] (c ∷ before lineFeed cs)) →
+        (length cs ≤ length (before lineFeed cs) → came most (keep most k (c ∷ [])) cs ≡ record { ended = []; going = keep most (keep most k (c ∷ [])) (before lineFeed cs) }) →
+        cond t (inFront k (came most nothingHeld cs)) (came most (keep most k (c ∷ [])) cs) ≡ record { ended = []; going = keep most k (cond t [] (c ∷ before lineFeed cs)) }
     by true h e = absurd (omega arith)
-    by false h e = e (omega arith) ∙ rw (keep-append most k (c ∷ []) (before 10 cs))
+    by false h e = e (omega arith) ∙ rw (keep-append most k (c ∷ []) (before lineFeed cs))
 
 -- it has one: a line ends
 pub came-line :
-    (most : ℕ) (k : Kept) (l : List ℕ) →
-    length (before 10 l) < length l →
-    came most k l ≡ inFront (keep most k (before 10 l)) (came most blank (drop (suc (length (before 10 l))) l))
+    (most : ℕ) (k : KeptLine) (l : List ℕ) →
+    length (before lineFeed l) < length l →
+    came most k l ≡ inFront (keep most k (before lineFeed l)) (came most nothingHeld (drop (suc (length (before lineFeed l))) l))
 unfolding came before
 came-line most k [] h = absurd (omega arith)
-came-line most k (c ∷ cs) h = by (eqb c 10) h (came-line most (keep most k (c ∷ [])) cs)
+came-line most k (c ∷ cs) h = by (eqb c lineFeed) h (came-line most (keep most k (c ∷ [])) cs)
   where
     by :
         (t : Bool) →
-        length (cond t [] (c ∷ before 10 cs)) < suc (length cs) →
-        (length (before 10 cs) < length cs →
-        came most (keep most k (c ∷ [])) cs ≡ inFront (keep most (keep most k (c ∷ [])) (before 10 cs)) (came most blank (drop (suc (length (before 10 cs))) cs))) →
-        cond t (inFront k (came most blank cs)) (came most (keep most k (c ∷ [])) cs)
-        ≡ inFront (keep most k (cond t [] (c ∷ before 10 cs))) (came most blank (drop (length (cond t [] (c ∷ before 10 cs))) cs))
+        length (cond t [] (c ∷ before lineFeed cs)) < suc (length cs) →
+        (length (before lineFeed cs) < length cs →
+        came most (keep most k (c ∷ [])) cs ≡ inFront (keep most (keep most k (c ∷ [])) (before lineFeed cs)) (came most nothingHeld (drop (suc (length (before lineFeed cs))) cs))) →
+        cond t (inFront k (came most nothingHeld cs)) (came most (keep most k (c ∷ [])) cs)
+        ≡ inFront (keep most k (cond t [] (c ∷ before lineFeed cs))) (came most nothingHeld (drop (length (cond t [] (c ∷ before lineFeed cs))) cs))
     by true h e = rw (keep-none most k)
-    by false h e = e (omega arith) ∙ rw (keep-append most k (c ∷ []) (before 10 cs))
+    by false h e = e (omega arith) ∙ rw (keep-append most k (c ∷ []) (before lineFeed cs))
 
 -- ════ however it is cut
-pub came-append : (most : ℕ) (k : Kept) (a b : List ℕ) → came most k (a ++ b) ≡ joined (came most k a) (came most (came most k a .going) b)
+pub came-append : (most : ℕ) (k : KeptLine) (a b : List ℕ) → came most k (a ++ b) ≡ joined (came most k a) (came most (came most k a .going) b)
 unfolding came
 came-append most k [] b = refl
-came-append most k (c ∷ a) b = by (eqb c 10) (came-append most blank a b) (came-append most (keep most k (c ∷ [])) a b)
+came-append most k (c ∷ a) b = by (eqb c lineFeed) (came-append most nothingHeld a b) (came-append most (keep most k (c ∷ [])) a b)
   where
     by :
         (t : Bool) →
-        came most blank (a ++ b) ≡ joined (came most blank a) (came most (came most blank a .going) b) →
+        came most nothingHeld (a ++ b) ≡ joined (came most nothingHeld a) (came most (came most nothingHeld a .going) b) →
         came most (keep most k (c ∷ [])) (a ++ b) ≡ joined (came most (keep most k (c ∷ [])) a) (came most (came most (keep most k (c ∷ [])) a .going) b) →
-        cond t (inFront k (came most blank (a ++ b))) (came most (keep most k (c ∷ [])) (a ++ b))
-        ≡ joined (cond t (inFront k (came most blank a)) (came most (keep most k (c ∷ [])) a)) (came most (cond t (inFront k (came most blank a)) (came most (keep most k (c ∷ [])) a) .going) b)
+        cond t (inFront k (came most nothingHeld (a ++ b))) (came most (keep most k (c ∷ [])) (a ++ b))
+        ≡ joined (cond t (inFront k (came most nothingHeld a)) (came most (keep most k (c ∷ [])) a)) (came most (cond t (inFront k (came most nothingHeld a)) (came most (keep most k (c ∷ [])) a) .going) b)
     by true e f = ap (inFront k) e
     by false e f = f
 
-pub came-all : (most : ℕ) (k : Kept) (ss : List (List ℕ)) → cameAll most k ss ≡ came most k (concat ss)
+pub came-all : (most : ℕ) (k : KeptLine) (ss : List (List ℕ)) → cameAll most k ss ≡ came most k (concat ss)
 unfolding cameAll concat came
 came-all most k [] = refl
 came-all most k (s ∷ ss) = ap (joined (came most k s)) (came-all most (came most k s .going) ss) ∙ sym (came-append most k s (concat ss))
@@ -203,28 +203,28 @@ last-kept most [] = rw (take-nil most, le-ltb most 0 (omega arith))
 last-kept zero (c ∷ t) = rw (lt-ltb 0 (suc (length t)) (omega arith))
 last-kept (suc m) (c ∷ t) = rw (lt-ltb 0 (suc (length (take m t))) (omega arith), or-true)
 
-kept-blank : (most : ℕ) → kept most [] ≡ blank
+kept-blank : (most : ℕ) → kept most [] ≡ nothingHeld
 kept-blank most = rw (take-nil most, le-ltb most 0 (omega arith))
 
 came-lines : (most : ℕ) (t s : List ℕ) → came most (kept most t) s .ended ++ lastKept (came most (kept most t) s .going) ≡ map (kept most) (linesAfter t s)
 unfolding came linesAfter
 came-lines most t [] = last-kept most t
-came-lines most t (c ∷ s) = by (eqb c 10) (came-lines most [] s) (came-lines most (t ++ (c ∷ [])) s)
+came-lines most t (c ∷ s) = by (eqb c lineFeed) (came-lines most [] s) (came-lines most (t ++ (c ∷ [])) s)
   where
     by :
         (x : Bool) →
         came most (kept most []) s .ended ++ lastKept (came most (kept most []) s .going) ≡ map (kept most) (linesAfter [] s) →
         came most (kept most (t ++ (c ∷ []))) s .ended ++ lastKept (came most (kept most (t ++ (c ∷ []))) s .going) ≡ map (kept most) (linesAfter (t ++ (c ∷ [])) s) →
-        cond x (inFront (kept most t) (came most blank s)) (came most (keep most (kept most t) (c ∷ [])) s) .ended
-        ++ lastKept (cond x (inFront (kept most t) (came most blank s)) (came most (keep most (kept most t) (c ∷ [])) s) .going)
+        cond x (inFront (kept most t) (came most nothingHeld s)) (came most (keep most (kept most t) (c ∷ [])) s) .ended
+        ++ lastKept (cond x (inFront (kept most t) (came most nothingHeld s)) (came most (keep most (kept most t) (c ∷ [])) s) .going)
         ≡ map (kept most) (cond x (t ∷ linesAfter [] s) (linesAfter (t ++ (c ∷ [])) s))
-    by true e f = ap (λ (l : List Kept). kept most t ∷ l) (rw (kept-blank most) at e)
+    by true e f = ap (λ (l : List KeptLine). kept most t ∷ l) (rw (kept-blank most) at e)
     by false e f = rw (kept-append most t (c ∷ [])) f
 
 -- the law: the lines that end in the chunks, and the last where it lacks its LF, are the lines of the whole text, each kept up to `most` bytes
 pub lines-of-chunks :
-    (most : ℕ) (ss : List (List ℕ)) → cameAll most blank ss .ended ++ lastKept (cameAll most blank ss .going) ≡ map (kept most) (linesOf (concat ss))
-lines-of-chunks most ss = rw (came-all most blank ss, ← kept-blank most) (came-lines most [] (concat ss))
+    (most : ℕ) (ss : List (List ℕ)) → cameAll most nothingHeld ss .ended ++ lastKept (cameAll most nothingHeld ss .going) ≡ map (kept most) (linesOf (concat ss))
+lines-of-chunks most ss = rw (came-all most nothingHeld ss, ← kept-blank most) (came-lines most [] (concat ss))
 
 -- ════ for a loop that feeds a chunk to its end
 pub is-line : (buffer : List ℕ) (len : ℕ) (over : Bool) → len ≤ length buffer → isLine (holds buffer len over) ≡ (over || ltb 0 len)
@@ -238,27 +238,27 @@ module _ (buffer : List ℕ) (len : ℕ) (over : Bool) (chunk : List ℕ) (at : 
 
   -- a line ended: the rest of the chunk starts a new one
   module _ (whole : r .whole ≡ true) where
-    inside : at + length (part chunk at) < length chunk
+    inside : at + length (linePart chunk at) < length chunk
     unfolding fedAt
-    inside = ltb-true (at + length (part chunk at)) (length chunk) (sym (ap (λ (x : Fed). x .whole) (f .says)) ∙ whole)
+    inside = ltb-true (at + length (linePart chunk at)) (length chunk) (sym (ap (λ (x : Fed). x .whole) (f .says)) ∙ whole)
 
-    next-is : r .next ≡ at + length (part chunk at) + 1
+    next-is : r .next ≡ at + length (linePart chunk at) + 1
     unfolding fedAt
-    next-is = ap (λ (x : Fed). x .next) (f .says) ∙ rw (lt-ltb (at + length (part chunk at)) (length chunk) inside)
+    next-is = ap (λ (x : Fed). x .next) (f .says) ∙ rw (lt-ltb (at + length (linePart chunk at)) (length chunk) inside)
 
     pub fed-on : (at < r .next) × (r .next ≤ length chunk)
     fed-on = let e = next-is in let h = inside in (omega arith, omega arith)
 
-    pub fed-line : came (length buffer) (holds buffer len over) (drop at chunk) ≡ inFront (holds after (r .len) (r .over)) (came (length buffer) blank (drop (r .next) chunk))
+    pub fed-line : came (length buffer) (holds buffer len over) (drop at chunk) ≡ inFront (holds after (r .len) (r .over)) (came (length buffer) nothingHeld (drop (r .next) chunk))
     fed-line =
-        let n : r .next ≡ at + suc (length (part chunk at)) = next-is ∙ rw add-one (sym (add-suc at (length (part chunk at)))) in
-        rw (feeds-keep buffer len over chunk at r after fits f, n, ← drop-drop (suc (length (part chunk at))) at chunk)
+        let n : r .next ≡ at + suc (length (linePart chunk at)) = next-is ∙ rw add-one (sym (add-suc at (length (linePart chunk at)))) in
+        rw (feeds-keep buffer len over chunk at r after fits f, n, ← drop-drop (suc (length (linePart chunk at))) at chunk)
         (came-line (length buffer) (holds buffer len over) (drop at chunk) (rw length-drop (let h = inside in omega arith)))
 
   -- it goes on
   pub fed-part : r .whole ≡ false → came (length buffer) (holds buffer len over) (drop at chunk) ≡ record { ended = []; going = holds after (r .len) (r .over) }
   unfolding fedAt
   fed-part whole =
-      let h : length chunk ≤ at + length (part chunk at) = ltb-false (at + length (part chunk at)) (length chunk) (sym (ap (λ (x : Fed). x .whole) (f .says)) ∙ whole) in
+      let h : length chunk ≤ at + length (linePart chunk at) = ltb-false (at + length (linePart chunk at)) (length chunk) (sym (ap (λ (x : Fed). x .whole) (f .says)) ∙ whole) in
       rw (feeds-keep buffer len over chunk at r after fits f)
       (came-part (length buffer) (holds buffer len over) (drop at chunk) (rw length-drop (omega arith)))

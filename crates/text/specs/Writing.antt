@@ -6,6 +6,14 @@ use native.Mathlib.Omega.{arith}
 use native.Mathlib.Nat.{add-zero}
 use lib.ListN.{length, set, length-append}
 use lib.Seq.{sets}
+use Rattle.text.specs.Numbers.{mostDigits}
+
+-- room for a number without a sign, and with one
+abbrev pub naturalRoom : ℕ
+naturalRoom = mostDigits
+
+abbrev pub numberRoom : ℕ
+numberRoom = mostDigits + 1
 
 -- `text` was written over `before` from `at` on, which left `after`; `next` is the position past it
 pub record Written (before : List ℕ) (at : ℕ) (text : List ℕ) (next : ℕ) (after : List ℕ) : Type 0 where

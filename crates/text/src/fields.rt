@@ -7,7 +7,7 @@ ghost use Prim.Native.Nat.{_+_, _≤_};
 ghost use lib.ListN.{length, drop};
 ghost use lib.Seq.{sets};
 ghost use Rattle.text.specs.Before.{before};
-ghost use Rattle.text.specs.Fields.{fieldsOf, firstField, restFields, letterOf, numbersOf, atMost, countOf, Stored};
+ghost use Rattle.text.specs.Fields.{fieldsOf, firstField, restFields, letterOf, numbersIn, atMost, countOf, Stored};
 ghost use Rattle.text.specs.Reading.{leading};
 
 // Where the first b of s from `from` on is; the end of s where there is none.
@@ -28,7 +28,7 @@ pub fn find(s: &[u8], from: usize, b: u8) -> usize
 pub fn field_end(s: &[u8], from: usize) -> usize
     ensures { λ r. ⌜ r ≡ from + length (firstField (drop from (now (s .entry)))) ⌝ }
 {
-    find(s, from, 32)
+    find(s, from, b' ')
 }
 
 // The one byte of the field that starts at `from`; 0 where it has none or more.
@@ -41,7 +41,7 @@ pub fn letter_at(s: &[u8], from: usize) -> u8
 
 // How many numbers the fields of s are, where each is one and they are at most `most`.
 fn count_numbers(s: &[u8], most: usize) -> Count
-    ensures { λ r. ⌜ r ≡ countOf (atMost most (numbersOf (fieldsOf (now (s .entry))))) ⌝ }
+    ensures { λ r. ⌜ r ≡ countOf (atMost most (numbersIn (fieldsOf (now (s .entry))))) ⌝ }
 {
     let mut n: usize = 0;
     let mut i: usize = 0;
@@ -90,7 +90,7 @@ fn fill_numbers(s: &[u8], out: &mut [i64])
 // The numbers that the fields of s are, at most `most`, into the front of out.
 fn read_numbers(s: &[u8], most: usize, out: &mut [i64]) -> Count
     requires { ⌜ most ≤ length (now out) ⌝ }
-    ensures { λ r. ⌜ Stored (now (out .entry)) (atMost most (numbersOf (fieldsOf (now (s .entry))))) r (now (out .exit)) ⌝ }
+    ensures { λ r. ⌜ Stored (now (out .entry)) (atMost most (numbersIn (fieldsOf (now (s .entry))))) r (now (out .exit)) ⌝ }
 {
     let c = count_numbers(s, most);
     match c {
@@ -105,7 +105,7 @@ fn read_numbers(s: &[u8], most: usize, out: &mut [i64]) -> Count
 // The numbers that the fields after the one at `from` are, at most `most`, into the front of out.
 pub fn read_rest(s: &[u8], from: usize, most: usize, out: &mut [i64]) -> Count
     requires { ⌜ most ≤ length (now out) ⌝ }
-    ensures { λ r. ⌜ Stored (now (out .entry)) (atMost most (numbersOf (restFields (drop from (now (s .entry)))))) r (now (out .exit)) ⌝ }
+    ensures { λ r. ⌜ Stored (now (out .entry)) (atMost most (numbersIn (restFields (drop from (now (s .entry)))))) r (now (out .exit)) ⌝ }
 {
     let end = field_end(s, from);
     if s.len() <= end {

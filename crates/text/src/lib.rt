@@ -11,6 +11,8 @@ pub use fields::read_rest;
 pub use lines::feed;
 pub use lines::is_line;
 pub use numbers::number_of;
+pub use writing::MOST_DIGITS;
+pub use writing::NUMBER_ROOM;
 pub use writing::write_byte;
 pub use writing::write_natural;
 pub use writing::write_number;

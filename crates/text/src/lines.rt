@@ -33,7 +33,7 @@ pub fn feed(line: &mut [u8], len: usize, over: bool, chunk: &[u8], at: usize) ->
     requires { ⌜ len ≤ length (now line) ⌝ }
     ensures { λ r. ⌜ Feeds (now (line .entry)) len over (now (chunk .entry)) at r (now (line .exit)) ⌝ }
 {
-    let end = find(chunk, at, 10);
+    let end = find(chunk, at, b'\n');
     if chunk.len() < end {
         return ended(chunk, end, len, over);
     }

@@ -5,13 +5,23 @@ ghost use mathlib.Core.Path.{_≡_};
 ghost use Prim.Native.Nat.{_+_, _-_, _*_, _≤_, min};
 ghost use lib.ListN.{drop};
 ghost use lib.IntN.{pos};
-ghost use Rattle.text.specs.Numbers.{isDigit, minus, numberOf};
-ghost use Rattle.text.specs.Digits.{digitsOf, within};
+ghost use Rattle.text.specs.Numbers.{zeroDigit, nineDigit, mostPositive, mostNegative, isDigit, minus, numberIn};
+ghost use Rattle.text.specs.Digits.{digitsOf, signedWithin};
+
+// 2^63 − 1 and the size of −2^63, the ends of signed 64 bits; what is beyond both, to which a value is cut.
+const MOST_POSITIVE: u64 = 9_223_372_036_854_775_807;
+
+const MOST_NEGATIVE: u64 = MOST_POSITIVE + 1;
+
+const BEYOND: u64 = MOST_NEGATIVE + 1;
+
+// Ten times more is beyond.
+const TENTH: u64 = MOST_NEGATIVE / 10;
 
 fn is_digit(c: u8) -> bool
     ensures { λ r. ⌜ r ≡ isDigit c ⌝ }
 {
-    (48 <= c) & (c <= 57)
+    (b'0' <= c) & (c <= b'9')
 }
 
 fn wide(x: u8) -> u64
@@ -20,20 +30,16 @@ fn wide(x: u8) -> u64
     x as u64
 }
 
-// One digit more, cut at 2^63 + 1.
+// One digit more, cut.
 fn grow(n: u64, c: u8) -> u64
-    requires { ⌜ (48 ≤ c) × (c ≤ 57) ⌝ }
-    ensures { λ r. ⌜ r ≡ min (n * 10 + (c - 48)) 9223372036854775809 ⌝ }
+    requires { ⌜ (zeroDigit ≤ c) × (c ≤ nineDigit) ⌝ }
+    ensures { λ r. ⌜ r ≡ min (n * 10 + (c - zeroDigit)) (mostNegative + 1) ⌝ }
 {
-    if n >= 922337203685477582 {
-        return 9223372036854775809;
+    if n > TENTH {
+        return BEYOND;
     }
-    let m = n * 10 + wide(c - 48);
-    if m < 9223372036854775809 {
-        m
-    } else {
-        9223372036854775809
-    }
+    let m = n * 10 + wide(c - b'0');
+    if m < BEYOND { m } else { BEYOND }
 }
 
 // The value of the digits of s from `from` to its end.
@@ -58,19 +64,19 @@ fn digits_from(s: &[u8], from: usize) -> Digits
 
 // -n.
 fn negated(n: u64) -> i64
-    requires { ⌜ n ≤ 9223372036854775808 ⌝ }
+    requires { ⌜ n ≤ mostNegative ⌝ }
     ensures { λ r. ⌜ r ≡ minus n ⌝ }
 {
     if n == 0 { 0 } else { !((n - 1) as i64) }
 }
 
 fn negative(d: Digits) -> Number
-    ensures { λ r. ⌜ r ≡ within minus 9223372036854775808 d ⌝ }
+    ensures { λ r. ⌜ r ≡ signedWithin minus mostNegative d ⌝ }
 {
     match d {
         Digits::Unreadable => Number::Unreadable,
         Digits::Value(n) => {
-            if n <= 9223372036854775808 {
+            if n <= MOST_NEGATIVE {
                 return Number::Value(negated(n));
             }
             Number::Unreadable
@@ -79,12 +85,12 @@ fn negative(d: Digits) -> Number
 }
 
 fn positive(d: Digits) -> Number
-    ensures { λ r. ⌜ r ≡ within pos 9223372036854775807 d ⌝ }
+    ensures { λ r. ⌜ r ≡ signedWithin pos mostPositive d ⌝ }
 {
     match d {
         Digits::Unreadable => Number::Unreadable,
         Digits::Value(n) => {
-            if n <= 9223372036854775807 {
+            if n <= MOST_POSITIVE {
                 return Number::Value(n as i64);
             }
             Number::Unreadable
@@ -94,12 +100,12 @@ fn positive(d: Digits) -> Number
 
 // What a field says as a number.
 pub fn number_of(field: &[u8]) -> Number
-    ensures { λ r. ⌜ r ≡ numberOf (now (field .entry)) ⌝ }
+    ensures { λ r. ⌜ r ≡ numberIn (now (field .entry)) ⌝ }
 {
     if field.len() == 0 {
         return Number::Unreadable;
     }
-    if field[0] == 45 {
+    if field[0] == b'-' {
         return negative(digits_from(field, 1));
     }
     positive(digits_from(field, 0))

@@ -2,10 +2,15 @@
 ghost use mathlib.Core.List.{_∷_, []};
 ghost use Prim.Native.Nat.{_+_, _≤_, _<_};
 ghost use lib.ListN.{length};
-ghost use Rattle.text.specs.Numbers.{decimalIn, decimal};
-ghost use Rattle.text.specs.Writing.{Written};
+ghost use Rattle.text.specs.Numbers.{mostDigits, decimalIn, decimal};
+ghost use Rattle.text.specs.Writing.{naturalRoom, numberRoom, Written};
 use words::is_negative;
 use words::size;
+
+// The digits of the longest number of 64 bits; room for it with a sign.
+pub const MOST_DIGITS: usize = 20;
+
+pub const NUMBER_ROOM: usize = MOST_DIGITS + 1;
 
 pub fn write_byte(out: &mut [u8], at: usize, c: u8) -> usize
     requires { ⌜ at < length (now out) ⌝ }
@@ -37,31 +42,31 @@ fn write_digits(out: &mut [u8], at: usize, n: u64, k: usize) -> usize
         return at;
     }
     if n < 10 {
-        return write_byte(out, at, 48 + n as u8);
+        return write_byte(out, at, b'0' + n as u8);
     }
     let p = write_digits(out, at, n / 10, k - 1);
-    write_byte(out, p, 48 + (n % 10) as u8)
+    write_byte(out, p, b'0' + (n % 10) as u8)
 }
 
-// n in decimal, at most 20 bytes.
+// n in decimal.
 pub fn write_natural(out: &mut [u8], at: usize, n: u64) -> usize
-    requires { ⌜ at + 20 ≤ length (now out) ⌝ }
-    ensures { λ r. ⌜ Written (now (out .entry)) at (decimalIn 20 n) r (now (out .exit)) ⌝ }
-    ensures { λ r. ⌜ r ≤ at + 20 ⌝ }
+    requires { ⌜ at + naturalRoom ≤ length (now out) ⌝ }
+    ensures { λ r. ⌜ Written (now (out .entry)) at (decimalIn mostDigits n) r (now (out .exit)) ⌝ }
+    ensures { λ r. ⌜ r ≤ at + naturalRoom ⌝ }
 {
-    write_digits(out, at, n, 20)
+    write_digits(out, at, n, MOST_DIGITS)
 }
 
-// v in decimal, at most 21 bytes.
+// v in decimal.
 pub fn write_number(out: &mut [u8], at: usize, v: i64) -> usize
-    requires { ⌜ at + 21 ≤ length (now out) ⌝ }
+    requires { ⌜ at + numberRoom ≤ length (now out) ⌝ }
     ensures { λ r. ⌜ Written (now (out .entry)) at (decimal v) r (now (out .exit)) ⌝ }
-    ensures { λ r. ⌜ r ≤ at + 21 ⌝ }
+    ensures { λ r. ⌜ r ≤ at + numberRoom ⌝ }
 {
     let n = size(v);
     if is_negative(v) {
-        let p = write_byte(out, at, 45);
-        return write_digits(out, p, n, 20);
+        let p = write_byte(out, at, b'-');
+        return write_digits(out, p, n, MOST_DIGITS);
     }
-    write_digits(out, at, n, 20)
+    write_digits(out, at, n, MOST_DIGITS)
 }

@@ -1,5 +1,5 @@
 -- Document 01's "The night print": for its own six lines of input the program prints exactly its own six lines of output. Assumes nothing.
---   printed    night_print, Print   what the program prints for a text
+--   printOf    night_print, Print   what the program prints for a text
 --   cases-hold cases, CasesHold    what the calls and the check give for these lines, "As printed, accepted"
 use Prim.Native.Nat.{ℕ}
 use mathlib.Core.Path.{_≡_, refl, sym, ap, _∙_}
@@ -37,17 +37,17 @@ use Rattle.cases.specs.Cases.{rowsOf, caseBook, xOf, mOf, filledPlaces, enough,
 use Rattle.cases.specs.Brief.{brief-follows}
 use Rattle.cases.specs.CasesHold.{cases-hold}
 use Rattle.text.specs.Before.{before}
-use Rattle.text.specs.Numbers.{allDigits, isDecimal, valueAfter, signedOf, numberOf as fieldNumber, decimalIn, decimal}
-use Rattle.text.specs.Fields.{fieldsOf, restFields, letterOf, numbersOf, atMost}
+use Rattle.text.specs.Numbers.{allDigits, isDecimal, valueAfter, signedOf, numberIn, decimalIn, decimal}
+use Rattle.text.specs.Fields.{fieldsOf, restFields, letterOf, numbersIn, atMost}
 use Rattle.text.specs.Lines.{linesOf, linesAfter}
-use Rattle.commands.specs.Commands.{exactly, entryOf, added, counted, kindOf, inTurn, stationOf, otherOf, fieldsCommand, commandOf}
+use Rattle.commands.specs.Commands.{exactly, entryOf, added, countedAs, stationOfKind, numberedInTurn, stationOf, otherOf, fieldsCommand, commandOf}
 use Rattle.commands.specs.Brings.{brings}
-use Rattle.printing.specs.SheetText.{spaced, highVerdict, verdict, headLine, stationLine, baselineLine, heightLine, globalLine, stationLines, lineFor, recordStart, recordLines, sheetText}
+use Rattle.printing.specs.SheetText.{spaced, highVerdict, verdict, headText, stationText, baselineText, heightText, globalText, stationTexts, textFor, recordStart, recordTexts, sheetText}
 use Rattle.printing.specs.SheetTextLaws.{global-room}
 use Rattle.printing.specs.Reports.{Offer, answerSays, checkSays}
 use Rattle.input_lines.specs.Runs.{unopened, opened, Given, none, given, phaseOpened, openingSays, isUnopened, edits, phaseAfter, givenBy, commandSays, phaseSays}
 use Rattle.adjustment.specs.Ends.{bookEnds, phaseEnds}
-use Rattle.night_print.specs.Print.{WholeRun, atStart, lineEnters, entrySays, stationsAfter, lineNext, lineSays, linesNext, linesSay, endPrints, printed}
+use Rattle.night_print.specs.Print.{WholeRun, atStart, lineEnters, entrySays, stationsAfter, lineNext, lineSays, linesNext, linesSay, endPrints, printOf}
 
 -- ════ the input, line by line
 -- `S 1 K 0 0 100000`
@@ -131,11 +131,11 @@ stationsRead = record { stations = stations; lines = 2; phase = unopened; correc
 
 module _ (more : List (List ℕ)) where
   read-next : linesNext atStart (STATION-1 ∷ STATION-2 ∷ more) ≡ linesNext stationsRead more
-  unfolding stations STATION-1 STATION-2 linesNext lineNext lineEnters stationsAfter phaseAfter isUnopened brings commandOf fieldsCommand stationOf inTurn kindOf exactly letterOf restFields fieldsOf before numbersOf fieldNumber signedOf isDecimal allDigits valueAfter
+  unfolding stations STATION-1 STATION-2 linesNext lineNext lineEnters stationsAfter phaseAfter isUnopened brings commandOf fieldsCommand stationOf numberedInTurn stationOfKind exactly letterOf restFields fieldsOf before numbersIn numberIn signedOf isDecimal allDigits valueAfter
   read-next = refl
 
   read-says : linesSay atStart (STATION-1 ∷ STATION-2 ∷ more) ≡ linesSay stationsRead more
-  unfolding stations STATION-1 STATION-2 linesSay lineSays lineNext lineEnters entrySays stationsAfter phaseAfter phaseSays commandSays isUnopened brings commandOf fieldsCommand stationOf inTurn kindOf exactly letterOf restFields fieldsOf before numbersOf fieldNumber signedOf isDecimal allDigits valueAfter
+  unfolding stations STATION-1 STATION-2 linesSay lineSays lineNext lineEnters entrySays stationsAfter phaseAfter phaseSays commandSays isUnopened brings commandOf fieldsCommand stationOf numberedInTurn stationOfKind exactly letterOf restFields fieldsOf before numbersIn numberIn signedOf isDecimal allDigits valueAfter
   read-says = refl
 
 -- ════ the other lines, on an opened book b
@@ -165,12 +165,12 @@ module _ (b : Book) where
     opened-says = rw (s, line-opens)
 
   edits-next : linesNext (withBook b 2 none none) editLines ≡ withBook (bookNext (bookNext b call1) call2) 6 (given (xOf firstCase)) (given (mOf firstCase))
-  unfolding editLines HEIGHT-1 HEIGHT-2 CORRECTIONS MATRIX linesNext lineNext lineEnters stationsAfter phaseOpened phaseAfter edits isUnopened brings givenBy counted atMost commandOf fieldsCommand otherOf added entryOf exactly letterOf restFields fieldsOf before numbersOf fieldNumber signedOf isDecimal allDigits valueAfter
+  unfolding editLines HEIGHT-1 HEIGHT-2 CORRECTIONS MATRIX linesNext lineNext lineEnters stationsAfter phaseOpened phaseAfter edits isUnopened brings givenBy countedAs atMost commandOf fieldsCommand otherOf added entryOf exactly letterOf restFields fieldsOf before numbersIn numberIn signedOf isDecimal allDigits valueAfter
   edits-next = refl
 
   -- where neither call is refused, nothing is printed
   edits-say : bookSays b call1 ≡ 0 → bookSays (bookNext b call1) call2 ≡ 0 → linesSay (withBook b 2 none none) editLines ≡ []
-  unfolding editLines HEIGHT-1 HEIGHT-2 CORRECTIONS MATRIX linesSay lineSays lineNext lineEnters entrySays stationsAfter phaseOpened openingSays phaseAfter phaseSays commandSays edits isUnopened brings givenBy counted atMost commandOf fieldsCommand otherOf added entryOf exactly letterOf restFields fieldsOf before numbersOf fieldNumber signedOf isDecimal allDigits valueAfter
+  unfolding editLines HEIGHT-1 HEIGHT-2 CORRECTIONS MATRIX linesSay lineSays lineNext lineEnters entrySays stationsAfter phaseOpened openingSays phaseAfter phaseSays commandSays edits isUnopened brings givenBy countedAs atMost commandOf fieldsCommand otherOf added entryOf exactly letterOf restFields fieldsOf before numbersIn numberIn signedOf isDecimal allDigits valueAfter
   edits-say p q = rw (q, p)
 
   -- X and M are given: the end checks them
@@ -242,7 +242,7 @@ words-are =
     (holds .written lent (lit≤ tt))
 
 sheet-text : sheetText (firstCase .sheet) 2 (filledPlaces (firstCase .records)) ≡ OUTPUT
-unfolding OUTPUT filledPlaces sheetText headLine stationLines stationLine recordLines lineFor recordStart sumN lineLength isEmpty observations heightLine baselineLine globalLine spaced verdict highVerdict decimal decimalIn
+unfolding OUTPUT filledPlaces sheetText headText stationTexts stationText recordTexts textFor recordStart sumN lineLength isEmpty observations heightText baselineText globalText spaced verdict highVerdict decimal decimalIn
 sheet-text = refl
 
 check-prints : checkSays (caseBook firstCase) (xOf firstCase) (mOf firstCase) ≡ OUTPUT
@@ -267,14 +267,14 @@ all-say =
     ∙ opened-says newBook opening-phase opening-silent
     ∙ edits-say newBook (answer-1 newBook (holds .answered)) (answer-2 newBook (holds .answered))
 
-lines-print : (text : List ℕ) → linesOf text ≡ lines → (offer : Offer) → printed text offer ≡ OUTPUT
-unfolding printed
+lines-print : (text : List ℕ) → linesOf text ≡ lines → (offer : Offer) → printOf text offer ≡ OUTPUT
+unfolding printOf
 lines-print text are offer = rw (are, all-say, all-next) (end-checks (caseBook firstCase) (xOf firstCase) (mOf firstCase) offer ∙ check-prints)
 
 -- ════ the theorems, whatever the engine's offer is: X and M are given, so it is not asked
-pub document-01 : (offer : Offer) → printed INPUT offer ≡ OUTPUT
+pub document-01 : (offer : Offer) → printOf INPUT offer ≡ OUTPUT
 document-01 = lines-print INPUT lines-are
 
 -- "the last may lack it"
-pub document-01-without-last-lf : (offer : Offer) → printed INPUT-WITHOUT-LAST-LF offer ≡ OUTPUT
+pub document-01-without-last-lf : (offer : Offer) → printOf INPUT-WITHOUT-LAST-LF offer ≡ OUTPUT
 document-01-without-last-lf = lines-print INPUT-WITHOUT-LAST-LF lines-without

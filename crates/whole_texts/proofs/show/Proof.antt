@@ -1,4 +1,4 @@
--- `show` meets its contract. Assumes nothing.
+-- The bytes that are printed are within the lent ones (`Printed`). Assumes nothing.
 use Prim.Native.Nat.{ℕ, _≤_}
 use mathlib.Core.Path.{_≡_}
 use mathlib.Core.List.{List}

@@ -2,12 +2,12 @@
 use mathlib.Core.Path.{_≡_, refl}
 use mathlib.Core.Bool.{true, false}
 use native.Mathlib.Omega.{arith}
-use Rattle.input_lines.specs.States.{phaseOf, givenOf, openedPhase, countOf}
+use Rattle.input_lines.specs.States.{phaseOf, givenOf, openedPhase, givenLength}
 use Rattle.adjustment.proofs.chunks.begin.Statement.{statement}
 use Rattle.adjustment.proofs.chunks.begin.Tie as tie
 
 returns : tie.Need-returns
-unfolding phaseOf givenOf openedPhase countOf
+unfolding phaseOf givenOf openedPhase givenLength
 returns c =
     record {
       run = λ b list x m. refl;

@@ -1,4 +1,4 @@
--- `ending::is_given` meets its contract. Assumes nothing.
+-- By what was given. Assumes nothing.
 use borrow.Author.Needs.{needs}
 use Rattle.input_lines.specs.States.{isGiven}
 use Rattle.adjustment.proofs.ending.is_given.Statement.{statement}

@@ -1,4 +1,4 @@
--- `commands::reading::add` meets its contract. Assumes nothing.
+-- By the entry: a record at a place is an add, and an unreadable one no command (`added-none`). Assumes nothing.
 use Rattle.commands.specs.CommandLaws.{added-of, added-none}
 use mir.Facts.{toZ-ofZ}
 use mir.Syntax.{w64}

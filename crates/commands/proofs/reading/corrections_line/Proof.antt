@@ -1,4 +1,4 @@
--- `commands::reading::corrections_line` meets its contract. Assumes nothing.
+-- By what the fields give: nothing (`counted-none`), or so many numbers (`counted-some`); they are stored as `read_rest` stores them. Assumes nothing.
 use Rattle.commands.specs.CommandLaws.{counted-none, counted-some}
 use Rattle.commands.specs.declared.Command.the-variants.{Corrections}
 use borrow.Author.Needs.{needs}

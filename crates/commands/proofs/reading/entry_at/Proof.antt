@@ -1,4 +1,4 @@
--- `commands::reading::entry_at` meets its contract. Assumes nothing.
+-- By the letter, as `entryOf` goes through them. Assumes nothing.
 use Rattle.commands.specs.CommandLaws.{it-is, it-is-not}
 use Rattle.commands.specs.Commands.{letter-H, letter-B, entryOf}
 use borrow.Author.Needs.{needs}

@@ -1,4 +1,4 @@
--- `commands::reading::in_turn` meets its contract. Assumes nothing.
+-- A negative number and 0 are no turn (`turn-negative`, `turn-zero`); any other is its size, compared less one (`turn-size`). Assumes nothing.
 use Rattle.commands.specs.CommandLaws.{turn-negative, turn-zero, turn-size}
 use mir.Facts.{toZ-ofZ}
 use mir.Syntax.{w64}

@@ -1,4 +1,4 @@
--- `commands::reading::is_station_line` meets its contract. Assumes nothing.
+-- The test is of the letter that `letter_at` gives. Assumes nothing.
 use lib.Dec.{eqb}
 use Prim.Native.Nat.{ℕ}
 use mathlib.Core.Path.{ap}

@@ -1,4 +1,4 @@
--- `commands::reading::other_line` meets its contract. Assumes nothing.
+-- By the letter, as `otherOf` goes through them. Assumes nothing.
 use Rattle.commands.specs.CommandLaws.{it-is, it-is-not}
 use Rattle.commands.specs.Commands.{letter-R, letter-D, letter-U, otherOf, added, entryOf}
 use Rattle.text.specs.Fields.{restFields}

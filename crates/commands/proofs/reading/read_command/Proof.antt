@@ -1,4 +1,4 @@
--- `commands::reading::read_command` meets its contract. Assumes nothing.
+-- A line that was cut asks nothing (`obeys-cut`); else by its letter, one law of `Obeys` for each. Assumes nothing.
 use Rattle.commands.specs.CommandLaws.{obeys-late, obeys-cut, obeys-station, obeys-corrections, obeys-matrix, obeys-other}
 use mathlib.Core.Path.{refl}
 use borrow.Author.Needs.{needs}

@@ -1,4 +1,4 @@
--- `commands::reading::replace` meets its contract. Assumes nothing.
+-- By the entry: a record at a place is a replacement, and an unreadable one no command. Assumes nothing.
 use Rattle.commands.specs.CommandLaws.{replaced-of, replaced-none}
 use mir.Facts.{toZ-ofZ}
 use mir.Syntax.{w64}

@@ -1,4 +1,4 @@
--- `commands::reading::replace_line` meets its contract. Assumes nothing.
+-- R alone is unreadable (`replace-none`); else the fields after it are an entry (`replace-some`). Assumes nothing.
 use Rattle.commands.specs.CommandLaws.{replace-none, replace-some}
 use Rattle.commands.specs.Commands.{replaced}
 use mathlib.Core.Path.{ap, _∙_}

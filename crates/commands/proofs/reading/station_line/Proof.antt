@@ -1,4 +1,4 @@
--- `commands::reading::station_line` meets its contract. Assumes nothing.
+-- Fields that are missing (`station-none`, `station-one`) or a number out of turn (`station-wrong`) make it unreadable; else its kind and coordinates are read from the next field on. Assumes nothing.
 use mathlib.Core.Path.{_≡_, ap, _∙_}
 use Rattle.commands.specs.CommandLaws.{station-none, station-one, station-wrong, station-turn, turn-none, turn-is}
 use Rattle.words.specs.Signed.{eqZ}

@@ -1,4 +1,4 @@
--- `commands::reading::station_with` meets its contract. Assumes nothing.
+-- By how many numbers there are: none that can be read (`exactly-none`), another count (`exactly-other`), or just three (`exactly-all`). Assumes nothing.
 use Rattle.commands.specs.CommandLaws.{exactly-none, exactly-other, exactly-all, station-bits}
 use Rattle.commands.specs.Commands.{stationWith}
 use lib.ListN.{getD}

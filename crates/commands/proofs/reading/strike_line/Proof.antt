@@ -1,4 +1,4 @@
--- `commands::reading::strike_line` meets its contract. Assumes nothing.
+-- By how many numbers there are: none that can be read (`exactly-none`), another count (`exactly-other`), or just one (`exactly-all`). Assumes nothing.
 use Rattle.commands.specs.CommandLaws.{exactly-none, exactly-other, exactly-all}
 use Rattle.commands.specs.Commands.{strikeOf}
 use Rattle.commands.specs.declared.Command.the-variants.{Call}

@@ -1,4 +1,4 @@
--- `commands::reading::undo_line` meets its contract. Assumes nothing.
+-- U alone undoes (`undo-none`); with more fields it is unreadable (`undo-some`). Assumes nothing.
 use Rattle.commands.specs.CommandLaws.{undo-none, undo-some}
 use borrow.Author.Needs.{needs}
 use Rattle.commands.proofs.reading.undo_line.Statement.{statement}

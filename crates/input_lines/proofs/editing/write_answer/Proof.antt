@@ -1,4 +1,4 @@
--- `editing::write_answer` meets its contract. Assumes nothing.
+-- By the command: an unreadable line has its own message, and any other that of its refusal (`says-other`). Assumes nothing.
 use borrow.Author.Needs.{needs}
 use native.Mathlib.Omega.{arith}
 use Rattle.text.specs.Writing.{written-as}

@@ -1,4 +1,4 @@
--- `editing::write_message` meets its contract. Assumes nothing.
+-- By whether the run has ended: nothing, or the line's message. Assumes nothing.
 use borrow.Author.Needs.{needs}
 use native.Mathlib.Omega.{arith}
 use Rattle.text.specs.Writing.{nothing}

@@ -1,4 +1,4 @@
--- `editing::write_refusal` meets its contract. Assumes nothing.
+-- By the number: 0 prints nothing. Assumes nothing.
 use borrow.Author.Needs.{needs}
 use native.Mathlib.Omega.{arith}
 use borrow.Author.Tests.{eq-eqb, ne-eqb}

@@ -1,4 +1,4 @@
--- `opening::is_unopened` meets its contract. Assumes nothing.
+-- By the phase. Assumes nothing.
 use borrow.Author.Needs.{needs}
 use Rattle.input_lines.specs.States.{unopenedPhase}
 use Rattle.input_lines.proofs.opening.is_unopened.Statement.{statement}

@@ -1,4 +1,4 @@
--- `opening::opened` meets its contract. Assumes nothing.
+-- All but the phase stays, and that is the one after the refusal. Assumes nothing.
 use borrow.Author.Needs.{needs}
 use Rattle.input_lines.proofs.opening.opened.Statement.{statement}
 use Rattle.input_lines.proofs.opening.opened.Tie as tie

@@ -1,4 +1,4 @@
--- `opening::opens_at` meets its contract. Assumes nothing.
+-- Both tests, joined. Assumes nothing.
 use borrow.Author.Needs.{needs}
 use Rattle.input_lines.proofs.opening.opens_at.Statement.{statement}
 use Rattle.input_lines.proofs.opening.opens_at.Tie as tie

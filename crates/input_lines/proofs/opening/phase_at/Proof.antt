@@ -1,4 +1,4 @@
--- `opening::phase_at` meets its contract. Assumes nothing.
+-- By the number, as `phaseAt` has it. Assumes nothing.
 use borrow.Author.Tests.{eq-eqb, ne-eqb}
 use Rattle.input_lines.proofs.opening.phase_at.Statement.{statement}
 use Rattle.input_lines.proofs.opening.phase_at.Tie as tie

@@ -1,4 +1,4 @@
--- `opening::put_station` meets its contract. Assumes nothing.
+-- Four stores one after the other are the four words stored as a run (`put-four`); each number is that of its bits. Assumes nothing.
 use borrow.Author.Needs.{needs}
 use borrow.Author.Needs.{sfits-of}
 use mathlib.Core.Path.{_∙_}

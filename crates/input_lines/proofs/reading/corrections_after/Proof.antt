@@ -1,4 +1,4 @@
--- `reading::corrections_after` meets its contract. Assumes nothing.
+-- By the command: an X line gives its count, and any other leaves what was given (`brings-no-corrections`). Assumes nothing.
 use borrow.Author.Needs.{needs}
 use Rattle.commands.specs.Brings.{brings, howMany}
 use Rattle.input_lines.proofs.Arms.{brings-no-corrections}

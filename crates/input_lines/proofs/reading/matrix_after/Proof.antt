@@ -1,4 +1,4 @@
--- `reading::matrix_after` meets its contract. Assumes nothing.
+-- By the command: an M line gives its count, and any other leaves what was given (`brings-no-matrix`). Assumes nothing.
 use borrow.Author.Needs.{needs}
 use Rattle.commands.specs.Brings.{brings, howMany}
 use Rattle.input_lines.proofs.Arms.{brings-no-matrix}

@@ -1,4 +1,4 @@
--- `reading::note_words` meets its contract. Assumes nothing.
+-- By the command: an S line notes its station, and any other leaves the words (`words-other`). Assumes nothing.
 use borrow.Author.Needs.{needs}
 use Rattle.input_lines.specs.Runs.{wordsAfter}
 use Rattle.input_lines.proofs.Arms.{words-other}

@@ -1,4 +1,4 @@
--- `reading::read_after` meets its contract. Assumes nothing.
+-- By the command: an S line is one more read (`read-other` for any other). Assumes nothing.
 use borrow.Author.Needs.{needs}
 use native.Mathlib.Numerals.{add-one}
 use Rattle.input_lines.specs.Runs.{readAfter}

@@ -1,4 +1,4 @@
--- `reading::read_line` meets its contract. Assumes nothing.
+-- What the line asks is `read_command`'s answer; the numbers that it brought stand at the front of x or m (`corrections-brought`, `matrix-brought`), and the rest of the state is noted part by part. Assumes nothing.
 use borrow.Author.Needs.{needs}
 use mathlib.Core.Path.{refl}
 use native.Mathlib.Numerals.{add-one}

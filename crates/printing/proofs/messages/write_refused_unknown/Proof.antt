@@ -1,5 +1,5 @@
 -- Three texts one after the other; the room is their lengths together. Assumes nothing.
-use Rattle.printing.specs.Messages.{refusedUnknown}
+use Rattle.printing.specs.Messages.{refusedUnknownText}
 use Rattle.text.specs.Writing.{_then_}
 use native.Mathlib.Omega.{arith}
 use borrow.Author.Needs.{needs}
@@ -22,7 +22,7 @@ same-length : tie.Need-same-length
 same-length c = search needs
 
 returns : tie.Need-returns
-unfolding refusedUnknown
+unfolding refusedUnknownText
 returns c =
     let w3 = c .before .before in
     let w2 = w3 .before .before .before .before in

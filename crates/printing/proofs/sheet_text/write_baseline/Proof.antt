@@ -1,7 +1,7 @@
 -- The fields, then each verdict with what stands after it; a verdict is handed over by its bits. Assumes nothing.
 use Rattle.printing.specs.SheetTextLaws.{by-bits}
 use Rattle.text.specs.Writing.{written-as, _then_}
-use Rattle.printing.specs.SheetText.{baselineLine, verdict}
+use Rattle.printing.specs.SheetText.{baselineText, verdict}
 use borrow.Author.Needs.{sfits-of, needs}
 use native.Mathlib.Omega.{arith}
 use Rattle.printing.proofs.sheet_text.write_baseline.Statement.{statement}
@@ -59,7 +59,7 @@ same-length : tie.Need-same-length
 same-length c = search needs
 
 returns : tie.Need-returns
-unfolding baselineLine
+unfolding baselineText
 returns c =
     let w7 = c .before .before in
     let w6 = w7 .before .before .before .before in

@@ -1,7 +1,7 @@
 -- The fields, then the verdict, which is handed over by its bits. Assumes nothing.
 use Rattle.printing.specs.SheetTextLaws.{by-bits}
 use Rattle.text.specs.Writing.{written-as, _then_}
-use Rattle.printing.specs.SheetText.{globalLine, verdict}
+use Rattle.printing.specs.SheetText.{globalText, verdict}
 use borrow.Author.Needs.{sfits-of, needs}
 use native.Mathlib.Omega.{arith}
 use Rattle.printing.proofs.sheet_text.write_global.Statement.{statement}
@@ -35,7 +35,7 @@ same-length : tie.Need-same-length
 same-length c = search needs
 
 returns : tie.Need-returns
-unfolding globalLine
+unfolding globalText
 returns c =
     let w4 = c .before .before in
     let w3 = w4 .before .before .before .before in

@@ -1,7 +1,7 @@
 -- Five texts one after the other; a count is handed over by its bits. Assumes nothing.
 use Rattle.printing.specs.SheetTextLaws.{by-bits}
 use Rattle.text.specs.Writing.{written-as, _then_}
-use Rattle.printing.specs.SheetText.{headLine}
+use Rattle.printing.specs.SheetText.{headText}
 use Rattle.text.specs.Numbers.{decimal}
 use borrow.Author.Needs.{sfits-of, needs}
 use native.Mathlib.Omega.{arith}
@@ -42,7 +42,7 @@ same-length : tie.Need-same-length
 same-length c = search needs
 
 returns : tie.Need-returns
-unfolding headLine
+unfolding headText
 returns c =
     let w5 = c .before .before in
     let w4 = w5 .before .before .before .before .before in

@@ -1,7 +1,7 @@
 -- The fields, then the verdict, which is handed over by its bits. Assumes nothing.
 use Rattle.printing.specs.SheetTextLaws.{by-bits}
 use Rattle.text.specs.Writing.{written-as, _then_}
-use Rattle.printing.specs.SheetText.{heightLine, verdict}
+use Rattle.printing.specs.SheetText.{heightText, verdict}
 use borrow.Author.Needs.{sfits-of, needs}
 use native.Mathlib.Omega.{arith}
 use Rattle.printing.proofs.sheet_text.write_height.Statement.{statement}
@@ -29,7 +29,7 @@ same-length : tie.Need-same-length
 same-length c = search needs
 
 returns : tie.Need-returns
-unfolding heightLine
+unfolding heightText
 returns c =
     let w3 = c .before .before in
     let w2 = w3 .before .before .before .before in

@@ -11,7 +11,7 @@ use Rattle.network.specs.declared.Record.{Record}
 use Rattle.sheet.specs.Sheet.{lineLength}
 use Rattle.text.specs.Writing.{Written, _then_, written-as}
 use Rattle.printing.specs.Rooms.{baselineRoom}
-use Rattle.printing.specs.SheetText.{recordLine, recordLines, recordStart}
+use Rattle.printing.specs.SheetText.{recordText, recordTexts, recordStart}
 use Rattle.printing.specs.SheetTextLaws.{records-start, start-zero, start-more, records-more, start-rises}
 use Rattle.printing.proofs.sheet_text.write_records.Statement.{statement}
 use Rattle.printing.proofs.sheet_text.write_records.Tie as tie
@@ -19,7 +19,7 @@ use Rattle.printing.proofs.sheet_text.write_records.Tie as tie
 abbrev Inv-loop : tie.InvT-loop
 Inv-loop out₀ at w o places next₀ word₀ p₀ out next word p =
     (p ≤ 256) × (length out ≡ length out₀) × (next ≤ at + p * baselineRoom) × (word ≡ recordStart o (placesIn places) p)
-    × Written out₀ at (recordLines w o (placesIn places) p) next out
+    × Written out₀ at (recordTexts w o (placesIn places) p) next out
 
 abbrev μ-loop : tie.MeasureT-loop
 μ-loop out₀ at w o places next₀ word₀ p₀ out next word p = 256 - p
@@ -71,7 +71,7 @@ loop-again c =
       omega (arith, a .loop .inv .2, w .write-record .ensures .1),
       ap (λ (n : ℕ). a .loop .word + n) (c .words-in .ensures) ∙ next-start r,
       written-as
-          (ap₂ (λ (o : ℕ) (q : Record). recordLines (s .args .w .now) (s .args .o) (placesOf a) (a .loop .p) ++ recordLine (s .args .w .now) o q) (a .loop .inv .3) (r .record-at .ensures)
+          (ap₂ (λ (o : ℕ) (q : Record). recordTexts (s .args .w .now) (s .args .o) (placesOf a) (a .loop .p) ++ recordText (s .args .w .now) o q) (a .loop .inv .3) (r .record-at .ensures)
           ∙ records-more (s .args .o) (placesOf a) (s .args .w .now) (a .loop .p))
           (a .loop .inv .4 then w .write-record .ensures .0),
     )
@@ -83,7 +83,7 @@ returns : tie.Need-returns Inv-loop μ-loop
 returns c =
     let a = c .before in let s = a .before .before in
     let e : a .loop .p ≡ 256 = omega (arith, c .loop-test .left, a .loop .inv .0) in (
-      written-as (ap (recordLines (s .args .w .now) (s .args .o) (placesOf a)) e) (a .loop .inv .4),
+      written-as (ap (recordTexts (s .args .w .now) (s .args .o) (placesOf a)) e) (a .loop .inv .4),
       (omega (arith, e, a .loop .inv .2), a .loop .inv .3 ∙ ap (recordStart (s .args .o) (placesOf a)) e),
     )
 

@@ -4,7 +4,7 @@ use native.Mathlib.Omega.{arith}
 use mathlib.Core.Path.{ap}
 use Rattle.network.specs.Places.{placesIn}
 use Rattle.text.specs.Writing.{_then_, written-as}
-use Rattle.printing.specs.SheetText.{sheetText, globalLine}
+use Rattle.printing.specs.SheetText.{sheetText, globalText}
 use Rattle.printing.specs.SheetTextLaws.{global-after}
 use Rattle.printing.proofs.sheet_text.write_sheet.Statement.{statement}
 use Rattle.printing.proofs.sheet_text.write_sheet.Tie as tie
@@ -44,7 +44,7 @@ returns c =
       h .write-head .ensures .0
           then s .write-stations .ensures .0
           then r .write-records .ensures .0
-          then written-as (ap (globalLine (a .args .w .now)) (r .write-records .ensures .1 .1)) (g .write-global .ensures .0),
+          then written-as (ap (globalText (a .args .w .now)) (r .write-records .ensures .1 .1)) (g .write-global .ensures .0),
       omega (arith, h .write-head .ensures .1, s .write-stations .ensures .1, r .write-records .ensures .1 .0, g .write-global .ensures .1, a .pre .0),
     )
 

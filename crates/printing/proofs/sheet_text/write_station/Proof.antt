@@ -1,7 +1,7 @@
 -- Six fields, then the seventh number, which is handed over by its bits. Assumes nothing.
 use Rattle.printing.specs.SheetTextLaws.{by-bits}
 use Rattle.text.specs.Writing.{written-as, _then_}
-use Rattle.printing.specs.SheetText.{stationLine}
+use Rattle.printing.specs.SheetText.{stationText}
 use Rattle.text.specs.Numbers.{decimal}
 use borrow.Author.Needs.{sfits-of, needs}
 use native.Mathlib.Omega.{arith}
@@ -30,7 +30,7 @@ same-length : tie.Need-same-length
 same-length c = search needs
 
 returns : tie.Need-returns
-unfolding stationLine
+unfolding stationText
 returns c =
     let w3 = c .before .before in
     let w2 = w3 .before .before .before .before in

@@ -1,7 +1,7 @@
 -- The loop has written the lines of the stations passed (`stations-more`). Assumes nothing.
 use Rattle.printing.specs.SheetTextLaws.{stations-start, stations-more}
 use Rattle.text.specs.Writing.{written-as, Written, _then_}
-use Rattle.printing.specs.SheetText.{stationLines}
+use Rattle.printing.specs.SheetText.{stationTexts}
 use lib.ListN.{length}
 use native.Mathlib.Omega.{arith}
 use Prim.Native.Nat.{_≤_, _-_, _+_, _*_}
@@ -11,7 +11,7 @@ use Rattle.printing.proofs.sheet_text.write_stations.Statement.{stateme
 use Rattle.printing.proofs.sheet_text.write_stations.Tie as tie
 
 abbrev Inv-loop : tie.InvT-loop
-Inv-loop out₀ at w n p₀ i₀ out p i = (i ≤ n) × (length out ≡ length out₀) × (p ≤ at + i * 154) × Written out₀ at (stationLines w i) p out
+Inv-loop out₀ at w n p₀ i₀ out p i = (i ≤ n) × (length out ≡ length out₀) × (p ≤ at + i * 154) × Written out₀ at (stationTexts w i) p out
 
 abbrev μ-loop : tie.MeasureT-loop
 μ-loop out₀ at w n p₀ i₀ out p i = n - i
@@ -53,7 +53,7 @@ returns c =
     let a = c .before in
     let s = a .before .before in
     let e : a .loop .i ≡ s .args .n = omega (arith, c .loop-test .left, a .loop .inv .0) in
-    (written-as (ap (stationLines (s .args .w .now)) e) (a .loop .inv .3), omega (arith, e, a .loop .inv .2))
+    (written-as (ap (stationTexts (s .args .w .now)) e) (a .loop .inv .3), omega (arith, e, a .loop .inv .2))
 
 pub write-stations-spec : {M : Type 1} → statement M
 write-stations-spec =

@@ -1,7 +1,7 @@
--- `text::fields::count_numbers` meets its contract. Assumes nothing.
+-- The invariant: the count from here, with what is counted so far, is the count of all fields. A field that is no number ends it (`count-wrong`), so does the last (`count-last`) and one beyond the most (`count-full`). Assumes nothing.
 use Rattle.text.specs.FieldLaws.{first-and-rest, end-within, fields-here, fields-last, fields-more}
 use Rattle.text.specs.Reading.{countAfter, count-start, count-wrong, count-last, count-more, count-full}
-use Rattle.text.specs.Fields.{fieldsOf, numbersOf, atMost, countOf}
+use Rattle.text.specs.Fields.{fieldsOf, numbersIn, atMost, countOf}
 use lib.ListN.{length, drop}
 use native.Mathlib.Omega.{arith}
 use Prim.Native.Nat.{ℕ, _≤_, _-_}
@@ -12,7 +12,7 @@ use Rattle.text.proofs.fields.count_numbers.Statement.{statement}
 use Rattle.text.proofs.fields.count_numbers.Tie as tie
 
 abbrev Inv-loop : tie.InvT-loop
-Inv-loop s most n₀ i₀ n i = (i ≤ length s) × (n ≤ most) × (countAfter n most (numbersOf (fieldsOf (drop i s))) ≡ countOf (atMost most (numbersOf (fieldsOf s))))
+Inv-loop s most n₀ i₀ n i = (i ≤ length s) × (n ≤ most) × (countAfter n most (numbersIn (fieldsOf (drop i s))) ≡ countOf (atMost most (numbersIn (fieldsOf s))))
 
 abbrev μ-loop : tie.MeasureT-loop
 μ-loop s most n₀ i₀ n i = most - n
@@ -44,7 +44,7 @@ returns c =
     let e = r .before .before in
     let a = e .before .before in
     count-wrong _ _ _ _ (r .number-of .ensures) _ (c .enum-told .given .1)
-    ∙ ap (λ (fs : List (List ℕ)). countAfter (a .loop .n) (a .before .before .args .most) (numbersOf fs)) (sym (fields-here _ _ _ (e .field-end .ensures)))
+    ∙ ap (λ (fs : List (List ℕ)). countAfter (a .loop .n) (a .before .before .args .most) (numbersIn fs)) (sym (fields-here _ _ _ (e .field-end .ensures)))
     ∙ a .loop .inv .2
 
 enum-told-2 : tie.Need-enum-told-2 Inv-loop μ-loop
@@ -60,7 +60,7 @@ returns-2 c =
     let e = r .before .before in
     let a = e .before .before in
     count-last _ _ _ _ (r .number-of .ensures) _ (v .enum-told2 .given .1) (e .before .loop-test .taken)
-    ∙ ap (λ (fs : List (List ℕ)). countAfter (a .loop .n) (a .before .before .args .most) (numbersOf fs)) (sym (fields-last _ _ _ (e .field-end .ensures) (c .if1 .taken)))
+    ∙ ap (λ (fs : List (List ℕ)). countAfter (a .loop .n) (a .before .before .args .most) (numbersIn fs)) (sym (fields-last _ _ _ (e .field-end .ensures) (c .if1 .taken)))
     ∙ a .loop .inv .2
 
 add-i : tie.Need-add-i Inv-loop μ-loop
@@ -78,7 +78,7 @@ loop-again c =
       omega (arith, c .if1 .left),
       omega (arith, e .before .loop-test .taken),
       count-more _ _ _ _ (r .number-of .ensures) _ (v .enum-told2 .given .1) _
-          ∙ ap (λ (fs : List (List ℕ)). countAfter (a .loop .n) (a .before .before .args .most) (numbersOf fs)) (sym (fields-more _ _ _ (e .field-end .ensures) (c .if1 .left)))
+          ∙ ap (λ (fs : List (List ℕ)). countAfter (a .loop .n) (a .before .before .args .most) (numbersIn fs)) (sym (fields-more _ _ _ (e .field-end .ensures) (c .if1 .left)))
           ∙ a .loop .inv .2,
     )
 
@@ -86,7 +86,7 @@ returns-3 : tie.Need-returns-3 Inv-loop μ-loop
 returns-3 c =
     let a = c .before in
     count-full _ _ _ _ (c .loop-test .left)
-    ∙ ap (λ (fs : List (List ℕ)). countAfter (a .loop .n) (a .before .before .args .most) (numbersOf fs)) (sym (first-and-rest _))
+    ∙ ap (λ (fs : List (List ℕ)). countAfter (a .loop .n) (a .before .before .args .most) (numbersIn fs)) (sym (first-and-rest _))
     ∙ a .loop .inv .2
 
 pub count-numbers-spec : {M : Type 1} → statement M

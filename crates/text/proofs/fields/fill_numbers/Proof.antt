@@ -1,4 +1,4 @@
--- `text::fields::fill_numbers` meets its contract. Assumes nothing.
+-- The invariant: what is stored from here on, over what is stored so far, is what all leading numbers leave. A field that is no number ends it (`fill-wrong`), so does the last one and a full list (`fill-full`). Assumes nothing.
 use mir.Facts.{toZ-ofZ}
 use mir.Syntax.{w64}
 use Rattle.text.specs.Reading.{leading, fill-start, fill-wrong, fill-last, fill-more, fill-full}

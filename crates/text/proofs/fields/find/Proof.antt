@@ -1,4 +1,4 @@
--- `text::fields::find` meets its contract. Assumes nothing.
+-- The invariant: where the byte is found from here is where it is found from the start. Assumes nothing.
 use Rattle.text.specs.Before.{before, end-here, end-found, end-more}
 use lib.ListN.{length, drop}
 use Prim.Native.Nat.{_+_, _-_}

@@ -1,4 +1,4 @@
--- `text::fields::letter_at` meets its contract. Assumes nothing.
+-- A field of one byte is its letter (`a-letter`); any other has none (`no-letter`). Assumes nothing.
 use Rattle.text.specs.FieldLaws.{a-letter, no-letter, letter-inside}
 use native.Mathlib.Omega.{arith}
 use mathlib.Core.Path.{sym}

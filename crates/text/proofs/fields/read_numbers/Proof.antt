@@ -1,4 +1,4 @@
--- `text::fields::read_numbers` meets its contract. Assumes nothing.
+-- The numbers are counted first: an unreadable field or too many store nothing (`stored-none`), else all are stored (`stored-all`). Assumes nothing.
 use Rattle.text.specs.Reading.{stored-none, stored-all}
 use borrow.Author.Needs.{needs}
 use Rattle.text.proofs.fields.read_numbers.Statement.{statement}

@@ -1,4 +1,4 @@
--- `text::fields::read_rest` meets its contract. Assumes nothing.
+-- A field that ends the line has none after it (`rest-none`); else the numbers from the next field on are read (`rest-some`). Assumes nothing.
 use Rattle.text.specs.Reading.{rest-none, rest-some}
 use borrow.Author.Needs.{needs}
 use Rattle.text.proofs.fields.read_rest.Statement.{statement}

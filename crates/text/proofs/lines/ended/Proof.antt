@@ -1,4 +1,4 @@
--- `text::lines::ended` meets its contract. Assumes nothing.
+-- By whether the part ends inside the chunk, as `fedAt` has it. Assumes nothing.
 use Rattle.text.specs.Lines.{fedAt}
 use borrow.Author.Tests.{lt-ltb, le-ltb}
 use borrow.Author.Needs.{needs}

@@ -1,4 +1,4 @@
--- `text::numbers::digits_from` meets its contract. Assumes nothing.
+-- The invariant: the digits from here, after the value so far, say what all of them say; the value is at most the cut. A byte that is no digit ends it (`digits-wrong`). Assumes nothing.
 use Rattle.text.specs.Digits.{digitsAfter, digitsOf, digit-bounds, digits-more, digits-wrong, digits-end, digits-none, digits-start}
 use Rattle.text.specs.Numbers.{isDigit}
 use borrow.Author.Tests.{not-true, not-false}

@@ -1,4 +1,4 @@
--- `text::numbers::negated` meets its contract. Assumes nothing.
+-- 0 is its own negative (`minus-zero`); of any other the bits are those of the complement of one less (`minus-bits`). Assumes nothing.
 use Rattle.text.specs.Digits.{minus-zero, minus-bits}
 use borrow.Author.Needs.{needs}
 use Rattle.text.proofs.numbers.negated.Statement.{statement}

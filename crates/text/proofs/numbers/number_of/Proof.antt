@@ -1,4 +1,4 @@
--- `text::numbers::number_of` meets its contract. Assumes nothing.
+-- An empty field is no number (`number-none`); one that starts with `-` is a negative (`number-minus`), any other a positive (`number-plus`). Assumes nothing.
 use Rattle.text.specs.Digits.{number-none, number-minus, number-plus}
 use lib.ListN.{length}
 use native.Mathlib.Omega.{arith}

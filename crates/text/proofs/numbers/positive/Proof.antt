@@ -1,4 +1,4 @@
--- `text::numbers::positive` meets its contract. Assumes nothing.
+-- By what the digits say: nothing, a value within the most positive (`within-in`), or one beyond (`within-beyond`). Assumes nothing.
 use Rattle.text.specs.Digits.{within-none, within-in, within-beyond}
 use Rattle.text.specs.declared.Number.the-variants.{Value}
 use mir.ValLaws.{toZ-pos}

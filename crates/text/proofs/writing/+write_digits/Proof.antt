@@ -1,4 +1,4 @@
--- `text::writing::write_digits` meets its contract. Assumes nothing.
+-- By induction on the digits that there is room for: the digits of a tenth, then the last one. Assumes nothing.
 use Rattle.text.proofs.Steps.{no-digit, one-digit, more-digits}
 use native.Mathlib.Omega.{arith}
 use borrow.Author.Needs.{needs}

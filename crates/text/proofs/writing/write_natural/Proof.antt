@@ -1,4 +1,4 @@
--- `text::writing::write_natural` meets its contract. Assumes nothing.
+-- The digits of a number of 64 bits are at most `mostDigits`. Assumes nothing.
 use borrow.Author.Needs.{needs}
 use Rattle.text.proofs.writing.write_natural.Statement.{statement}
 use Rattle.text.proofs.writing.write_natural.Tie as tie

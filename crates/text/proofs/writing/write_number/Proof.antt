@@ -1,4 +1,4 @@
--- `text::writing::write_number` meets its contract. Assumes nothing.
+-- By the sign: `-` and the digits of the size (`signed-decimal`), or the digits alone (`unsigned-decimal`). Assumes nothing.
 use Rattle.text.proofs.Steps.{unsigned-decimal, signed-decimal}
 use mir.Facts.{toZ-ofZ}
 use mir.Syntax.{w64}

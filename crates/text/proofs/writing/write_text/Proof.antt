@@ -1,4 +1,4 @@
--- `text::writing::write_text` meets its contract. Assumes nothing.
+-- The invariant: the front of the text, up to here, is written. Assumes nothing.
 use Rattle.text.proofs.Steps.{text-start, text-more, text-whole}
 use lib.ListN.{length-set, length, take}
 use native.Mathlib.Omega.{arith}
