@@ -1,4 +1,4 @@
--- `bench_replay` meets its contract: it is `book::replay`'s. Assumes nothing.
+-- Field by field what `replay` ensures, less what that says of the book, which is not returned. Assumes nothing.
 use borrow.Author.Needs.{needs}
 use Rattle.bench_kernels.proofs.bench_replay.Statement.{statement}
 use Rattle.bench_kernels.proofs.bench_replay.Tie as tie

@@ -1,4 +1,4 @@
--- `print_tally` meets its contract. Assumes nothing.
+-- The loop's invariant: i is at most 10, so the read is in range. Assumes nothing.
 use Prim.Native.Nat.{_-_, _≤_}
 use borrow.Author.Needs.{needs}
 use Rattle.book_runs.proofs.print_tally.Statement.{statement}

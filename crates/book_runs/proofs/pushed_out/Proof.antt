@@ -1,4 +1,4 @@
--- `pushed_out` meets its contract. Assumes nothing.
+-- The opened book was tested to be sound; each series leaves a sound book to the next call. Assumes nothing.
 use mathlib.Core.Path.{sym, _∙_}
 use borrow.Author.Tests.{not-false}
 use borrow.Author.Needs.{needs}

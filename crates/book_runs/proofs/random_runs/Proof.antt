@@ -1,4 +1,4 @@
--- `random_runs` meets its contract. Assumes nothing.
+-- The loop's invariant: r is at most 250, so the seed fits. Assumes nothing.
 use Prim.Native.Nat.{_-_, _≤_}
 use borrow.Author.Needs.{needs}
 use Rattle.book_runs.proofs.random_runs.Statement.{statement}

@@ -1,4 +1,4 @@
--- `run` meets its contract. Assumes nothing.
+-- The loop's invariant: the book is sound, as tested before the loop and kept by `step`, and k is at most 400. Assumes nothing.
 use Prim.Native.Nat.{_-_, _≤_}
 use mathlib.Core.Path.{_≡_, sym, _∙_}
 use mathlib.Core.Bool.{true}

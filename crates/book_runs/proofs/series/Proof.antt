@@ -1,4 +1,4 @@
--- `series` meets its contract. Assumes nothing.
+-- The loop's invariant: the book is sound, as `apply` leaves it. The calls left are the measure. Assumes nothing.
 use mathlib.Core.Path.{_≡_}
 use mathlib.Core.Bool.{true}
 use Rattle.book.specs.Book.{sound}

@@ -1,4 +1,4 @@
--- `answer_of` meets its contract. Assumes nothing.
+-- The number is small, so the cast keeps it. Assumes nothing.
 use Prim.Native.Nat.{_<_, _^_}
 use native.Mathlib.Omega.{arith}
 use borrow.Author.Needs.{needs}

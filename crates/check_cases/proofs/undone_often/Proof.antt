@@ -1,3 +1,4 @@
+-- The loop's invariant: k is at most 64, so one more fits. Assumes nothing.
 use Prim.Native.Nat.{_≤_, _-_}
 use borrow.Author.Needs.{needs}
 use Rattle.check_cases.proofs.undone_often.Statement.{statement}

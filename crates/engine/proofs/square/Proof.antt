@@ -1,3 +1,4 @@
+-- n is at most 48, so the product is at most 2,304 (`small`) and fits. Assumes nothing.
 use mathlib.Core.Path.{refl}
 use Prim.Native.Nat.{ℕ, _*_, _≤_}
 use native.Mathlib.Nat.{mul-le-mul}

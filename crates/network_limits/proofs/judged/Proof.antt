@@ -1,4 +1,4 @@
--- `network_limits::judged` meets its contract. Assumes nothing.
+-- A network that passed the test has few stations and coordinates in range, as `record_no` asks. Assumes nothing.
 use borrow.Author.Needs.{needs}
 use mathlib.Core.Path.{sym, _∙_}
 use Rattle.network.specs.RuleLaws.{network-few, network-coordinates}

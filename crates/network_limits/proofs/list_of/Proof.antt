@@ -1,4 +1,4 @@
--- `network_limits::list_of` meets its contract. Assumes nothing.
+-- The loop's invariant: s is at most 34, so the write is in range. Assumes nothing.
 use borrow.Author.Needs.{needs}
 use Prim.Native.Nat.{_-_, _≤_}
 use Rattle.network_limits.proofs.list_of.Statement.{statement}

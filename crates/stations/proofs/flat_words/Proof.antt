@@ -1,4 +1,4 @@
--- `stations::flat_words` meets its contract: a walk of its code, by hand, with a loop. The slice is only passed on, to `station_at`, so no borrow is opened here.
+-- By hand, step by step of the code, with a loop. The slice is only passed on, to `station_at`, so no borrow is opened here.
 -- The invariant: the numbers of the first i stations stand first. Assumes nothing.
 use mathlib.Core.Path.{_≡_, refl, ap, subst}
 use Prim.Native.Nat.{ℕ, _+_, _*_, _-_, _≤_, _<_, _^_, zero-le}

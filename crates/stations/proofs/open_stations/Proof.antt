@@ -1,4 +1,4 @@
--- `stations::open_stations` meets its contract: a walk of its code, by hand. The slice is passed on to `flat_words`, and its numbers to `open_words`. All that the proof knows of
+-- By hand, step by step of the code. The slice is passed on to `flat_words`, and its numbers to `open_words`. All that the proof knows of
 -- the two is that each meets its contract. Assumes nothing.
 use mathlib.Core.Path.{_≡_, refl, subst}
 use Prim.Native.Nat.{ℕ, _*_}

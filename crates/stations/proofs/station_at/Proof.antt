@@ -1,4 +1,4 @@
--- `stations::station_at` meets its contract: a walk of its code, by hand. `list[i]` stands 32 * i bytes past the start of the slice, and the struct is read there whole.
+-- By hand, step by step of the code. `list[i]` stands 32 * i bytes past the start of the slice, and the struct is read there whole.
 -- A station is plain data: what the element owns is had twice, and one copy is the result's. Assumes nothing.
 use mathlib.Core.Path.{refl, sym}
 use Prim.Native.Nat.{ℕ, _<_, _*_, _^_}

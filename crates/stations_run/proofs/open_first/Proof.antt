@@ -1,4 +1,4 @@
--- `stations_run::open_first` meets its contract: a walk of its code, by hand. The first n elements of a local array are lent as a `&[Station]` for a lifetime that the walk makes, passed to
+-- By hand, step by step of the code. The first n elements of a local array are lent as a `&[Station]` for a lifetime that the proof makes, passed to
 -- `open_stations`, and taken back, while the others stay. Assumes nothing.
 use mathlib.Core.Path.{_≡_, refl, sym, _∙_}
 use Prim.Native.Nat.{ℕ, _-_, _≤_, _<_, _^_, zero-le}

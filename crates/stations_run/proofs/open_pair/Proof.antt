@@ -1,4 +1,4 @@
--- `stations_run::open_pair` meets its contract: a walk of its code, by hand. A local array of two stations is lent as a `&[Station]` for a lifetime that the walk makes, passed to
+-- By hand, step by step of the code. A local array of two stations is lent as a `&[Station]` for a lifetime that the proof makes, passed to
 -- `open_stations`, and taken back. Assumes nothing.
 use mathlib.Core.Path.{refl}
 use mathlib.Core.List.{List, [], _∷_}

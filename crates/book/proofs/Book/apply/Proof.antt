@@ -1,4 +1,4 @@
--- `Book::apply` meets its contract. Assumes nothing.
+-- By the call: the outcome is what `edit` ensures, its place read back from its bits, or what `undo` ensures. Assumes nothing.
 use mathlib.Core.Path.{ap, _∙_}
 use mir.Syntax.{w64}
 use mir.Facts.{toZ-ofZ}

@@ -1,4 +1,4 @@
--- `Book::blank` meets its contract. Assumes nothing.
+-- N and u are what `Normals::blank` ensures; the other parts stand as the definition has them. Assumes nothing.
 use mathlib.Core.Path.{ap}
 use borrow.Author.Needs.{needs}
 use lib.ListN.{replicate}

@@ -1,4 +1,4 @@
--- `Book::edit` meets its contract. Assumes nothing.
+-- The number is the one the table gives for the call (`edit-number`); where it is 0 the record may enter (`enters-edit`), and `edit-done` makes it the outcome. Assumes nothing.
 use mathlib.Core.Path.{_≡_, refl, sym, ap, _∙_}
 use mir.Syntax.{w64}
 use mir.Facts.{toZ-ofZ}

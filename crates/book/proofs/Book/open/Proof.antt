@@ -1,4 +1,4 @@
--- `Book::open` meets its contract. Assumes nothing.
+-- By whether the list opens: `opening-done`, or `opening-refused` over the network of an empty list. Assumes nothing.
 use mathlib.Core.Path.{sym, ap, _∙_}
 use borrow.Author.Needs.{needs}
 use denote.Ref.{now}

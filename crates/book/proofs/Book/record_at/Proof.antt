@@ -1,4 +1,4 @@
--- `Book::record_at` meets its contract. Assumes nothing.
+-- Inside the 256 places the entry is read; beyond them the definition gives the empty record (`record-beyond`). Assumes nothing.
 use mathlib.Core.Path.{sym}
 use borrow.Author.Needs.{needs}
 use Rattle.lists.specs.Filling.{length-mapped}

@@ -1,4 +1,4 @@
--- `Book::settle` meets its contract. Assumes nothing.
+-- By the number: 0 is the edit with its reversal on the journal (`edited-is`, `settled-done`), any other leaves the book (`settled-refused`). Assumes nothing.
 use mathlib.Core.Path.{refl, ap}
 use borrow.Author.Needs.{needs}
 use Rattle.book.specs.declared.Book.{Book}

@@ -1,4 +1,4 @@
--- `Book::undo` meets its contract. Assumes nothing.
+-- Where there is no edit to take back, 8 and the same book; else the latest reversal may be put back (`latest-undoes`), and that is the undo (`undone-is`). Assumes nothing.
 use mathlib.Core.Path.{ap, _∙_}
 use borrow.Author.Needs.{needs}
 use Prim.Native.Nat.{_<_}

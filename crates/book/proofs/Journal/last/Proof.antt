@@ -1,4 +1,4 @@
--- `Journal::last` meets its contract. Assumes nothing.
+-- The slot read is the one that `slot_before` ensures, and it is below the size; the rest is congruence (`cc`). Assumes nothing.
 use borrow.Author.Needs.{needs}
 use Rattle.book.proofs.Journal.last.Statement.{statement}
 use Rattle.book.proofs.Journal.last.Tie as tie

@@ -1,4 +1,4 @@
--- `Journal::pop` meets its contract. Assumes nothing.
+-- The slot blanked is the one that `slot_before` ensures; there is an edit, so one less fits. The rest is congruence (`cc`). Assumes nothing.
 use borrow.Author.Needs.{needs}
 use Rattle.book.proofs.Journal.pop.Statement.{statement}
 use Rattle.book.proofs.Journal.pop.Tie as tie

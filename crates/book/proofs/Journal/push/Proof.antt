@@ -1,4 +1,4 @@
--- `Journal::push` meets its contract. Assumes nothing.
+-- The slot written is below the size; the counters are what `slot_after` and `one_more` ensure. The rest is congruence (`cc`). Assumes nothing.
 use borrow.Author.Needs.{needs}
 use Rattle.book.proofs.Journal.push.Statement.{statement}
 use Rattle.book.proofs.Journal.push.Tie as tie

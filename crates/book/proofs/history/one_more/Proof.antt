@@ -1,4 +1,3 @@
--- `history::one_more` meets its contract. Assumes nothing.
 use native.Mathlib.Omega.{arith}
 use Rattle.book.proofs.history.one_more.Statement.{statement}
 use Rattle.book.proofs.history.one_more.Tie as tie

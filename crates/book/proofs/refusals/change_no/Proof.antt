@@ -1,4 +1,4 @@
--- `refusals::change_no` meets its contract. Assumes nothing.
+-- By the change: what `entry_no` ensures, after `filled_no` or `empty_no`; of a strike, what `empty_no` ensures. Assumes nothing.
 use mathlib.Core.Path.{ap, _∙_}
 use Rattle.book.specs.Calls.{first}
 use Rattle.book.specs.Numbers.{changeNoOf}

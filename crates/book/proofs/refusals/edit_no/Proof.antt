@@ -1,4 +1,4 @@
--- `refusals::edit_no` meets its contract. Assumes nothing.
+-- The place is read back from its bits; the rest is congruence over what the three calls ensure (`cc`). Assumes nothing.
 use mir.Syntax.{w64}
 use mir.Facts.{toZ-ofZ}
 use borrow.Author.Needs.{needs}

@@ -1,4 +1,4 @@
--- `refusals::entry_no` meets its contract. Assumes nothing.
+-- What `first_no` ensures, over what `record_no` ensures. Assumes nothing.
 use Prim.Native.Nat.{ℕ}
 use mathlib.Core.Path.{ap, _∙_}
 use Rattle.book.specs.Calls.{first}

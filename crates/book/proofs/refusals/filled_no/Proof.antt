@@ -1,4 +1,4 @@
--- `refusals::filled_no` meets its contract. Assumes nothing.
+-- By what `is_empty` told of the record: each branch is a case of the definition. Assumes nothing.
 use mathlib.Core.Path.{sym, _∙_}
 use borrow.Author.Needs.{needs}
 use Rattle.book.specs.Calls.{filledNo}

@@ -1,4 +1,4 @@
--- `refusals::first_no` meets its contract. Assumes nothing.
+-- By whether the first number is 0: `first-next`, or `first-this`. Assumes nothing.
 use Rattle.book.proofs.Steps.{first-next, first-this}
 use Rattle.book.proofs.refusals.first_no.Statement.{statement}
 use Rattle.book.proofs.refusals.first_no.Tie as tie

@@ -1,4 +1,4 @@
--- `refusals::place_no` meets its contract. Assumes nothing.
+-- The place is read back from its bits, so the test is that of the definition; each branch is `place-is`. Assumes nothing.
 use mathlib.Core.Path.{_≡_, sym, ap, _∙_}
 use mathlib.Core.Bool.{true, false}
 use borrow.Author.Needs.{needs}

@@ -1,4 +1,4 @@
--- `refusals::puts_of` meets its contract. Assumes nothing.
+-- By the change: each arm is a case of the definition. Assumes nothing.
 use mathlib.Core.Path.{sym, ap}
 use Rattle.book.specs.Calls.{puts}
 use borrow.Author.Needs.{needs}

@@ -1,4 +1,4 @@
--- `rows::answer` meets its contract. Assumes nothing.
+-- By the row: a call is answered by `answered`, a row that names none as `nameless-answered` says. Assumes nothing.
 use Rattle.book.proofs.RowCases.{nameless-answered}
 use borrow.Author.Needs.{needs}
 use Rattle.book.proofs.rows.answer.Statement.{statement}

@@ -1,4 +1,4 @@
--- `rows::answered` meets its contract. Assumes nothing.
+-- A refusal is at most 9 (`refusal-small`), so the cast keeps it; `call-answered` has the answer and the book left. Assumes nothing.
 use Prim.Native.Nat.{_<_, _≤_, _^_}
 use mathlib.Core.Path.{refl}
 use native.Mathlib.Omega.{arith}

@@ -1,4 +1,4 @@
--- `rows::replay` meets its contract. Assumes nothing.
+-- By the refusal of the opening: `replay-refused`; or the opened book is sound (`opened-sound`), the rows run are inside both lists, and `replay-done` closes. Assumes nothing.
 use Prim.Native.Nat.{_/_, min}
 use mathlib.Core.Path.{_≡_}
 use native.Mathlib.Omega.{arith}

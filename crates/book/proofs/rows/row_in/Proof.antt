@@ -1,4 +1,4 @@
--- `rows::row_in` meets its contract. Assumes nothing.
+-- Number and place are read back from their bits; equal parts make the same row (`same-row`). Assumes nothing.
 use mathlib.Core.Path.{ap, _∙_}
 use mir.Syntax.{w64}
 use mir.Facts.{toZ-ofZ}

@@ -1,4 +1,4 @@
--- `rows::row_of` meets its contract. Assumes nothing.
+-- By the number: 0 to 3 are cases of the definition, the place read back from its bits; any other is `other-row`. Assumes nothing.
 use mir.Syntax.{w64}
 use mir.Facts.{toZ-ofZ}
 use Rattle.book.specs.Rows.{rowOf}

@@ -1,4 +1,4 @@
--- `soundness::is_free` meets its contract. Assumes nothing.
+-- The definition, with what `is_empty` ensures in it. Assumes nothing.
 use borrow.Author.Needs.{needs}
 use Rattle.book.specs.Journal.{isFree}
 use Rattle.book.proofs.soundness.is_free.Statement.{statement}

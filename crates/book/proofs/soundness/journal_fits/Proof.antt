@@ -1,4 +1,4 @@
--- `soundness::journal_fits` meets its contract. Assumes nothing.
+-- By the two tests of the counters: the first that fails settles it, else what `slots_fit` ensures. Assumes nothing.
 use borrow.Author.Needs.{needs}
 use borrow.Author.Tests.{lt-ltb, le-ltb, le-leb, lt-leb}
 use Rattle.book.specs.Journal.{journalFits}

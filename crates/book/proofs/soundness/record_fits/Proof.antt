@@ -1,4 +1,4 @@
--- `soundness::record_fits` meets its contract. Assumes nothing.
+-- A network by the rules has few stations and coordinates in range, as `record_fits_over` asks; the table lent is that of the network. Assumes nothing.
 use mathlib.Core.Path.{sym, ap, _∙_, subst}
 use mathlib.Core.List.{List}
 use lib.IntN.{ℤ}

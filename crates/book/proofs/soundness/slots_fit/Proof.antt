@@ -1,4 +1,4 @@
--- `soundness::slots_fit` meets its contract. Assumes nothing.
+-- The loop's invariant: the slots passed pass the test (`allBelow`). The first that fails settles it (`all-fails`); after the last, `all-done`. Assumes nothing.
 use Prim.Native.Nat.{ℕ, _-_, _≤_}
 use mathlib.Core.Path.{_≡_, sym, _∙_}
 use mathlib.Core.Bool.{Bool, true, _||_}

@@ -1,4 +1,4 @@
--- `ledger::filled` meets its contract. Assumes nothing.
+-- The loop's invariant: n is at most the number of places passed, so the sum fits. Assumes nothing.
 use Prim.Native.Nat.{_-_, _≤_}
 use borrow.Author.Needs.{needs}
 use Rattle.book_runs.proofs.ledger.filled.Statement.{statement}

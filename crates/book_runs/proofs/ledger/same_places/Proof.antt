@@ -1,4 +1,4 @@
--- `ledger::same_places` meets its contract. Assumes nothing.
+-- The loop's invariant: p is at most 256, so both reads are in range. Assumes nothing.
 use Prim.Native.Nat.{_-_, _≤_}
 use borrow.Author.Needs.{needs}
 use Rattle.book_runs.proofs.ledger.same_places.Statement.{statement}

@@ -1,4 +1,4 @@
--- `samples::above` meets its contract. Assumes nothing.
+-- The remainder is below n (`mod-lt`), so its sum with `low` fits. Assumes nothing.
 use native.Mathlib.Omega.{arith}
 use native.Mathlib.Nat.{mod-lt}
 use borrow.Author.Needs.{needs}

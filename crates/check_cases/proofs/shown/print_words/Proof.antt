@@ -1,3 +1,4 @@
+-- The loop's invariant: i is at most the length, so the read is in range. Assumes nothing.
 use Prim.Native.Nat.{_≤_, _-_}
 use lib.ListN.{length}
 use borrow.Author.Needs.{needs}

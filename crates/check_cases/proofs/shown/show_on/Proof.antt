@@ -1,3 +1,4 @@
+-- The sheet is asked for only where `is_sound` told that the book is sound. Assumes nothing.
 use mathlib.Core.Path.{sym, _∙_}
 use borrow.Author.Needs.{needs}
 use Rattle.check_cases.proofs.shown.show_on.Statement.{statement}

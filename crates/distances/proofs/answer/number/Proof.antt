@@ -1,3 +1,4 @@
+-- By the answer: a refusal's number is at most 17 (`agreement-most`), so the cast keeps it. Assumes nothing.
 use borrow.Author.Needs.{needs}
 use Prim.Native.Nat.{_≤_}
 use mathlib.Core.Path.{_≡_, sym, ap, _∙_, subst}

@@ -1,3 +1,4 @@
+-- The ends are in the list and the values in range, so every step fits; over the tables the squared distance is that of the two marks (`squared-distance-in`). Assumes nothing.
 use borrow.Author.Needs.{needs, sfits-of}
 use Prim.Native.Nat.{_<_, _≤_}
 use mathlib.Core.Path.{_≡_, sym, ap, _∙_, subst}

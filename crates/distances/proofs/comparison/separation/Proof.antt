@@ -1,3 +1,4 @@
+-- Both adjusted coordinates are small (`a-small`, `b-small`), so their difference fits and is at most the sum of their sizes. Assumes nothing.
 use borrow.Author.Needs.{needs}
 use Prim.Native.Nat.{_+_, _*_, _≤_}
 use mathlib.Core.Path.{_≡_, sym, ap₂, _∙_, subst}

@@ -1,3 +1,4 @@
+-- The differences and the rise are small, so their sum fits (`up-is`); each is read back from its bits and squared. Assumes nothing.
 use borrow.Author.Needs.{needs, sfits-of}
 use Prim.Native.Nat.{_≤_}
 use mathlib.Core.Path.{_≡_, sym, _∙_, subst}

@@ -1,3 +1,4 @@
+-- The three numbers are small, so no product or sum leaves 64 bits; `ringm` proves the identity of stored numbers. Assumes nothing.
 use mathlib.Core.List.{[], _∷_}
 use Rattle.integers.specs.Code.{fit, code-bounds, ringm, code-shapes}
 use Rattle.distances.proofs.comparison.sum_of_squares.Statement.{statement}

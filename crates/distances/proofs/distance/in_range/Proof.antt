@@ -1,3 +1,4 @@
+-- Each value is read back from its bits, so each test is that of the definition, in its order. Assumes nothing.
 use borrow.Author.Needs.{needs}
 use mathlib.Core.Path.{_≡_, ap, ap₂, _∙_}
 use mathlib.Core.Bool.{_&&_}

@@ -1,3 +1,4 @@
+-- Distance and tolerance are small, so the two squares fit and are those of the definition (`near-is`, `far-is`). Assumes nothing.
 use borrow.Author.Needs.{needs}
 use Prim.Native.Nat.{_≤_}
 use mathlib.Core.Path.{_≡_, _∙_}

@@ -1,3 +1,4 @@
+-- By the two tests: no book (`record-unfit`), no such place (`record-beyond`); else the words of the record there, as `give` ensures (`record-fit`). Assumes nothing.
 use mathlib.Core.Path.{_≡_, refl, sym, ap, _∙_}
 use mathlib.Core.Bool.{true}
 use borrow.Author.Tests.{not-true, not-false}

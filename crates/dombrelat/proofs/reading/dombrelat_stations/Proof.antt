@@ -1,3 +1,4 @@
+-- Bytes that hold no book are answered with 25; else there are at most 32 stations (`few`), so their words are inside those read (`stations-fit`). Assumes nothing.
 use Prim.Native.Nat.{_≤_}
 use native.Mathlib.Omega.{arith}
 use mathlib.Core.Path.{_≡_, refl, sym, _∙_}

@@ -1,3 +1,4 @@
+-- Bytes that hold no book are answered with 25; else the unknowns are few (`number-small`), so their number fits the word (`unknowns-fit`). Assumes nothing.
 use native.Mathlib.Omega.{arith}
 use mathlib.Core.Path.{_≡_, sym, _∙_}
 use mathlib.Core.Bool.{true}

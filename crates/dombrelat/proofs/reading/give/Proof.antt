@@ -1,3 +1,4 @@
+-- By the room: 10 and the bytes as they came (`gives-none`), or the words written and the number (`gives-all`). Assumes nothing.
 use mathlib.Core.Path.{refl, _∙_}
 use mir.Syntax.{w64}
 use mir.Facts.{toZ-ofZ}

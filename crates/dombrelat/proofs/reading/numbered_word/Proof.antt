@@ -1,3 +1,4 @@
+-- The number is small, so 256 times it fits and the cast keeps it. Assumes nothing.
 use Prim.Native.Nat.{_*_, _<_, _^_}
 use native.Mathlib.Omega.{arith}
 use mir.Syntax.{w64}

@@ -1,3 +1,4 @@
+-- The loop's invariant: j is at most i + 1, and the matrix keeps its length, so both entries are inside it. Assumes nothing.
 use mathlib.Core.Path.{_≡_}
 use Prim.Native.Nat.{_+_, _-_, _≤_}
 use lib.ListN.{length, length-set}

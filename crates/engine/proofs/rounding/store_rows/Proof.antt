@@ -1,3 +1,4 @@
+-- The loop's invariant: at most 48 numbers are stored for each row passed, and the list keeps its length, so the next row is inside it. Assumes nothing.
 use mathlib.Core.Path.{_≡_}
 use Prim.Native.Nat.{_-_, _≤_, _*_}
 use lib.ListN.{length}

@@ -1,3 +1,4 @@
+-- The loop's invariant: k is at most n, so both reads are in range. Assumes nothing.
 use Prim.Native.Nat.{_-_, _≤_}
 use borrow.Author.Needs.{needs}
 use Rattle.engine.proofs.solution.dot.Statement.{statement}

@@ -1,3 +1,4 @@
+-- The loop's invariant: i is at most n, and r keeps its length, so row i is inside the work slice and the write in range. Assumes nothing.
 use mathlib.Core.Path.{_≡_}
 use Prim.Native.Nat.{_-_, _≤_}
 use lib.ListN.{length}

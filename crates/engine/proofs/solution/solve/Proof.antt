@@ -1,3 +1,4 @@
+-- The loop's invariant: the rounds are at most three, and x and r keep their lengths, as the calls ask. Assumes nothing.
 use mathlib.Core.Path.{_≡_}
 use Prim.Native.Nat.{_-_, _≤_}
 use lib.ListN.{length}

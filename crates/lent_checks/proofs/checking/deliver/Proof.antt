@@ -1,3 +1,4 @@
+-- By the answer's number: on acceptance the words are written (`delivered`), else the bytes stay (`withheld`). Assumes nothing.
 use mathlib.Core.Path.{refl, sym, _∙_}
 use Rattle.lent_checks.proofs.Answers.{delivered, withheld}
 use borrow.Author.Needs.{needs}

@@ -1,3 +1,4 @@
+-- The number is at most 17 in size and 256 times the unknown is small, as the caller says, so the sum fits (`sum-is`). Assumes nothing.
 use borrow.Author.Needs.{needs}
 use Prim.Native.Nat.{ℕ, _*_, _≤_}
 use mathlib.Core.Path.{_≡_, sym, ap₂, _∙_, subst}

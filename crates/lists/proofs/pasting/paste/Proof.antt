@@ -1,3 +1,4 @@
+-- The loop's invariant: the first i numbers are stored, and the list keeps its length; one more is `paste-next`, all of them `paste-all`. Assumes nothing.
 use borrow.Author.Needs.{needs}
 use native.Mathlib.Omega.{arith}
 use mathlib.Core.Path.{_≡_, refl, ap, _∙_}

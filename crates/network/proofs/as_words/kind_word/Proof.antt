@@ -1,3 +1,4 @@
+-- By the kind: each arm is a case of the definition. Assumes nothing.
 use mathlib.Core.Path.{sym, ap}
 use Rattle.network.specs.StationWords.{kindWord}
 use borrow.Author.Needs.{needs}

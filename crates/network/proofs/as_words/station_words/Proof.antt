@@ -1,3 +1,4 @@
+-- Each of the four words is read back from its bits; that of the kind is what `kind_word` ensures. Assumes nothing.
 use Rattle.network.specs.StationWords.{stationWords}
 use mathlib.Core.Path.{_≡_, refl, sym, ap, _∙_}
 use mathlib.Core.List.{[], _∷_}

@@ -1,4 +1,4 @@
--- `network::opening::blank_beyond` meets its contract. Assumes nothing.
+-- The loop's invariant: the stations passed pass the test (`allBelow`). The first that fails settles it (`all-fails`); after the last, `all-done`. Assumes nothing.
 use borrow.Author.Needs.{needs}
 use borrow.Author.Tests.{not-true, not-false}
 use native.Mathlib.Omega.{arith}

@@ -1,4 +1,4 @@
--- `network::opening::is_blank` meets its contract. Assumes nothing.
+-- Each coordinate is read back from its bits, so each test is that of the definition, in its order. Assumes nothing.
 use borrow.Author.Needs.{needs}
 use mathlib.Core.Path.{ap, ap₂, _∙_}
 use mathlib.Core.Bool.{_&&_}

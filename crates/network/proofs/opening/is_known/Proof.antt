@@ -1,4 +1,4 @@
--- `network::opening::is_known` meets its contract. Assumes nothing.
+-- By the kind: each arm is a case of the definition. Assumes nothing.
 use borrow.Author.Needs.{needs}
 use Rattle.network.specs.Stations.{isKnown}
 use Rattle.network.proofs.opening.is_known.Statement.{statement}

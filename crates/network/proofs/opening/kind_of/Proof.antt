@@ -1,4 +1,4 @@
--- `network::opening::kind_of` meets its contract. Assumes nothing.
+-- The number is read back from its bits; by its index: 1, 2, or any other (`other`). Assumes nothing.
 use borrow.Author.Needs.{needs}
 use Prim.Native.Nat.{ℕ, zero, suc}
 use mathlib.Core.Path.{_≡_, refl, sym, ap, _∙_}

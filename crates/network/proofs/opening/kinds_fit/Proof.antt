@@ -1,4 +1,4 @@
--- `network::opening::kinds_fit` meets its contract. Assumes nothing.
+-- The loop's invariant: the stations passed have kinds, each number read back from its bits (`allBelow`). The first that fails settles it (`all-fails`). Assumes nothing.
 use borrow.Author.Needs.{needs, sfits-of}
 use borrow.Author.Tests.{not-true, not-false}
 use native.Mathlib.Omega.{arith}

@@ -1,4 +1,4 @@
--- `network::opening::network_fits` meets its contract. Assumes nothing.
+-- The definition, with what the four calls ensure in it. Assumes nothing.
 use borrow.Author.Needs.{needs}
 use Rattle.network.specs.Stations.{networkFits}
 use Rattle.network.proofs.opening.network_fits.Statement.{statement}

@@ -1,4 +1,4 @@
--- `network::opening::network_of` meets its contract. Assumes nothing.
+-- The loop fills the stations from the front: `Mapped` is the invariant, and `finish` makes it the whole list. Assumes nothing.
 use borrow.Author.Needs.{needs}
 use native.Mathlib.Omega.{arith}
 use Prim.Native.Nat.{_-_, _/_, _≤_}

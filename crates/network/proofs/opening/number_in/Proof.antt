@@ -1,4 +1,4 @@
--- `network::opening::number_in` meets its contract. Assumes nothing.
+-- Inside the list the number is read; beyond its end the definition gives 0. Assumes nothing.
 use borrow.Author.Needs.{needs}
 use native.Mathlib.Omega.{arith}
 use Prim.Native.Nat.{_≤_}

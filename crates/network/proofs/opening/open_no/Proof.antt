@@ -1,4 +1,4 @@
--- `network::opening::open_no` meets its contract. Assumes nothing.
+-- By what `opens` told of the list. Assumes nothing.
 use borrow.Author.Needs.{needs}
 use mathlib.Core.Path.{sym, _∙_}
 use Rattle.network.proofs.opening.open_no.Statement.{statement}

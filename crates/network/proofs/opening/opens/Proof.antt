@@ -1,4 +1,4 @@
--- `network::opening::opens` meets its contract. Assumes nothing.
+-- Test by test in the order of the definition: the first that fails settles it; the last two are of the network that `network_of` gives. Assumes nothing.
 use borrow.Author.Needs.{needs}
 use borrow.Author.Tests.{eq-eqb, ne-eqb, not-true, not-false}
 use Prim.Native.Nat.{_/_, _%_}

@@ -1,4 +1,4 @@
--- `network::opening::station_in` meets its contract. Assumes nothing.
+-- Each of the four numbers is read back from its bits; equal parts make the same station (`same-station`). Assumes nothing.
 use borrow.Author.Needs.{needs, sfits-of}
 use mathlib.Core.Path.{_≡_, ap, _∙_}
 use lib.IntN.{ℤ}

@@ -1,4 +1,4 @@
--- `network::opening::unknowns_fit` meets its contract. Assumes nothing.
+-- The definition, with what `number_of` ensures in it. Assumes nothing.
 use borrow.Author.Needs.{needs}
 use Rattle.network.specs.Stations.{unknownsFit}
 use Rattle.network.proofs.opening.unknowns_fit.Statement.{statement}

@@ -1,3 +1,4 @@
+-- Each word is inside the list and read back from its bits; `baseline_of` puts them together. Assumes nothing.
 use borrow.Author.Needs.{needs, sfits-of}
 use mir.Syntax.{w64}
 use mir.Facts.{toZ-ofZ}

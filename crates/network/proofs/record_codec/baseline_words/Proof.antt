@@ -1,3 +1,4 @@
+-- Each word is read back from its bits. Assumes nothing.
 use Rattle.network.specs.RecordWords.{recordWords}
 use mathlib.Core.List.{[], _∷_}
 use lib.IntN.{pos}

@@ -1,3 +1,4 @@
+-- The kind is read back from its bits; by it a baseline, a height difference, or else the empty record (`other-record`). Assumes nothing.
 use borrow.Author.Needs.{needs, sfits-of}
 use mathlib.Core.Path.{_≡_, sym, ap, _∙_}
 use mir.Syntax.{w64}

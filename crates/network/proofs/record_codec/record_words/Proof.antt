@@ -1,3 +1,4 @@
+-- By the record: an empty one is the case of the definition, the two others are what the callees ensure. Assumes nothing.
 use mathlib.Core.Path.{sym, ap}
 use Rattle.network.specs.RecordWords.{recordWords}
 use borrow.Author.Needs.{needs}

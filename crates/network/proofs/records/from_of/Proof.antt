@@ -1,4 +1,4 @@
--- `network::records::from_of` meets its contract. Assumes nothing.
+-- By the record: the number of the end is read back from its bits, and `index_in` gives its index. Assumes nothing.
 use borrow.Author.Needs.{needs}
 use mathlib.Core.Path.{sym, ap, _∙_}
 use lib.IntN.{ℤ}

@@ -1,4 +1,4 @@
--- `network::records::joins_of` meets its contract. Assumes nothing.
+-- By the record: each arm is a case of the definition. Assumes nothing.
 use borrow.Author.Needs.{needs}
 use Rattle.network.specs.Records.{joins}
 use Rattle.network.proofs.records.joins_of.Statement.{statement}

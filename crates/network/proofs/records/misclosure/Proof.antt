@@ -1,4 +1,4 @@
--- `network::records::misclosure` meets its contract. Assumes nothing.
+-- By whether the record acts: if not, 0; else all three numbers are small, so both differences fit (`difference`). Assumes nothing.
 use borrow.Author.Needs.{needs}
 use borrow.Author.Tests.{not-true, not-false}
 use mathlib.Core.Path.{refl}

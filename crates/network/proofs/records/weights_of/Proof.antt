@@ -1,4 +1,4 @@
--- `network::records::weights_of` meets its contract. Assumes nothing.
+-- By the record: each weight is read back from its bits. Assumes nothing.
 use borrow.Author.Needs.{needs}
 use mathlib.Core.Path.{refl, ap₂}
 use mathlib.Core.List.{_∷_}

@@ -1,4 +1,4 @@
--- `network::rules::baseline_in_range` meets its contract. Assumes nothing.
+-- Each observed value is read back from its bits, so each test is that of the definition; the weights are judged as the matrix that they make. Assumes nothing.
 use borrow.Author.Needs.{needs}
 use mathlib.Core.Path.{_≡_, ap, ap₂, _∙_}
 use mathlib.Core.Bool.{_&&_}

@@ -1,4 +1,4 @@
--- `network::rules::baseline_no` meets its contract. Assumes nothing.
+-- Test by test, the lowest number first; the tests passed give what the later ones ask: small weights (`small-weights`), small values (`baseline-observed`). Assumes nothing.
 use borrow.Author.Needs.{needs}
 use borrow.Author.Tests.{not-true, not-false}
 use mathlib.Core.Path.{_≡_, sym, ap, ap₂, _∙_, subst}

@@ -1,4 +1,4 @@
--- `network::rules::ends_fit` meets its contract. Assumes nothing.
+-- Both numbers are read back from their bits; the rest is the definition, with what the three calls ensure in it. Assumes nothing.
 use borrow.Author.Needs.{needs}
 use mir.Syntax.{w64}
 use mir.ValLaws.{toZ-ofZ}

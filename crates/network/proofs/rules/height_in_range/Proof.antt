@@ -1,4 +1,4 @@
--- `network::rules::height_in_range` meets its contract. Assumes nothing.
+-- Observed value and weight are read back from their bits, so both tests are those of the definition. Assumes nothing.
 use borrow.Author.Needs.{needs}
 use mathlib.Core.Path.{_≡_, ap, ap₂, _∙_}
 use mathlib.Core.Bool.{_&&_}

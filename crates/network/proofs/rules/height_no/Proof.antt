@@ -1,4 +1,4 @@
--- `network::rules::height_no` meets its contract. Assumes nothing.
+-- Test by test, the lowest number first; ends in the list and values in range give what `misclosure_fits` asks (`height-observed`). Assumes nothing.
 use borrow.Author.Needs.{needs}
 use borrow.Author.Tests.{not-true, not-false}
 use mathlib.Core.Path.{_≡_, sym, ap₂, _∙_}

@@ -1,4 +1,4 @@
--- `network::rules::in_list` meets its contract. Assumes nothing.
+-- The number is read back from its bits; its index is below the count exactly where it is in the list (`index-test`). Assumes nothing.
 use borrow.Author.Needs.{needs}
 use Prim.Native.Nat.{ℕ}
 use mathlib.Core.Path.{ap, _∙_}

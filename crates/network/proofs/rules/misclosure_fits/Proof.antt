@@ -1,4 +1,4 @@
--- `network::rules::misclosure_fits` meets its contract. Assumes nothing.
+-- The misclosures are small (`misclosures-small`), so each is read back from its bits and its test is that of the definition (`closes`). Assumes nothing.
 use borrow.Author.Needs.{needs}
 use Prim.Native.Nat.{ℕ}
 use mathlib.Core.Path.{_≡_, ap, ap₂, _∙_}

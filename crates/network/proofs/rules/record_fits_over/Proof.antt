@@ -1,4 +1,4 @@
--- `network::rules::record_fits_over` meets its contract. Assumes nothing.
+-- By what `is_empty` told of the record; where it is not empty, the test of what `record_no_over` ensures. Assumes nothing.
 use borrow.Author.Needs.{needs}
 use mathlib.Core.Path.{sym, _∙_}
 use Rattle.network.specs.Rules.{recordFitsOver}

@@ -1,4 +1,4 @@
--- `network::rules::record_no` meets its contract. Assumes nothing.
+-- The table is that of the network, and its coordinates are in range (`provisional-within`), as `record_no_over` asks. Assumes nothing.
 use borrow.Author.Needs.{needs}
 use mathlib.Core.Path.{sym, ap, _∙_, subst}
 use mathlib.Core.List.{List}

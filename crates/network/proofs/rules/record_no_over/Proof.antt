@@ -1,4 +1,4 @@
--- `network::rules::record_no_over` meets its contract. Assumes nothing.
+-- By the record: an empty one is the case of the definition, the two others are what the callees ensure. Assumes nothing.
 use borrow.Author.Needs.{needs}
 use mathlib.Core.Path.{sym, ap, _∙_}
 use Rattle.network.specs.Rules.{recordNoOver}

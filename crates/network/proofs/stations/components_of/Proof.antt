@@ -1,4 +1,4 @@
--- `network::stations::components_of` meets its contract. Assumes nothing.
+-- The loop's invariant: n unknowns are passed, and the entries below n are their components (`Listed`); a turn is `listing-puts` or `listing-skips`. Assumes nothing.
 use borrow.Author.Needs.{needs}
 use native.Mathlib.Omega.{arith}
 use Prim.Native.Nat.{ℕ, _+_, _-_, _<_, _≤_}

@@ -1,4 +1,4 @@
--- `network::stations::coordinate_in` meets its contract. Assumes nothing.
+-- By the component, as the definition: 0, 1, or any other. Assumes nothing.
 use borrow.Author.Needs.{needs}
 use borrow.Author.Tests.{eq-eqb, ne-eqb}
 use Rattle.network.specs.Stations.{coordinateIn}

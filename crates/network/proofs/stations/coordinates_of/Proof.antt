@@ -1,4 +1,4 @@
--- `network::stations::coordinates_of` meets its contract. Assumes nothing.
+-- The loop fills the table from the front: `Mapped` is the invariant; each coordinate is read back from its bits. Assumes nothing.
 use borrow.Author.Needs.{needs, sfits-of}
 use native.Mathlib.Omega.{arith}
 use Prim.Native.Nat.{_-_, _≤_}

@@ -1,4 +1,4 @@
--- `network::stations::number_of` meets its contract. Assumes nothing.
+-- The loop's invariant: n is the number of unknowns passed; a turn adds 0 or 1 (`number-+1`), so the sum fits. Assumes nothing.
 use borrow.Author.Needs.{needs}
 use native.Mathlib.Omega.{arith}
 use Prim.Native.Nat.{_+_, _-_, _≤_}

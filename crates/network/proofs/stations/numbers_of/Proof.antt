@@ -1,4 +1,4 @@
--- `network::stations::numbers_of` meets its contract. Assumes nothing.
+-- The loop fills the table from the front: `Mapped` is the invariant, with n the number of unknowns passed; n is small and a bit is 0 or 1, so the product fits. Assumes nothing.
 use borrow.Author.Needs.{needs}
 use native.Mathlib.Omega.{arith}
 use native.Mathlib.Nat.{le-refl, mul-le-mul}

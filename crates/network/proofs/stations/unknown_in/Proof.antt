@@ -1,4 +1,4 @@
--- `network::stations::unknown_in` meets its contract. Assumes nothing.
+-- By the kind; where the height alone is unknown, by the component. Assumes nothing.
 use borrow.Author.Needs.{needs}
 use borrow.Author.Tests.{eq-eqb, ne-eqb}
 use Rattle.network.specs.Stations.{unknownIn}

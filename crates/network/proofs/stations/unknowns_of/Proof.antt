@@ -1,4 +1,4 @@
--- `network::stations::unknowns_of` meets its contract. Assumes nothing.
+-- The loop fills the table from the front: `Mapped` is the invariant; an entry is 0 or 1, so the cast keeps it (`bit-cast`). Assumes nothing.
 use borrow.Author.Needs.{needs}
 use native.Mathlib.Omega.{arith}
 use Prim.Native.Nat.{ℕ, _-_, _≤_}

@@ -1,4 +1,4 @@
--- `stations::numbers::open_words` meets its contract. Assumes nothing.
+-- At most 32 stations are read (`read-most`), so the part lent is inside the array, and `Book::open` ensures the rest. Assumes nothing.
 use borrow.Author.Needs.{needs}
 use native.Mathlib.Omega.{arith}
 use native.Mathlib.Nat.{sub-zero}

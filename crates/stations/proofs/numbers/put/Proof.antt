@@ -1,4 +1,4 @@
--- `stations::numbers::put` meets its contract. Assumes nothing.
+-- Each of the four numbers is read back from its bits; written one after the other they follow what stood before them. Assumes nothing.
 use Prim.Native.Nat.{_+_, _*_}
 use mathlib.Core.Path.{_∙_}
 use native.Mathlib.Omega.{arith}

@@ -1,4 +1,4 @@
--- `stations::numbers::read_count` meets its contract. Assumes nothing.
+-- By the test: `read-fits`, or `read-over`. Assumes nothing.
 use mathlib.Core.Path.{sym}
 use Rattle.stations.specs.FlatLaws.{read-fits, read-over}
 use Rattle.stations.proofs.numbers.read_count.Statement.{statement}

@@ -1,4 +1,4 @@
--- `stations_run::samples::thirty_three` meets its contract: every index is in range, and the loop ends. Assumes nothing.
+-- The loop's invariant: i is at most 33, and the list keeps its length, so every index is in range. Assumes nothing.
 use Prim.Native.Nat.{_≤_, _-_}
 use mathlib.Core.Path.{_≡_}
 use lib.ListN.{length}

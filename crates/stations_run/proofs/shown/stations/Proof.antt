@@ -1,4 +1,4 @@
--- `stations_run::shown::stations` meets its contract: every index is in range, and the loop ends. Assumes nothing.
+-- The loop's invariant: s is at most 32, so the read is in range. Assumes nothing.
 use Prim.Native.Nat.{_≤_, _-_}
 use borrow.Author.Needs.{needs}
 use Rattle.stations_run.proofs.shown.stations.Statement.{statement}

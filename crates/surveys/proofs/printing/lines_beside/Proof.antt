@@ -1,3 +1,4 @@
+-- The loop's invariant: i is at most one past the text. A line ends at i or later, within the text (`line_end`), so the part is inside it and i rises. Assumes nothing.
 use Prim.Native.Nat.{_≤_, _-_, _+_}
 use lib.ListN.{length}
 use borrow.Author.Needs.{needs}

@@ -1,3 +1,4 @@
+-- The call is made only where `is_sound` told that the book is sound. Assumes nothing.
 use mathlib.Core.Path.{sym, _∙_}
 use borrow.Author.Needs.{needs}
 use Rattle.surveys.proofs.records.added.Statement.{statement}

@@ -1,3 +1,4 @@
+-- A pair is proposed only where `is_sound` told that the book is sound. Assumes nothing.
 use mathlib.Core.Path.{sym, _∙_}
 use borrow.Author.Needs.{needs}
 use Rattle.surveys.proofs.solving.solve.Statement.{statement}

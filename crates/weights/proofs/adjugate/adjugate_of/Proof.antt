@@ -1,4 +1,4 @@
--- `weights::adjugate::adjugate_of` meets its contract. Assumes nothing.
+-- The weights are small, so each minor is that of the weights (`minor-is`), read back from its bits; the determinant is what its call ensures. Assumes nothing.
 use borrow.Author.Needs.{needs, sfits-of}
 use mathlib.Core.Path.{_∙_}
 use mir.Syntax.{w64}

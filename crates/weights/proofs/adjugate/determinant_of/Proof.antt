@@ -1,4 +1,4 @@
--- `weights::adjugate::determinant_of` meets its contract. Assumes nothing.
+-- The three minors are those of the weights (`minor-is`) and small (`minor-size`), so products and sums fit; `determinant-is` joins them. Assumes nothing.
 use Prim.Native.Nat.{_≤_}
 use mathlib.Core.Path.{_≡_}
 use lib.IntN.{natAbs, _-ℤ_, _*ℤ_}

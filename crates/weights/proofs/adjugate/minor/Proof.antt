@@ -1,4 +1,4 @@
--- `weights::adjugate::minor` meets its contract. Assumes nothing.
+-- The four numbers are small, so no product or difference leaves 64 bits; `ringm` proves the identity of stored numbers. Assumes nothing.
 use mathlib.Core.List.{[], _∷_}
 use Rattle.integers.specs.Code.{fit, code-bounds, ringm, code-shapes}
 use Rattle.weights.proofs.adjugate.minor.Statement.{statement}

@@ -1,4 +1,4 @@
--- `weights::rules::adjugate_fits` meets its contract. Assumes nothing.
+-- Minors and determinant are small, so each is read back from its bits and 16 times the determinant fits (`most-is`); each test is that of the definition. Assumes nothing.
 use borrow.Author.Needs.{needs}
 use Prim.Native.Nat.{_≤_}
 use mathlib.Core.Path.{_≡_, sym, ap, ap₂, _∙_, subst}

@@ -1,4 +1,4 @@
--- `weights::rules::matrix_fits` meets its contract. Assumes nothing.
+-- The definition, with what the two calls ensure in it. Assumes nothing.
 use borrow.Author.Needs.{needs}
 use Rattle.weights.specs.Rules.{matrixFits}
 use Rattle.weights.proofs.rules.matrix_fits.Statement.{statement}

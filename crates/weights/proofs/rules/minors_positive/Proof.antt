@@ -1,4 +1,4 @@
--- `weights::rules::minors_positive` meets its contract. Assumes nothing.
+-- Weight, minor and determinant are read back from their bits, so each test is that of the definition, in its order. Assumes nothing.
 use borrow.Author.Needs.{needs, sfits-of}
 use mathlib.Core.Path.{ap, ap₂, _∙_}
 use mathlib.Core.Bool.{_&&_}

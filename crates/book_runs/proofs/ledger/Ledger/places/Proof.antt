@@ -1,4 +1,4 @@
--- `ledger::Ledger::places` meets its contract. Assumes nothing.
+-- The loop's invariant: k is at most n, n at most 400, and the places stay 256, so every index is in range. Assumes nothing.
 use Prim.Native.Nat.{_-_, _≤_}
 use mathlib.Core.Path.{_≡_}
 use lib.ListN.{length}
