@@ -1,4 +1,4 @@
-"""The output of the program `surveys` (crates/surveys/stdout, which `rt check` holds to what it writes) against the exact solver and the documents' tables.
+"""The output of the program `test_surveys` (crates/test_surveys/stdout, which `rt check` holds to what it writes) against the exact solver and the documents' tables.
 
 Each line has three parts: what is compared with, the program's numbers, the differences. Checked: the first parts are those of the exact solver, or of document 002; the third parts are
 the second less the first; corrections are within one unit of the exact ones, coordinates and residuals as far as that goes; what document 002 prints is met within 0.05 mm in coordinates
@@ -51,7 +51,7 @@ def wrong(line, word, numbers, allowed):
 
 
 def main():
-    with open(os.path.join(ROOT, 'crates', 'surveys', 'stdout')) as source:
+    with open(os.path.join(ROOT, 'crates', 'test_surveys', 'stdout')) as source:
         lines = [(k, line) for k, line in enumerate(source, 1)]
     accepted = sum(line.startswith('accepted') for _, line in lines)
     lines = [(k, line) for k, line in lines if line.count('|') == 2 and not line.startswith(('accepted', 'printed in'))]

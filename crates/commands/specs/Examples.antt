@@ -1,4 +1,4 @@
--- What single lines ask. What document 01's own lines print is proved in crate whole_texts. Assumes nothing.
+-- What single lines ask. What document 01's own lines print is proved in crate test_whole_texts. Assumes nothing.
 use mathlib.Core.Path.{_≡_, refl}
 use mathlib.Core.Bool.{true, false}
 use mathlib.Core.List.{List, [], _∷_}

@@ -9,10 +9,10 @@ use mathlib.Core.Path.{_≡_, refl}
 use mathlib.Core.Logic.{_⊎_, inl, inr}
 use mathlib.Core.List.{[], _∷_}
 use Prim.Native.Nat.{ℕ, _/_, _<_, _≤_}
-use native.Mathlib.Nat.{div-add-mod', mod-lt, div-le-self}
+use native.Mathlib.Nat.{div-add-mod', mod-lt}
 use native.Mathlib.Omega.{arith}
-use lib.IntN.{ℤ, pos, negsuc, natAbs, _+ℤ_, _*ℤ_}
-use lib.Signed.{quotZ, shrZ, _≤ℤ_, _<ℤ_}
+use lib.IntN.{ℤ, pos, negsuc, _+ℤ_, _*ℤ_}
+use lib.Signed.{quotZ, _≤ℤ_, _<ℤ_}
 use Rattle.integers.specs.Differences.{is, is-le, is-lt, _⊕_, _⊗_}
 use Rattle.integers.specs.Solvers.{shapes, zle, zlt}
 use Rattle.integers.specs.Order.{zarith, ≤ℤ-or, ≤ℤ-trans, ≤ℤ-antisym, *ℤ-mono-pos}

@@ -5,7 +5,7 @@ use mathlib.Core.List.{List, [], _∷_, _++_}
 use native.Mathlib.Nat.{add-zero}
 use native.Mathlib.Numerals.{add-one}
 use native.Mathlib.Omega.{arith}
-use lib.ListN.{length, take, drop, set, getD, length-set}
+use lib.ListN.{length, drop, set, getD, length-set}
 use lib.Seq.{sets, sets-eq, paste, paste-suc, take-length, getD-set-same, getD-set-other}
 use lib.IntN.{ℤ, pos}
 

@@ -11,7 +11,6 @@ use Rattle.integers.specs.Tables.{getD-tabulate}
 use Rattle.words.specs.Signed.{indexIn}
 use Rattle.network.specs.Units.{mostStations}
 use Rattle.network.specs.Stations.{blankStation, stationAt, kindAt, stationIn, networkOf, opens}
-use Rattle.network.specs.declared.Kind.{Kind}
 use Rattle.network.specs.declared.Station.{Station}
 use Rattle.book.specs.Book.{opening}
 use Rattle.network.specs.StationWords.{stationWords, flat, kind-back, flat-length}

@@ -1,7 +1,6 @@
 -- An edit or an undo is the call on lent bytes (`Applies`); any other command leaves the bytes, and its edit is none (`edits-other`). Assumes nothing.
 use borrow.Author.Needs.{needs}
-use mathlib.Core.Path.{refl, ap}
-use Rattle.book.specs.declared.Book.{Book}
+use mathlib.Core.Path.{ap}
 use Rattle.book.specs.declared.Edited.{Edited}
 use Rattle.layout.specs.Bytes.{bookOf}
 use Rattle.input_lines.specs.Runs.{edits}

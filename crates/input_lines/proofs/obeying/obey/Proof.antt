@@ -4,8 +4,7 @@ use borrow.Author.Needs.{needs}
 use mathlib.Core.Path.{sym, ap, _∙_}
 use native.Mathlib.Omega.{arith}
 use Prim.Native.Nat.{suc}
-use Rattle.layout.specs.Bytes.{bookOf}
-use Rattle.input_lines.specs.States.{Ready, LineEnters}
+use Rattle.input_lines.specs.States.{Ready}
 use Rattle.input_lines.specs.StateLaws.{ready-next, line-obeyed}
 use Rattle.input_lines.proofs.obeying.obey.Statement.{statement}
 use Rattle.input_lines.proofs.obeying.obey.Tie as tie

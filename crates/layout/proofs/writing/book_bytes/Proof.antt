@@ -1,13 +1,10 @@
 -- `book_bytes` writes the book on bytes that are all 0: the two laws of the layout say that they pass what 25 tests, and read back as the book. Assumes nothing.
-use Prim.Native.Nat.{ℕ, _≤_}
-use mathlib.Core.Path.{_≡_, sym, ap, _∙_, subst}
-use mathlib.Core.Bool.{true}
+use Prim.Native.Nat.{ℕ}
+use mathlib.Core.Path.{_≡_, ap, _∙_}
 use mathlib.Core.List.{List}
-use native.Mathlib.Omega.{arith}
 use lib.ListN.{length}
 use Rattle.lists.specs.Filling.{length-mapped}
 use Rattle.book.specs.Sound.{Sized, SoundParts, sound-parts}
-use Rattle.layout.specs.Layout.{bookBytes}
 use Rattle.layout.specs.Bytes.{bookOf, bytesFit}
 use Rattle.layout.specs.CodecLaws.{writes-fit, writes-reads}
 use borrow.Author.Needs.{needs}

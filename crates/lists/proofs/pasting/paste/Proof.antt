@@ -10,8 +10,6 @@ use mir.Facts.{toZ-ofZ}
 use Rattle.lists.specs.Pasted.{paste-all, paste-next}
 use Rattle.lists.proofs.pasting.paste.Statement.{statement}
 use Rattle.lists.proofs.pasting.paste.Tie as tie
-use Rattle.lists.proofs.pasting.paste.Reads as reads
-use Rattle.lists.proofs.pasting.paste.Lts as lts
 
 abbrev Inv-loop : tie.InvT-loop
 Inv-loop list₀ at w i₀ list i = (i ≤ length w) × (list ≡ paste list₀ at w i) × (length list ≡ length list₀)

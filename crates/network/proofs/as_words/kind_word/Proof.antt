@@ -4,8 +4,6 @@ use Rattle.network.specs.StationWords.{kindWord}
 use borrow.Author.Needs.{needs}
 use Rattle.network.proofs.as_words.kind_word.Statement.{statement}
 use Rattle.network.proofs.as_words.kind_word.Tie as tie
-use Rattle.network.proofs.as_words.kind_word.Reads as reads
-use Rattle.network.proofs.as_words.kind_word.Lts as lts
 
 enum-told : tie.Need-enum-told
 enum-told c = search needs

@@ -1,16 +1,12 @@
 -- Each of the four words is read back from its bits; that of the kind is what `kind_word` ensures. Assumes nothing.
 use Rattle.network.specs.StationWords.{stationWords}
-use mathlib.Core.Path.{_≡_, refl, sym, ap, _∙_}
+use mathlib.Core.Path.{_∙_}
 use mathlib.Core.List.{[], _∷_}
-use lib.IntN.{pos}
 use mir.Syntax.{w64}
 use mir.Facts.{toZ-ofZ}
 use borrow.Author.Needs.{needs, sfits-of}
 use Rattle.network.proofs.as_words.station_words.Statement.{statement}
 use Rattle.network.proofs.as_words.station_words.Tie as tie
-use Rattle.network.proofs.as_words.station_words.Reads as reads
-use Rattle.network.proofs.as_words.station_words.Lts as lts
-use Rattle.network.proofs.as_words.kind_word.Reads as kind-word-reads
 
 kind-word-requires : tie.Need-kind-word-requires
 kind-word-requires c κs = search needs

@@ -7,9 +7,6 @@ use mir.ValLaws.{toZ-ofZ}
 use Rattle.residuals.specs.Components.{positionIn}
 use Rattle.residuals.proofs.components.position_of.Statement.{statement}
 use Rattle.residuals.proofs.components.position_of.Tie as tie
-use Rattle.residuals.proofs.components.position_of.Reads as reads
-use Rattle.residuals.proofs.components.position_of.Lts as lts
-use Rattle.residuals.proofs.components.adjusted.Reads as adjusted-reads
 
 mul-q : tie.Need-mul-q
 mul-q c = search needs

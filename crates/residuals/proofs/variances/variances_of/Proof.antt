@@ -7,9 +7,6 @@ use mir.ValLaws.{toZ-ofZ}
 use Rattle.residuals.specs.Components.{variancesIn}
 use Rattle.residuals.proofs.variances.variances_of.Statement.{statement}
 use Rattle.residuals.proofs.variances.variances_of.Tie as tie
-use Rattle.residuals.proofs.variances.variances_of.Reads as reads
-use Rattle.residuals.proofs.variances.variances_of.Lts as lts
-use Rattle.residuals.proofs.variances.covariance.Reads as covariance-reads
 
 mul-q : tie.Need-mul-q
 mul-q c = search needs

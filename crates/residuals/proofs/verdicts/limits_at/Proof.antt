@@ -4,8 +4,6 @@ use mathlib.Core.Path.{refl}
 use Rattle.residuals.specs.Verdicts.{chiSquare}
 use Rattle.residuals.proofs.verdicts.limits_at.Statement.{statement}
 use Rattle.residuals.proofs.verdicts.limits_at.Tie as tie
-use Rattle.residuals.proofs.verdicts.limits_at.Reads as reads
-use Rattle.residuals.proofs.verdicts.limits_at.Lts as lts
 
 mul-result : tie.Need-mul-result
 mul-result c = search needs

@@ -3,8 +3,6 @@ use borrow.Author.Needs.{needs}
 use Rattle.residuals.specs.Verdicts.{verdictWord}
 use Rattle.residuals.proofs.verdicts.verdict_word.Statement.{statement}
 use Rattle.residuals.proofs.verdicts.verdict_word.Tie as tie
-use Rattle.residuals.proofs.verdicts.verdict_word.Reads as reads
-use Rattle.residuals.proofs.verdicts.verdict_word.Lts as lts
 
 enum-told : tie.Need-enum-told
 enum-told c = search needs
