@@ -166,9 +166,9 @@ def full_disk():
 
 
 def small_stack():
-    """A stack of 1 MiB is enough, at full size, with an X and M and with the engine's."""
+    """A stack of 512 KiB is enough, at full size, with an X and M and with the engine's."""
     def limit():
-        resource.setrlimit(resource.RLIMIT_STACK, (2 ** 20, 2 ** 20))
+        resource.setrlimit(resource.RLIMIT_STACK, (2 ** 19, 2 ** 19))
     text = inputs.full_size(random.Random(7))
     text = [line for line in text if line[:1] not in (b'X', b'M')]
     x, m = inputs.rounded_pair(text)

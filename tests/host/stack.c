@@ -1,5 +1,5 @@
 /* The stack that a call takes at most, on a full book: 32 stations, 48 unknowns, 256 records, a journal of 64. Each call runs on a painted stack of its own, and what is no
- * longer painted was used. Prints the largest, in bytes; ends in 1 where it is more than the header says, more than the budget of 512 KiB, or where a call is refused. */
+ * longer painted was used. Prints the largest, in bytes; ends in 1 where it is more than the header says, more than the budget of 150,000 bytes, or where a call is refused. */
 #define _GNU_SOURCE
 #include "dombrelat.h"
 
@@ -10,7 +10,7 @@
 
 #define SIZE (4u << 20)
 #define PAINT 0xA5
-#define BUDGET (512u << 10)
+#define BUDGET 150000u
 #define CALLS 16
 
 static uint8_t book[DOMBRELAT_BOOK_BYTES];
