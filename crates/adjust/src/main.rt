@@ -4,7 +4,7 @@ use adjustment::Taken;
 use night_print::Progress;
 use night_print::Stepped;
 ghost use mathlib.Core.Path.{_≡_};
-ghost use Prim.Native.Nat.{_+_, _≤_, _<_};
+ghost use Prim.Native.Nat.{_+_, _≤_};
 ghost use lib.ListN.{length};
 ghost use Rattle.layout.specs.Bytes.{bookOf};
 ghost use Rattle.layout.specs.Layout.{bookBytes};

@@ -4,7 +4,7 @@ use input_lines::Given;
 use input_lines::Phase;
 use input_lines::Reached;
 use input_lines::State;
-ghost use Prim.Native.Nat.{_+_, _*_, _≤_, _<_};
+ghost use Prim.Native.Nat.{_+_, _*_, _≤_};
 ghost use mathlib.Core.Path.{_≡_};
 ghost use lib.ListN.{length};
 ghost use Rattle.layout.specs.Bytes.{bookOf};

@@ -5,7 +5,7 @@ use super::State;
 use super::opening;
 use commands::Command;
 ghost use mathlib.Core.Path.{_≡_};
-ghost use Prim.Native.Nat.{_+_, _≤_, _<_};
+ghost use Prim.Native.Nat.{_≤_, _<_};
 ghost use lib.ListN.{length};
 ghost use Rattle.commands.specs.Brings.{corrections, matrix};
 ghost use Rattle.input_lines.specs.Runs.{mostLines, listRoom, readAfter};

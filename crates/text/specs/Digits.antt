@@ -21,9 +21,12 @@ use Rattle.text.specs.declared.Number.the-variants.{Value, Unreadable}
 use Rattle.text.specs.declared.Digits.{Digits}
 use Rattle.text.specs.declared.Digits.the-variants as digits
 
--- cut at 2 ^ 63 + 1, which is beyond signed 64 bits with either sign
+-- 2 ^ 63 + 1, which is beyond signed 64 bits with either sign
+abbrev pub cutTo : ℕ
+cutTo = 9223372036854775809
+
 abbrev pub cut : ℕ → ℕ
-cut n = min n 9223372036854775809
+cut n = min n cutTo
 
 -- digits after those that gave n
 unfoldable pub digitsAfter : ℕ → List ℕ → Digits
@@ -79,7 +82,7 @@ unfolding digitsAfter digitsOf isDecimal
 digits-start s i h = rw (drop-cons s i 0 h)
 
 -- ════ the sign
-within-is : (sign : ℕ → ℤ) (most : ℕ) (ds : List ℕ) → most < 9223372036854775809 → signedWithin sign most (digitsOf ds) ≡ signedOf sign most ds
+within-is : (sign : ℕ → ℤ) (most : ℕ) (ds : List ℕ) → most ≤ mostNegative → signedWithin sign most (digitsOf ds) ≡ signedOf sign most ds
 unfolding digitsOf signedOf
 within-is sign most ds h = by (isDecimal ds) (decLe (valueOf ds) most)
   where

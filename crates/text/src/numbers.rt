@@ -6,7 +6,7 @@ ghost use Prim.Native.Nat.{_+_, _-_, _*_, _≤_, min};
 ghost use lib.ListN.{drop};
 ghost use lib.IntN.{pos};
 ghost use Rattle.text.specs.Numbers.{zeroDigit, nineDigit, mostPositive, mostNegative, isDigit, minus, numberIn};
-ghost use Rattle.text.specs.Digits.{digitsOf, signedWithin};
+ghost use Rattle.text.specs.Digits.{cutTo, digitsOf, signedWithin};
 
 // 2^63 − 1 and the size of −2^63, the ends of signed 64 bits; what is beyond both, to which a value is cut.
 const MOST_POSITIVE: u64 = 9_223_372_036_854_775_807;
@@ -33,7 +33,7 @@ fn wide(x: u8) -> u64
 // One digit more, cut.
 fn grow(n: u64, c: u8) -> u64
     requires { ⌜ (zeroDigit ≤ c) × (c ≤ nineDigit) ⌝ }
-    ensures { λ r. ⌜ r ≡ min (n * 10 + (c - zeroDigit)) (mostNegative + 1) ⌝ }
+    ensures { λ r. ⌜ r ≡ min (n * 10 + (c - zeroDigit)) cutTo ⌝ }
 {
     if n > TENTH {
         return BEYOND;

@@ -1,5 +1,5 @@
 -- The invariant: the digits from here, after the value so far, say what all of them say; the value is at most the cut. A byte that is no digit ends it (`digits-wrong`). Assumes nothing.
-use Rattle.text.specs.Digits.{digitsAfter, digitsOf, digit-bounds, digits-more, digits-wrong, digits-end, digits-none, digits-start}
+use Rattle.text.specs.Digits.{cutTo, digitsAfter, digitsOf, digit-bounds, digits-more, digits-wrong, digits-end, digits-none, digits-start}
 use Rattle.text.specs.Numbers.{isDigit}
 use borrow.Author.Tests.{not-true, not-false}
 use lib.ListN.{length, drop, getD}
@@ -12,7 +12,7 @@ use Rattle.text.proofs.numbers.digits_from.Statement.{statement}
 use Rattle.text.proofs.numbers.digits_from.Tie as tie
 
 abbrev Inv-loop : tie.InvT-loop
-Inv-loop s from n₀ i₀ n i = (digitsAfter n (drop i s) ≡ digitsOf (drop from s)) × (n ≤ 9223372036854775809)
+Inv-loop s from n₀ i₀ n i = (digitsAfter n (drop i s) ≡ digitsOf (drop from s)) × (n ≤ cutTo)
 
 abbrev μ-loop : tie.MeasureT-loop
 μ-loop s from n₀ i₀ n i = length s - i
