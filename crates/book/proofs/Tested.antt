@@ -1,59 +1,49 @@
--- A book's value tested part by part, in the order of `sound`. Assumes nothing.
+-- The rules tested part by part, in the order of `rulesFit`. Assumes nothing.
 use mathlib.Core.Path.{_≡_}
 use mathlib.Core.Bool.{Bool, true, false, _&&_}
-use Rattle.lists.specs.All.{allBelow, all-at}
+use mathlib.Core.List.{List}
+use Rattle.lists.specs.All.{allBelow}
 use Rattle.network.specs.Stations.{networkFits}
 use Rattle.network.specs.Records.{recordAt}
 use Rattle.network.specs.Rules.{recordFits}
-use Rattle.normals.specs.Formulas.{normalsOf}
-use Rattle.normals.specs.Same.{sameNormals}
-use Rattle.normals.specs.ByRules as normals
-use Rattle.book.specs.declared.Book.{Book}
+use Rattle.network.specs.declared.Network.{Network}
+use Rattle.network.specs.declared.Place.{Place}
+use Rattle.book.specs.declared.Journal.{Journal}
 use Rattle.book.specs.Journal.{journalFits, reversals}
-use Rattle.book.specs.Book.{recordsFit, undoable, sound}
+use Rattle.book.specs.Book.{undoable}
+use Rattle.book.specs.RulesFit.{rulesFit}
 
-module _ (n r j u s : Bool) where
-  second : n ≡ true → r ≡ false → false ≡ (n && r && j && u && s)
+module _ (n r j u : Bool) where
+  second : n ≡ true → r ≡ false → false ≡ (n && r && j && u)
   second a b = rw (a, b)
 
-  third : n ≡ true → r ≡ true → j ≡ false → false ≡ (n && r && j && u && s)
+  third : n ≡ true → r ≡ true → j ≡ false → false ≡ (n && r && j && u)
   third a b c = rw (a, b, c)
 
-  fourth : n ≡ true → r ≡ true → j ≡ true → u ≡ false → false ≡ (n && r && j && u && s)
-  fourth a b c d = rw (a, b, c, d)
+  last : n ≡ true → r ≡ true → j ≡ true → u ≡ (n && r && j && u)
+  last a b c = rw (a, b, c)
 
-  last : n ≡ true → r ≡ true → j ≡ true → u ≡ true → s ≡ (n && r && j && u && s)
-  last a b c d = rw (a, b, c, d)
-
-module _ (b : Book) where
+module _ (net : Network) (places : List Place) (journal : Journal) where
   abbrev pub records : Bool
-  records = allBelow 256 (λ p. recordFits (b .network) (recordAt (b .places) p))
+  records = allBelow 256 (λ p. recordFits net (recordAt places p))
 
-  abbrev pub undoes : Bool
-  undoes = undoable (b .network) (recordAt (b .places)) (reversals (b .journal))
+  abbrev undoes : Bool
+  undoes = undoable net (recordAt places) (reversals journal)
 
-  pub network-fails : networkFits (b .network) ≡ false → false ≡ sound b
-  unfolding sound
+  pub network-fails : networkFits net ≡ false → false ≡ rulesFit net places journal
+  unfolding rulesFit
   network-fails e = rw e
 
-  module _ (n : networkFits (b .network) ≡ true) where
-    pub records-fail : records ≡ false → false ≡ sound b
-    unfolding sound recordsFit
-    records-fail e = second (networkFits (b .network)) records _ _ _ n e
+  module _ (n : networkFits net ≡ true) where
+    pub records-fail : records ≡ false → false ≡ rulesFit net places journal
+    unfolding rulesFit
+    records-fail e = second (networkFits net) records (journalFits journal) undoes n e
 
     module _ (r : records ≡ true) where
-      pub by-rules : normals.ByRules (b .network) (b .places)
-      by-rules = record { network = n; each = λ p h. all-at 256 (λ k. recordFits (b .network) (recordAt (b .places) k)) p r h }
+      pub journal-fails : journalFits journal ≡ false → false ≡ rulesFit net places journal
+      unfolding rulesFit
+      journal-fails e = third (networkFits net) records (journalFits journal) undoes n r e
 
-      pub journal-fails : journalFits (b .journal) ≡ false → false ≡ sound b
-      unfolding sound recordsFit
-      journal-fails e = third (networkFits (b .network)) records (journalFits (b .journal)) _ _ n r e
-
-      module _ (j : journalFits (b .journal) ≡ true) where
-        pub undo-fails : undoes ≡ false → false ≡ sound b
-        unfolding sound recordsFit
-        undo-fails e = fourth (networkFits (b .network)) records (journalFits (b .journal)) undoes _ n r j e
-
-        pub all-but-normals : undoes ≡ true → sameNormals (b .normals) (normalsOf (b .network .stations) (b .places)) ≡ sound b
-        unfolding sound recordsFit
-        all-but-normals u = last (networkFits (b .network)) records (journalFits (b .journal)) undoes _ n r j u
+      pub all-but-undoes : journalFits journal ≡ true → undoes ≡ rulesFit net places journal
+      unfolding rulesFit
+      all-but-undoes j = last (networkFits net) records (journalFits journal) undoes n r j

@@ -3,6 +3,7 @@ pub mod Ledger
 pub mod Journal
 pub mod Book
 pub mod Empties
+pub mod RulesFit
 pub mod Run
 pub mod PlaceLaws
 pub mod JournalLaws

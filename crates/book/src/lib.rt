@@ -17,7 +17,7 @@ pub use refusals::edit_no;
 pub use refusals::puts_of;
 pub use rows::replay;
 pub use soundness::is_sound;
-pub use soundness::parts_fit;
+pub use soundness::rules_fit;
 
 // What an edit does to its place.
 pub enum Change {

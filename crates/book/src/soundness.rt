@@ -23,6 +23,7 @@ ghost use Rattle.normals.specs.Formulas.{matrixLength};
 ghost use Rattle.book.specs.Journal.{journalSize, age, free, isFree, inUse, journalFits, reversals};
 ghost use Rattle.book.specs.Book.{undoable, sound};
 ghost use Rattle.book.specs.Empties.{empties, undoableBy};
+ghost use Rattle.book.specs.RulesFit.{rulesFit};
 
 fn is_free(u: Reversal) -> bool
     ensures { λ t. ⌜ t ≡ isFree u ⌝ }
@@ -173,16 +174,10 @@ fn can_undo(
     walks_back(net, coordinate, empty, journal)
 }
 
-// The parts of a book pass what 25 tests. They come apart, the large ones lent, so that a caller that has no book yet need not put one together.
-pub fn parts_fit(
-    network: Network,
-    places: &[i64],
-    journal: Journal,
-    matrix: &[i64],
-    right: &[i64],
-) -> bool
-    requires { ⌜ (placesLength ≤ length (now places)) × (length (now matrix) ≡ matrixLength) × (length (now right) ≡ mostUnknowns) ⌝ }
-    ensures { λ t. ⌜ t ≡ sound (record { network = network; places = placesIn (now (places .entry)); journal = journal; normals = record { matrix = now (matrix .entry); right = now (right .entry) } }) ⌝ }
+// The station list, the records and the journal are by the rules. They come apart, the places lent, so that a caller that has no book yet need not put one together.
+pub fn rules_fit(network: Network, places: &[i64], journal: Journal) -> bool
+    requires { ⌜ placesLength ≤ length (now places) ⌝ }
+    ensures { λ t. ⌜ t ≡ rulesFit network (placesIn (now (places .entry))) journal ⌝ }
 {
     if !network::network_fits(network) {
         return false;
@@ -195,10 +190,7 @@ pub fn parts_fit(
     if !journal_fits(journal) {
         return false;
     }
-    if !can_undo(network, &coordinate, places, journal) {
-        return false;
-    }
-    normals::are_of(network, places, matrix, right)
+    can_undo(network, &coordinate, places, journal)
 }
 
 // A book passes what 25 tests.
@@ -209,8 +201,11 @@ pub fn is_sound(book: Book) -> bool
     let records = book.places;
     let places = network::place_words(records);
     let journal = book.journal;
+    if !rules_fit(network, &places, journal) {
+        return false;
+    }
     let normals = book.normals;
     let matrix = normals.matrix;
     let right = normals.right;
-    parts_fit(network, &places, journal, &matrix, &right)
+    normals::are_of(network, &places, &matrix, &right)
 }

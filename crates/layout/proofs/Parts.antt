@@ -35,11 +35,15 @@ unfolding allBelow
 all-same zero p q e = refl
 all-same (suc n) p q e = cc (all-same n p q (λ j l. e j (omega arith)), e n (omega arith))
 
+-- word j of the n words from word k on
+pub run-word-is : (s : List ℕ) (k n : ℕ) → k + n ≤ bookLength → (j : ℕ) → j < n → getD (wordsAt s (8 * k) n) j (pos 0) ≡ getD (wordsOf s) (k + j) (pos 0)
+run-word-is s k n h j l =
+    words-at s (8 * k) n j l ∙ ap (wordAt s) (let e : 8 * k + 8 * j ≡ 0 + 8 * (k + j) = omega arith in e) ∙ sym (words-at s 0 bookLength (k + j) (omega arith))
+
 -- the words of a record, from word k on
 module _ (s : List ℕ) (k : ℕ) (h : k + recordLength ≤ bookLength) where
   record-word : (j : ℕ) → j < recordLength → getD (wordsAt s (8 * k) recordLength) j (pos 0) ≡ getD (wordsOf s) (k + j) (pos 0)
-  record-word j l =
-      words-at s (8 * k) recordLength j l ∙ ap (wordAt s) (let e : 8 * k + 8 * j ≡ 0 + 8 * (k + j) = omega arith in e) ∙ sym (words-at s 0 bookLength (k + j) (omega arith))
+  record-word = run-word-is s k recordLength h
 
   pub record-is : recordIn (wordsAt s (8 * k) recordLength) 0 ≡ recordIn (wordsOf s) k
   record-is =

@@ -1,21 +1,21 @@
--- A record's share added to the words of bytes: the loop over its terms, what it makes of the bytes of a book, and one record exchanged for another. Assumes nothing.
-use Prim.Native.Nat.{ℕ, _+_, _-_, _*_, _<_, _≤_, _^_}
+-- A record's share added to the words of bytes: the loops over its terms, what it makes of the bytes of a book, and one record exchanged for another. Assumes nothing.
+use Prim.Native.Nat.{ℕ, _+_, _-_, _*_, _%_, _<_, _≤_, _^_, zero-le}
 use mathlib.Core.Path.{_≡_, refl, sym, ap, ap₂, _∙_, subst}
 use mathlib.Core.Bool.{true}
 use mathlib.Core.List.{List, [], _∷_, _++_}
 use native.Mathlib.Decide.{decLt}
 use native.Mathlib.Omega.{arith}
 use lib.Dec.{T, lit≤, ltb}
-use lib.ListN.{length, getD, set, List·getD-append}
+use lib.ListN.{length, getD, List·getD-append}
 use lib.IntN.{ℤ, pos, negsuc, natAbs, _+ℤ_, _*ℤ_, *ℤ-zero, +ℤ-idr}
 use Rattle.integers.specs.Bounds.{bounds, absle}
 use Rattle.integers.specs.Code.{ringm, code-shapes}
-use Rattle.integers.specs.Sums.{sum-+1, sum-zero}
-use Rattle.integers.specs.Tables.{plus, plus-at, plus-is, plus-length, plus-none, plus-step, Within, within-plus, within-more}
+use Rattle.integers.specs.Sums.{δ}
+use Rattle.integers.specs.Tables.{plus, plus-at, plus-is, plus-length, plus-none, plus-step, plus-plus, Within, within-plus, within-more}
 use Rattle.lists.specs.Stored.{stored, fits-by, kept}
 use Rattle.words.specs.Words.{Bytes, putWord}
 use Rattle.words.specs.Runs.{wordsAt, putWords}
-use Rattle.words.specs.RunLaws.{run-back, run-kept}
+use Rattle.words.specs.RunLaws.{length-words, run-back, run-kept}
 use Rattle.network.specs.Records.{recordAt}
 use Rattle.network.specs.Rules.{recordFits}
 use Rattle.network.specs.RuleLaws.{SoundStations, SoundRecord, sound-stations, sound-record}
@@ -23,8 +23,10 @@ use Rattle.network.specs.declared.Station.{Station}
 use Rattle.network.specs.declared.Record.{Record}
 use Rattle.normals.specs.declared.Equation.{Equation}
 use Rattle.normals.specs.declared.Normals.{Normals}
-use Rattle.normals.specs.Equations.{EquationInRange, blockN, blockU}
-use Rattle.normals.specs.ShareTerms.{term, terms, shareFrom, term-inside, terms-size, share-N, share-u, share-before}
+use Rattle.normals.specs.declared.ShareTerm.{ShareTerm}
+use Rattle.normals.specs.Equations.{EquationInRange, endsOf, coefOf, weighted, blockN, blockU}
+use Rattle.normals.specs.EquationSizes.{pair-size, weighted-size}
+use Rattle.normals.specs.ShareTerms.{pairTerm, endTerm, shareFrom, share-size, share-N, share-u, share-before}
 use Rattle.normals.specs.Shares.{equation, equation-fits}
 use Rattle.normals.specs.Exchange.{exchangedN, exchangedU, shift-N, shift-u}
 use Rattle.book.specs.declared.Book.{Book}
@@ -39,8 +41,31 @@ use Rattle.layout.specs.CodecLaws.{read-sized, fits-room, fits-sound, fi
 use Rattle.layout.specs.BookPatches.{withNormals}
 use Rattle.layout.specs.RunPatches.{patch-word, patch-whole}
 
+-- ════ a term is small
+pub record Small (t : ShareTerm) : Type 0 where
+  pub entry : t .entry < 2352
+  pub amount : natAbs (t .amount) ≤ 3000000000
+
+pub pair-small : (q : Equation) → EquationInRange q → (e f : ℕ) → Small (pairTerm q e f)
+pair-small q h e f =
+    let a = h .ends e in
+    let b = h .ends f in
+    let p = pair-size q h e f in
+    record { entry = omega arith; amount = omega arith }
+
+pub end-small : (q : Equation) → EquationInRange q → (e : ℕ) → Small (endTerm q e)
+end-small q h e =
+    let a = h .ends e in
+    let b = h .units e in
+    let p = weighted-size q h (e % 3) in
+    record { entry = omega arith; amount = absle (coefOf q e *ℤ weighted q (e % 3)) (search bounds) (omega arith) }
+
+-- the ends and weights of an equation in range are in range
+pub ends-fit : (q : Equation) → EquationInRange q → EquationInRange (endsOf (q .at) (q .coef) (q .weight))
+ends-fit q f = record { ends = f .ends; units = f .units; weights = f .weights; misclosures = λ a. zero-le }
+
 -- ════ in machine integers
-pub sum-stored : (x v : ℤ) → natAbs x ≤ 2 ^ 41 → natAbs v ≤ 2 ^ 41 → stored (stored x +ℤ stored v) ≡ x +ℤ v
+pub sum-stored : (x v : ℤ) → natAbs x ≤ 2 ^ 42 → natAbs v ≤ 2 ^ 42 → stored (stored x +ℤ stored v) ≡ x +ℤ v
 sum-stored x v hx hv = ringm (x ∷ v ∷ []) (search code-shapes depth 12) tt
 
 -- a term with its sign
@@ -48,7 +73,7 @@ module _ (z a : ℤ) (unit : natAbs z ≤ 1) (h : natAbs a ≤ 3000000000) where
   pub amount-stored : stored (stored z *ℤ stored a) ≡ stored z *ℤ a
   amount-stored = ringm (z ∷ a ∷ []) (search code-shapes depth 12) tt
 
-  pub amount-small : natAbs (stored (stored z *ℤ stored a)) ≤ 2 ^ 41
+  pub amount-small : natAbs (stored (stored z *ℤ stored a)) ≤ 2 ^ 42
   amount-small = rw amount-stored (let u = kept z unit tt in absle (stored z *ℤ a) (search bounds) (omega arith))
 
 -- words in range are read back
@@ -57,35 +82,44 @@ words-read s w B room o small =
     let long = o .long in
     subst (λ (n : ℕ). wordsAt (putWords s 0 w) 0 n ≡ w) long (run-back s 0 w (omega arith) (λ i. fits-by (getD w i (pos 0)) (o .bound i) small))
 
--- ════ the loop: the first j terms are added to the words of s
-module _ (s : List ℕ) (room : bookBytes ≤ length s) (q : Equation) (f : EquationInRange q) (z : ℤ) (unit : natAbs z ≤ 1) (o : Within bookLength (2 ^ 40) (wordsOf s)) where
-  abbrev pub added : ℕ → List ℤ
-  added j = plus bookLength (wordsOf s) z (terms matrixStart q j)
+-- ════ a loop that adds to the words of s: by now z times g is added
+pub none-added : (s : List ℕ) (z : ℤ) (g : ℕ → ℤ) → Bytes s → ((k : ℕ) → g k ≡ pos 0) → s ≡ putWords s 0 (plus bookLength (wordsOf s) z g)
+none-added s z g bytes none = sym (run-kept s 0 bookLength bytes) ∙ ap (putWords s 0) (plus-none bookLength (wordsOf s) z g (length-words s 0 bookLength) none)
 
-  pub none-added : Bytes s → s ≡ putWords s 0 (added 0)
-  none-added bytes =
-      sym (run-kept s 0 bookLength bytes) ∙ ap (putWords s 0) (plus-none bookLength (wordsOf s) z (terms matrixStart q 0) (o .long) (λ k. sum-zero _))
+module _ (s : List ℕ) (room : bookBytes ≤ length s) (z : ℤ) (unit : natAbs z ≤ 1) (o : Within bookLength (2 ^ 41) (wordsOf s)) (g : ℕ → ℤ) (size : (k : ℕ) → natAbs (g k) ≤ 2 ^ 41) (t : List ℕ) (e : t ≡ putWords s 0 (plus bookLength (wordsOf s) z g)) where
+  abbrev added : List ℤ
+  added = plus bookLength (wordsOf s) z g
 
-  module _ (j : ℕ) (few : j ≤ 42) (t : List ℕ) (e : t ≡ putWords s 0 (added j)) where
-    added-within : Within bookLength (2 ^ 41) (added j)
-    added-within = within-more bookLength (2 ^ 40 + 126000000000) (2 ^ 41) (added j) (lit≤ tt) (within-plus bookLength (wordsOf s) z _ (2 ^ 40) 126000000000 unit o (λ k. terms-size q f matrixStart j k few))
+  added-within : Within bookLength (2 ^ 42) added
+  added-within = within-plus bookLength (wordsOf s) z g (2 ^ 41) (2 ^ 41) unit o size
 
-    added-read : wordsOf t ≡ added j
-    added-read = ap wordsOf e ∙ words-read s (added j) (2 ^ 41) room added-within tt
+  added-read : wordsOf t ≡ added
+  added-read = ap wordsOf e ∙ words-read s added (2 ^ 42) room added-within tt
 
-    pub in-range : (k : ℕ) → natAbs (getD (wordsOf t) k (pos 0)) ≤ 2 ^ 41
-    in-range k = subst (λ (w : List ℤ). natAbs (getD w k (pos 0)) ≤ 2 ^ 41) (sym added-read) (added-within .bound k)
+  pub in-range : (k : ℕ) → natAbs (getD (wordsOf t) k (pos 0)) ≤ 2 ^ 42
+  in-range k = subst (λ (w : List ℤ). natAbs (getD w k (pos 0)) ≤ 2 ^ 42) (sym added-read) (added-within .bound k)
 
-    pub one-added : (u : List ℕ) (k : ℕ) (v : ℤ) → k ≡ matrixStart + term q j .entry → v ≡ z *ℤ term q j .amount → u ≡ putWord t (8 * k) (getD (wordsOf t) k (pos 0) +ℤ v) → u ≡ putWords s 0 (added (j + 1))
-    one-added u k v at is p =
-        let long = plus-length bookLength (wordsOf s) z (terms matrixStart q j) in
-        let inside = term-inside q f j in
-        p
-        ∙ ap₂ (λ (x : List ℕ) (w : List ℤ). putWord x (8 * k) (getD w k (pos 0) +ℤ v)) e added-read
-        ∙ patch-word s (added j) k (getD (added j) k (pos 0) +ℤ v) (omega arith) (omega arith)
-        ∙ ap (putWords s 0)
-        (ap₂ (λ (i : ℕ) (x : ℤ). set (added j) i (getD (added j) i (pos 0) +ℤ x)) at is
-        ∙ plus-step bookLength (wordsOf s) z (terms matrixStart q j) (terms matrixStart q (j + 1)) (added j) (matrixStart + term q j .entry) (term q j .amount) _ refl (omega arith) (λ i. sum-+1 j _) refl)
+  -- z times a more at word k
+  pub one-added : (h : ℕ → ℤ) (u : List ℕ) (k : ℕ) (v a : ℤ) → k < bookLength → v ≡ z *ℤ a → ((i : ℕ) → h i ≡ g i +ℤ a *ℤ δ k i) → u ≡ putWord t (8 * k) (getD (wordsOf t) k (pos 0) +ℤ v) → u ≡ putWords s 0 (plus bookLength (wordsOf s) z h)
+  one-added h u k v a inside is more p =
+      let long = plus-length bookLength (wordsOf s) z g in
+      p
+      ∙ ap₂ (λ (x : List ℕ) (w : List ℤ). putWord x (8 * k) (getD w k (pos 0) +ℤ v)) e added-read
+      ∙ patch-word s added k (getD added k (pos 0) +ℤ v) (omega arith) (omega arith)
+      ∙ ap (putWords s 0) (plus-step bookLength (wordsOf s) z g h added k a (getD added k (pos 0) +ℤ v) refl inside more (ap (λ (x : ℤ). getD added k (pos 0) +ℤ x) is))
+
+  -- z times f more
+  pub more-added : (f h : ℕ → ℤ) (u : List ℕ) → ((i : ℕ) → h i ≡ g i +ℤ f i) → u ≡ putWords t 0 (plus bookLength (wordsOf t) z f) → u ≡ putWords s 0 (plus bookLength (wordsOf s) z h)
+  more-added f h u more p =
+      let long = plus-length bookLength (wordsOf s) z g in
+      let even = long ∙ sym (plus-length bookLength added z f) in
+      p
+      ∙ ap₂ (λ (x : List ℕ) (w : List ℤ). putWords x 0 (plus bookLength w z f)) e added-read
+      ∙ patch-whole s added (plus bookLength added z f) even (omega arith)
+      ∙ ap (putWords s 0) (plus-plus bookLength (wordsOf s) z g f h more)
+
+  pub still-within : (a b : ℕ) → Within bookLength a (wordsOf s) → ((k : ℕ) → natAbs (g k) ≤ b) → Within bookLength (a + b) (wordsOf t)
+  still-within a b w small = rw added-read (within-plus bookLength (wordsOf s) z g a b unit w small)
 
 -- ════ a share added to the words of a book is added to its N and u
 module _ (b : Book) (z : Sized b) (q : Equation) (f : EquationInRange q) (x : ℤ) where
@@ -126,9 +160,8 @@ module _ (b : Book) (z : Sized b) (q : Equation) (f : EquationInRange q) (x : �
       entry k h (no l) (yes r) = subst at (let e : matrixStart + (k - matrixStart) ≡ k = omega arith in e) (in-matrix (k - matrixStart) (omega arith))
       entry k h (no l) (no r) = subst at (let e : rightStart + (k - rightStart) ≡ k = omega arith in e) (in-right (k - rightStart) (omega arith))
 
-  pub share-within : (a : ℕ) → natAbs x ≤ 1 → Within bookLength a (bookWords b) → Within bookLength (a + 126000000000) (bookWords withShare)
-  unfolding shareFrom
-  share-within a unit o = subst (Within bookLength (a + 126000000000)) words-share (within-plus bookLength (bookWords b) x _ a 126000000000 unit o (λ k. terms-size q f matrixStart 42 k (lit≤ tt)))
+  pub share-within : (a : ℕ) → natAbs x ≤ 1 → Within bookLength a (bookWords b) → Within bookLength (a + 18000360000) (bookWords withShare)
+  share-within a unit o = subst (Within bookLength (a + 18000360000)) words-share (within-plus bookLength (bookWords b) x _ a 18000360000 unit o (share-size matrixStart q f))
 
   pub share-put : (s t u : List ℕ) → bookBytes ≤ length s → t ≡ putBook s b → wordsOf t ≡ bookWords b → u ≡ putWords t 0 (plus bookLength (wordsOf t) x (shareFrom matrixStart q)) → u ≡ putBook s withShare
   share-put s t u room is same p =
@@ -175,7 +208,7 @@ module _ (s : List ℕ) (fit : bytesFit s ≡ true) (i : ℕ) (r : Record) (insi
 
   without-within : Within bookLength (2 ^ 40) (bookWords without)
   without-within =
-      within-more bookLength (L + 126000000000) (2 ^ 40) (bookWords without) (lit≤ tt) (share-within b (read-sized s) (equation st old) off-fits (negsuc 0) L (lit≤ tt) (words-within b (fits-sound s fit)))
+      within-more bookLength (L + 18000360000) (2 ^ 40) (bookWords without) (lit≤ tt) (share-within b (read-sized s) (equation st old) off-fits (negsuc 0) L (lit≤ tt) (words-within b (fits-sound s fit)))
 
   module _ (bytes : Bytes s) (t : List ℕ) (e : t ≡ putWords s 0 (plus bookLength (wordsOf s) (negsuc 0) (shareFrom matrixStart (equation st old)))) where
     taken-off : t ≡ putBook s without

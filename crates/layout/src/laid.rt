@@ -3,16 +3,25 @@ use super::offsets::Layout;
 use super::reading;
 use super::writing::station_part;
 use book::Journal;
+use network::Network;
 use network::Record;
 use network::Unit;
+use normals::Normals;
 ghost use mathlib.Core.Path.{_≡_};
 ghost use Prim.Native.Nat.{ℕ, _+_, _*_, _≤_, _<_};
 ghost use lib.ListN.{length};
+ghost use Rattle.words.specs.Runs.{wordsAt};
 ghost use Rattle.lists.specs.All.{allBelow};
+ghost use Rattle.lists.specs.Same.{sameEntries};
 ghost use Rattle.network.specs.RecordWords.{recordLength};
-ghost use Rattle.layout.specs.Layout.{bookLength, bookBytes};
+ghost use Rattle.network.specs.Places.{placesLength, placesIn};
+ghost use Rattle.normals.specs.Formulas.{normalsOf};
+ghost use Rattle.normals.specs.ByRules.{ByRules};
+ghost use Rattle.normals.specs.Same.{sameNormals};
+ghost use Rattle.book.specs.RulesFit.{rulesFit};
+ghost use Rattle.layout.specs.Layout.{journalIn, bookLength, bookBytes};
 ghost use Rattle.layout.specs.Laid.{recordLaid, stationLaid};
-ghost use Rattle.layout.specs.Bytes.{wordsOf, laidOut, bytesFit};
+ghost use Rattle.layout.specs.Bytes.{wordsOf, bookOf, laidOut, bytesFit};
 
 fn record_laid(s: &[u8], k: usize) -> bool
     requires { ⌜ (bookBytes ≤ length (now s)) × (k + recordLength ≤ bookLength) ⌝ }
@@ -73,6 +82,42 @@ fn laid_out(s: &[u8]) -> bool
         & records_laid(s, prior, Layout::REVERSAL_LENGTH, Journal::SIZE)
 }
 
+// Whether the words of s from word k on are w: compared where they stand.
+fn same_words(s: &[u8], k: usize, w: &[i64]) -> bool
+    requires { ⌜ (bookBytes ≤ length (now s)) × (k + length (now w) ≤ bookLength) ⌝ }
+    ensures { λ r. ⌜ r ≡ sameEntries (length (now (w .entry))) (wordsAt (now (s .entry)) (8 * k) (length (now (w .entry)))) (now (w .entry)) ⌝ }
+{
+    let mut i = 0;
+    while i < w.len() {
+        let x = reading::word_in(s, k + i);
+        if !words::same(x, w[i]) {
+            return false;
+        }
+        i = i + 1;
+    }
+    true
+}
+
+// The station list, the records and the journal are by the rules. The journal is read here, so that its room is free again for N.
+fn rules_fit(s: &[u8], net: Network, places: &[i64]) -> bool
+    requires { ⌜ (bookBytes ≤ length (now s)) × (placesLength ≤ length (now places)) ⌝ }
+    ensures { λ r. ⌜ r ≡ rulesFit net (placesIn (now (places .entry))) (journalIn (wordsOf (now (s .entry)))) ⌝ }
+{
+    let journal = reading::journal_in(s);
+    book::rules_fit(net, places, journal)
+}
+
+// N and u are those of the records, which are by the rules.
+fn normals_fit(s: &[u8], net: Network, places: &[i64]) -> bool
+    requires { ⌜ (bookBytes ≤ length (now s)) × (placesLength ≤ length (now places)) × ByRules net (placesIn (now places)) ⌝ }
+    ensures { λ r. ⌜ r ≡ sameNormals (bookOf (now (s .entry)) .normals) (normalsOf (net .stations) (placesIn (now (places .entry)))) ⌝ }
+{
+    let mut n = [0i64; Normals::ENTRIES];
+    let mut u = [0i64; Normals::ROW];
+    normals::add_records(&mut n, &mut u, net, places);
+    same_words(s, Layout::MATRIX_START, &n) & same_words(s, Layout::RIGHT_START, &u)
+}
+
 // Bytes long enough for a book pass the rest of what 25 tests.
 fn fits(s: &[u8]) -> bool
     requires { ⌜ bookBytes ≤ length (now s) ⌝ }
@@ -83,10 +128,10 @@ fn fits(s: &[u8]) -> bool
     }
     let network = reading::network_in(s);
     let places = reading::places_in(s);
-    let journal = reading::journal_in(s);
-    let matrix = reading::matrix_in(s);
-    let right = reading::right_in(s);
-    book::parts_fit(network, &places, journal, &matrix, &right)
+    if !rules_fit(s, network, &places) {
+        return false;
+    }
+    normals_fit(s, network, &places)
 }
 
 // The bytes hold a book: what 25 tests, of any bytes.

@@ -1,7 +1,6 @@
 -- What an edit or an undo has done to bytes that hold a book, in the words of its contract. Assumes nothing.
 use Prim.Native.Nat.{ℕ, zero, suc, _-_}
 use mathlib.Core.Path.{_≡_, refl, sym, ap, _∙_}
-use mathlib.Core.Bool.{true}
 use mathlib.Core.List.{List}
 use lib.ListN.{getD, set}
 use lib.IntN.{ℤ}
@@ -16,7 +15,7 @@ use Rattle.book.specs.declared.Call.the-variants as call
 use Rattle.book.specs.Calls.{placeOf, puts, undoNo, callNo, unless}
 use Rattle.book.specs.SoundLaws.{Enters, enters-edit}
 use Rattle.book.specs.Book.{withEntry, edited, undone, bookAccepts, bookSays, outcome}
-use Rattle.layout.specs.Bytes.{bookOf, putBook, bytesFit}
+use Rattle.layout.specs.Bytes.{bookOf, putBook}
 use Rattle.lent_edits.specs.LentEdits.{bytesLeft}
 
 -- ════ the core edit, with the journal that goes with it
@@ -62,10 +61,8 @@ module _ (s : List ℕ) (b : Book) where
   undo-done (suc count) t e z h = changed call.Undo 0 t (ap undoNo e) h
 
 -- ════ what the code of an edit has at hand: the number, the place's index, and the record
-module _ (s : List ℕ) (fit : bytesFit s ≡ true) where
-  pub settle-ready : (p : ℤ) (c : Change) (n i : ℕ) (r : Record) → n ≡ bookSays (bookOf s) (call.Edit p c) → i ≡ placeOf p → r ≡ puts c
-      → (bytesFit s ≡ true) × (n ≡ 0 → Enters (bookOf s) i r)
-  settle-ready p c n i r e at is = (fit, λ z. enters-edit (bookOf s) p c i r at is (sym e ∙ z))
+pub settle-ready : (s : List ℕ) (p : ℤ) (c : Change) (n i : ℕ) (r : Record) → n ≡ bookSays (bookOf s) (call.Edit p c) → i ≡ placeOf p → r ≡ puts c → n ≡ 0 → Enters (bookOf s) i r
+settle-ready s p c n i r e at is z = enters-edit (bookOf s) p c i r at is (sym e ∙ z)
 
 -- ════ what is written back
 pub edit-done : (s t : List ℕ) (n : ℕ) (b : Book) → n ≡ 0 → t ≡ putBook s b → t ≡ unless n s (putBook s b)

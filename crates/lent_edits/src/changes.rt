@@ -2,6 +2,7 @@
 use book::Call;
 use book::Change;
 use book::Reversal;
+use network::Network;
 use network::Record;
 use network::Unit;
 ghost use mathlib.Core.Path.{_≡_};
@@ -14,8 +15,8 @@ ghost use Rattle.layout.specs.Bytes.{bookOf, putBook, bytesFit};
 ghost use Rattle.lent_edits.specs.LentEdits.{bytesLeft, Applies};
 
 // r enters place i, and the edit goes on the journal.
-fn enter(s: &mut [u8], i: usize, r: Record)
-    requires { ⌜ (bytesFit (now s) ≡ true) × Enters (bookOf (now s)) i r ⌝ }
+fn enter(s: &mut [u8], net: Network, i: usize, r: Record)
+    requires { ⌜ (bytesFit (now s) ≡ true) × (net ≡ bookOf (now s) .network) × Enters (bookOf (now s)) i r ⌝ }
     ensures { λ _. ⌜ now (s .exit) ≡ putBook (now (s .entry)) (edited (bookOf (now (s .entry))) i r) ⌝ }
 {
     let old = layout::record_in(s, i);
@@ -26,16 +27,16 @@ fn enter(s: &mut [u8], i: usize, r: Record)
         place: i,
         prior: old,
     };
-    layout::put(s, i, r, next, u, after, count);
+    layout::put(s, net, i, r, next, u, after, count);
 }
 
 // The edit, unless it is refused.
-fn settle(s: &mut [u8], n: u64, i: usize, r: Record)
-    requires { ⌜ (bytesFit (now s) ≡ true) × (n ≡ 0 → Enters (bookOf (now s)) i r) ⌝ }
+fn settle(s: &mut [u8], net: Network, n: u64, i: usize, r: Record)
+    requires { ⌜ (bytesFit (now s) ≡ true) × (net ≡ bookOf (now s) .network) × (n ≡ 0 → Enters (bookOf (now s)) i r) ⌝ }
     ensures { λ _. ⌜ now (s .exit) ≡ unless n (now (s .entry)) (putBook (now (s .entry)) (edited (bookOf (now (s .entry))) i r)) ⌝ }
 {
     if n == 0 {
-        enter(s, i, r);
+        enter(s, net, i, r);
     }
 }
 
@@ -49,7 +50,7 @@ fn change_place(s: &mut [u8], place: i64, change: Change) -> u64
     let current = layout::record_in(s, i);
     let n = book::edit_no(net, place, change, current);
     let r = book::puts_of(change);
-    settle(s, n, i, r);
+    settle(s, net, n, i, r);
     n
 }
 
@@ -68,7 +69,8 @@ fn restore(s: &mut [u8], count: usize)
         place: 0,
         prior: none,
     };
-    layout::put(s, place, prior, slot, free, slot, count - 1);
+    let net = layout::network_in(s);
+    layout::put(s, net, place, prior, slot, free, slot, count - 1);
 }
 
 // Takes the latest edit back.

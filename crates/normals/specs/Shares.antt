@@ -20,6 +20,7 @@ use Rattle.network.specs.RuleLaws.{SoundRecord, SoundStations}
 use Rattle.network.specs.declared.Station.{Station}
 use Rattle.network.specs.declared.Record.{Record}
 use Rattle.normals.specs.declared.Equation.{Equation}
+use Rattle.normals.specs.declared.StationUnknowns.{StationUnknowns}
 use Rattle.normals.specs.Formulas.{isUnknown, A, shareN, shareU}
 use Rattle.normals.specs.Acting.{A-acting, acting-only}
 use Rattle.normals.specs.Equations.{EquationInRange, atOf, coefOf, equationWeight, misclosureOf, pairN, rowN, blockN, weighted, blockU, equationOf}
@@ -43,6 +44,14 @@ pub δ-pair : (a b k : ℕ) → b < 48 → δ (a * 48 + b) k ≡ δ a (k / 48) *
 -- ════ a record's equations by the tables over the components
 abbrev pub equation : List Station → Record → Equation
 equation st r = equationOf (indexTable st) (unknownTable st) (coordinates st) r
+
+-- the unknowns of station s, in E, N, U
+abbrev pub unknownsAt : List Station → ℕ → StationUnknowns
+unknownsAt st s =
+    record {
+      at = unknownIndex st (s * 3) ∷ unknownIndex st (s * 3 + 1) ∷ unknownIndex st (s * 3 + 2) ∷ [];
+      unknown = pos (unknown st (s * 3)) ∷ pos (unknown st (s * 3 + 1)) ∷ pos (unknown st (s * 3 + 2)) ∷ [];
+    }
 
 -- what the code makes of the tables is the record's equations
 pub equation-by : {at : List ℕ} {un co : List ℤ} {q : Equation} (st : List Station) (r : Record) → at ≡ indexTable st → un ≡ unknownTable st → co ≡ coordinates st

@@ -18,8 +18,9 @@ mod equations;
 mod records;
 mod shares;
 
+pub use shares::end_term;
 pub use shares::exchange_of;
-pub use shares::share_term;
+pub use shares::pair_term;
 
 // The observation equations of one record, which know no station. Its six ends are E, N, U at from, then E, N, U at to: end e has the
 // unknown at[e] with the coefficient coef[e], which is 0 where the component is held. Weights by rows.
@@ -30,7 +31,7 @@ pub struct Equation {
     pub misclosure: [i64; 3],
 }
 
-// One of the 42 amounts that an equation adds to N and u, and its entry, counted through N, by rows, and on through u.
+// One of the amounts that an equation adds to N and u, and its entry, counted through N, by rows, and on through u.
 pub struct ShareTerm {
     pub entry: usize,
     pub amount: i64,
@@ -40,6 +41,12 @@ pub struct ShareTerm {
 pub struct Exchange {
     pub off: Equation,
     pub on: Equation,
+}
+
+// The unknowns of one station, in E, N, U: their numbers, and 1 where there is one. Both are 0 at a held component.
+struct StationUnknowns {
+    at: [usize; 3],
+    unknown: [i64; 3],
 }
 
 // N by rows, and u. Entries beyond the unknowns are 0.
@@ -80,7 +87,7 @@ impl Normals {
 }
 
 // Makes N and u of no records those of the records. They are lent, so that who only compares them copies no N.
-fn add_records(
+pub fn add_records(
     n: &mut [i64; Normals::ENTRIES],
     u: &mut [i64; Normals::ROW],
     net: Network,

@@ -9,7 +9,7 @@ use Rattle.layout.proofs.Shares.{sum-stored}
 use Rattle.layout.proofs.patching.add_to_word.Statement.{statement}
 use Rattle.layout.proofs.patching.add_to_word.Tie as tie
 
-small : (c : tie.After-word-in) → natAbs (c .word-in .result) ≤ 2 ^ 41
+small : (c : tie.After-word-in) → natAbs (c .word-in .result) ≤ 2 ^ 42
 small c = rw (c .word-in .ensures) (c .before .before .before .pre .2)
 
 word-in-requires : tie.Need-word-in-requires

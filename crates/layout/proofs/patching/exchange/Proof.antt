@@ -26,12 +26,12 @@ room s = fits-room (s .args .s .now) (s .pre .0)
 -- the equations of what the place holds, and of r
 module _ (x : tie.After-exchange-of) where
   abbrev start : tie.Start
-  start = x .before .before .before .before .before .before
+  start = x .before .before .before .before
 
   equations : x .exchange-of .result ≡ record { off = equation (bookOf (start .args .s .now) .network .stations) (recordAt (bookOf (start .args .s .now) .places) (start .args .i)); on = equation (bookOf (start .args .s .now) .network .stations) (start .args .r) }
   equations =
       x .exchange-of .ensures
-      ∙ (λ i. record { off = equation (x .before .before .before .network-in .ensures i .stations) (x .before .record-in .ensures i); on = equation (x .before .before .before .network-in .ensures i .stations) (start .args .r) })
+      ∙ (λ i. record { off = equation (start .pre .1 i .stations) (x .before .record-in .ensures i); on = equation (start .pre .1 i .stations) (start .args .r) })
 
 -- the bytes with the old share off
 module _ (a : tie.After-add-share) where
@@ -44,30 +44,23 @@ module _ (a : tie.After-add-share) where
       a .add-share .ensures ∙ ap (λ (x : Exchange). putWords t 0 (plus bookLength (wordsOf t) (negsuc 0) (shareFrom matrixStart (x .off)))) (equations both)
 
   bytes : Bytes (start both .args .s .now)
-  bytes i = let h = both .before .before .before .before .before .slice-known .given i in omega arith
-
-network-in-requires : tie.Need-network-in-requires
-network-in-requires c κs = room (c .before .before)
+  bytes i = let h = both .before .before .before .slice-known .given i in omega arith
 
 record-in-requires : tie.Need-record-in-requires
-record-in-requires c κs = room (c .before .before .before .before)
+record-in-requires c κs = room (c .before .before)
 
 exchange-of-requires : tie.Need-exchange-of-requires
 exchange-of-requires c κs =
-    let n = c .before .before in
-    let s = n .before .before .before in
-    let sound = fits-sound (s .args .s .now) (s .pre .0) in (
-      rw (n .network-in .ensures) (sound .network),
-      rw (n .network-in .ensures, c .record-in .ensures) (sound .records (s .args .i)),
-      rw (n .network-in .ensures) (s .pre .2),
-    )
+    let s = c .before .before .before in
+    let sound = fits-sound (s .args .s .now) (s .pre .0) in
+    (rw (s .pre .1) (sound .network), rw (s .pre .1, c .record-in .ensures) (sound .records (s .args .i)), rw (s .pre .1) (s .pre .3))
 
 add-share-requires : tie.Need-add-share-requires
 add-share-requires c κs =
     let x = c .before .before .before in
     let s = start x in
     let t = s .args .s .now in
-    (room s, rw (equations x) (off-fits t (s .pre .0) (s .args .i) (s .args .r) (s .pre .1) (s .pre .2)), lit≤ tt, first-within t (s .pre .0) (s .args .i) (s .args .r) (s .pre .1) (s .pre .2))
+    (room s, rw (equations x) (off-fits t (s .pre .0) (s .args .i) (s .args .r) (s .pre .2) (s .pre .3)), lit≤ tt, first-within t (s .pre .0) (s .args .i) (s .args .r) (s .pre .2) (s .pre .3))
 
 add-share-requires-2 : tie.Need-add-share-requires-2
 add-share-requires-2 c κs =
@@ -77,7 +70,7 @@ add-share-requires-2 c κs =
     let t = s .args .s .now in
     let h = room s in
     let k : length (a .add-share .last .0) ≡ length t = a .add-share .kept .0 in
-    (omega arith, rw (equations x) (on-fits t (s .pre .0) (s .args .i) (s .args .r) (s .pre .1) (s .pre .2)), lit≤ tt, second-within t (s .pre .0) (s .args .i) (s .args .r) (s .pre .1) (s .pre .2) (bytes a) _ (taken-off a))
+    (omega arith, rw (equations x) (on-fits t (s .pre .0) (s .args .i) (s .args .r) (s .pre .2) (s .pre .3)), lit≤ tt, second-within t (s .pre .0) (s .args .i) (s .args .r) (s .pre .2) (s .pre .3) (bytes a) _ (taken-off a))
 
 same-length : tie.Need-same-length
 same-length c = search needs
@@ -89,14 +82,13 @@ returns c =
     let x = both a in
     let s = start x in
     let u = a .add-share .last .0 in
-    put-on (s .args .s .now) (s .pre .0) (s .args .i) (s .args .r) (s .pre .1) (s .pre .2) (bytes a) u (taken-off a) _
+    put-on (s .args .s .now) (s .pre .0) (s .args .i) (s .args .r) (s .pre .2) (s .pre .3) (bytes a) u (taken-off a) _
     (d .add-share2 .ensures ∙ ap (λ (y : Exchange). putWords u 0 (plus bookLength (wordsOf u) (pos 1) (shareFrom matrixStart (y .on)))) (equations x))
 
 pub exchange-spec : {M : Type 1} → statement M
 exchange-spec =
     tie.close
     (tie.spec
-    network-in-requires
     record-in-requires
     exchange-of-requires
     add-share-requires

@@ -30,7 +30,7 @@ put-record-requires c κs =
     let e = c .before .before .before in
     let k : length (e .exchange .last .0) ≡ length (e .before .before .before .args .s .now) = e .exchange .kept .0 in
     let h = room (e .before .before .before) in
-    let i = e .before .before .before .pre .1 in
+    let i = e .before .before .before .pre .2 in
     (omega arith, omega arith)
 
 mul-put-reversal : tie.Need-mul-put-reversal
@@ -46,7 +46,7 @@ put-reversal-requires c κs =
     let k : length (e .exchange .last .0) ≡ length (e .before .before .before .args .s .now) = e .exchange .kept .0 in
     let l : length (r .put-record .last .0) ≡ length (e .exchange .last .0) = r .put-record .kept .0 in
     let h = room (e .before .before .before) in
-    let i = e .before .before .before .pre .3 in
+    let i = e .before .before .before .pre .4 in
     (omega arith, omega arith)
 
 put-counts-requires : tie.Need-put-counts-requires
@@ -73,7 +73,7 @@ returns c =
     let t = s .args .s .now in
     let b = bookOf t in
     let x = withRecord b (s .args .i) (s .args .r) in
-    put-edit t (room s) b (read-sized t) (x .matrix) (x .right) (length-tabulate 2304 _) (length-tabulate 48 _) (s .args .i) (s .args .r) (s .args .slot) (s .args .u) (s .args .next) (s .args .count) (s .pre .1) (s .pre .3)
+    put-edit t (room s) b (read-sized t) (x .matrix) (x .right) (length-tabulate 2304 _) (length-tabulate 48 _) (s .args .i) (s .args .r) (s .args .slot) (s .args .u) (s .args .next) (s .args .count) (s .pre .2) (s .pre .4)
     _ _ _ _ (e .exchange .ensures) (r .put-record .ensures) (v .put-reversal .ensures) (n .put-counts .ensures)
 
 pub put-spec : {M : Type 1} → statement M

@@ -58,7 +58,8 @@ settle-requires : tie.Need-settle-requires
 settle-requires c κs =
     let a = c .before in
     let s = start a in
-    settle-ready (s .args .s .now) (s .pre) (s .args .place) (s .args .change) _ _ _ (number a) (at-place a) (a .puts-of .ensures)
+    let t = s .args .s .now in
+    (s .pre, a .before .before .before .before .before .network-in .ensures, settle-ready t (s .args .place) (s .args .change) _ _ _ (number a) (at-place a) (a .puts-of .ensures))
 
 same-length : tie.Need-same-length
 same-length c = search needs

@@ -38,7 +38,7 @@ put-requires : tie.Need-put-requires
 put-requires c κs =
     let n = c .before .before .before .before .before in
     let s = n .before .before .before .before .before in
-    (s .pre .0, s .pre .1 .inside, s .pre .1 .fits, small n)
+    (s .pre .0, s .pre .1, s .pre .2 .inside, s .pre .2 .fits, small n)
 
 same-length : tie.Need-same-length
 same-length c = search needs

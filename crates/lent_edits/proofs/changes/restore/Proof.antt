@@ -36,12 +36,16 @@ slot-before-requires c κs = small c
 slot-in-requires : tie.Need-slot-in-requires
 slot-in-requires c κs = (room (c .before .before .before .before .before), inside (c .before))
 
+network-in-requires : tie.Need-network-in-requires
+network-in-requires c κs = room (c .before .before .before .before .before .before .before)
+
 sub-put : tie.Need-sub-put
 sub-put c = search needs
 
 put-requires : tie.Need-put-requires
 put-requires c κs =
-    let u = c .before in
+    let e = c .before in
+    let u = e .before .before in
     let a = u .before .before in
     let n = a .before in
     let s = n .before .before .before in
@@ -51,7 +55,7 @@ put-requires c κs =
     u .slot-in .ensures ∙ ap (λ (k : ℕ). getD (b .journal .entries) k free) (a .slot-before .ensures ∙ ap slotBefore (n .next-in .ensures)) in
     let m = latest-undoes b (fits-sound t (s .pre .0)) (subst (λ (k : ℕ). 0 < k) (s .pre .1) (s .pre .2)) in
     let w = subst (λ (x : Reversal). (x .place < 256) × (recordFits (b .network) (x .prior) ≡ true)) (sym last) (m .inside, m .fits) in
-    (s .pre .0, w .0, w .1, inside a)
+    (s .pre .0, e .network-in .ensures, w .0, w .1, inside a)
 
 same-length : tie.Need-same-length
 same-length c = search needs
@@ -59,7 +63,7 @@ same-length c = search needs
 returns : tie.Need-returns
 returns c =
     let p = c .before .before in
-    let u = p .before .before in
+    let u = p .before .before .before .before in
     let a = u .before .before in
     let n = a .before in
     let s = n .before .before .before in
@@ -69,4 +73,12 @@ returns c =
 pub restore-spec : {M : Type 1} → statement M
 restore-spec =
     tie.close
-    (tie.spec next-in-requires slot-before-requires slot-in-requires sub-put put-requires same-length returns)
+    (tie.spec
+    next-in-requires
+    slot-before-requires
+    slot-in-requires
+    network-in-requires
+    sub-put
+    put-requires
+    same-length
+    returns)

@@ -5,7 +5,7 @@ use Rattle.lent_edits.proofs.changes.settle.Statement.{statement}
 use Rattle.lent_edits.proofs.changes.settle.Tie as tie
 
 enter-requires : tie.Need-enter-requires
-enter-requires c κs = let s = c .before .before .before in (s .pre .0, s .pre .1 (c .before .if1 .taken))
+enter-requires c κs = let s = c .before .before .before in (s .pre .0, s .pre .1, s .pre .2 (c .before .if1 .taken))
 
 same-length : tie.Need-same-length
 same-length c = search needs

@@ -4,12 +4,17 @@ use native.Mathlib.Omega.{arith}
 use Prim.Native.Nat.{_+_, _*_, _%_}
 use lib.ListN.{getD}
 use Rattle.integers.specs.Code.{fit, code-bounds}
+use Rattle.normals.specs.declared.Equation.{Equation}
+use Rattle.normals.specs.Equations.{endsOf}
 use Rattle.normals.proofs.Steps.{Pair, pair-product}
 use Rattle.normals.proofs.shares.pair_term.Statement.{statement}
 use Rattle.normals.proofs.shares.pair_term.Tie as tie
 
+abbrev lent : tie.Start → Equation
+lent s = endsOf (s .args .at .now) (s .args .coef .now) (s .args .weight .now)
+
 -- the sizes of the two ends
-pair : (s : tie.Start) → Pair (s .args .t1) (s .args .e) (s .args .f)
+pair : (s : tie.Start) → Pair (lent s) (s .args .e) (s .args .f)
 pair s =
     let e = s .args .e in
     let f = s .args .f in
@@ -67,7 +72,7 @@ mul-amount-2 c = let h = pair (c .before .before .before .before .before) in fit
 returns : tie.Need-returns
 returns c =
     let s = c .before .before .before .before .before in
-    λ i. record { entry = getD (s .args .t1 .at) (s .args .e) 0 * 48 + getD (s .args .t1 .at) (s .args .f) 0; amount = pair-product (s .args .t1) (s .args .e) (s .args .f) (pair s) i }
+    λ i. record { entry = getD (s .args .at .now) (s .args .e) 0 * 48 + getD (s .args .at .now) (s .args .f) 0; amount = pair-product (lent s) (s .args .e) (s .args .f) (pair s) i }
 
 pub pair-term-spec : {M : Type 1} → statement M
 pair-term-spec =
