@@ -42,21 +42,36 @@ fn square(n: usize) -> usize
     n * n
 }
 
-// Works a pair out in the lent room, and has the check judge its first n and n·n numbers: true where they are accepted. What the room holds is free but for that.
-pub fn work_out(s: &[u8], n: usize, x: &mut [i64], m: &mut [i64], work: &mut [f64]) -> bool
-    requires { ⌜ bytesFit (now s) ≡ true ⌝ }
-    requires { ⌜ (n ≤ mostUnknowns) × (mostUnknowns ≤ length (now x)) × (matrixLength ≤ length (now m)) × (workLength ≤ length (now work)) ⌝ }
-    ensures { λ r. ⌜ (r ≡ true → checked (bookOf (now (s .entry))) (take n (now (x .exit))) (take (n * n) (now (m .exit))) true ≡ Accepted) ⌝ }
+// Whether the check accepts the first n and n·n numbers of x and m.
+fn is_accepted(s: &[u8], n: usize, x: &[i64], m: &[i64]) -> bool
+    requires { ⌜ (bytesFit (now s) ≡ true) × (n ≤ mostUnknowns) × (mostUnknowns ≤ length (now x)) × (matrixLength ≤ length (now m)) ⌝ }
+    ensures { λ r. ⌜ (r ≡ true → checked (bookOf (now (s .entry))) (take n (now (x .entry))) (take (n * n) (now (m .entry))) true ≡ Accepted) ⌝ }
 {
-    if !candidate::candidate(s, n, x, m, work) {
-        return false;
-    }
     let entries = square(n);
     let answer = checks::check_in(s, &x[0..n], &m[0..entries]);
     if let Answer::Accepted = answer {
         return true;
     }
     false
+}
+
+// A candidate worked out beside a work slice of its own, which is gone when the check begins.
+fn work_alone(s: &[u8], n: usize, x: &mut [i64], m: &mut [i64]) -> bool
+    requires { ⌜ (bytesFit (now s) ≡ true) × (n ≤ mostUnknowns) × (mostUnknowns ≤ length (now x)) × (matrixLength ≤ length (now m)) ⌝ }
+{
+    let mut work = [0.0; WORK];
+    candidate::candidate(s, n, x, m, &mut work)
+}
+
+// Works a pair out in the lent room, and has the check judge its first n and n·n numbers: true where they are accepted. What the room holds is free but for that.
+pub fn work_out(s: &[u8], n: usize, x: &mut [i64], m: &mut [i64]) -> bool
+    requires { ⌜ (bytesFit (now s) ≡ true) × (n ≤ mostUnknowns) × (mostUnknowns ≤ length (now x)) × (matrixLength ≤ length (now m)) ⌝ }
+    ensures { λ r. ⌜ (r ≡ true → checked (bookOf (now (s .entry))) (take n (now (x .exit))) (take (n * n) (now (m .exit))) true ≡ Accepted) ⌝ }
+{
+    if !work_alone(s, n, x, m) {
+        return false;
+    }
+    is_accepted(s, n, x, m)
 }
 
 // A proposal where the lent lengths fit: a pair worked out beside x and m, and copied to them where it is accepted.
@@ -68,7 +83,10 @@ fn propose_beside(s: &[u8], n: usize, x: &mut [i64], m: &mut [i64], work: &mut [
     let entries = m.len();
     let mut corrections = [0i64; Normals::ROW];
     let mut inverse = [0i64; Normals::ENTRIES];
-    if !work_out(s, n, &mut corrections, &mut inverse, work) {
+    if !candidate::candidate(s, n, &mut corrections, &mut inverse, work) {
+        return Proposal::Nothing;
+    }
+    if !is_accepted(s, n, &corrections, &inverse) {
         return Proposal::Nothing;
     }
     lists::copy(&corrections[0..n], x);

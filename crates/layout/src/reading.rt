@@ -1,6 +1,5 @@
 // The book that bytes hold, part by part, for any bytes that are long enough.
 use super::offsets::Layout;
-use book::Book;
 use book::Journal;
 use book::Reversal;
 use network::Network;
@@ -12,11 +11,12 @@ ghost use Prim.Native.Nat.{_+_, _*_, _≤_, _<_};
 ghost use lib.IntN.{pos};
 ghost use lib.ListN.{getD, length, take, drop};
 ghost use Rattle.words.specs.Runs.{wordsAt};
+ghost use Rattle.network.specs.Units.{mostUnknowns};
 ghost use Rattle.network.specs.Records.{recordAt};
 ghost use Rattle.network.specs.RecordWords as words;
 ghost use Rattle.network.specs.Places.{placesIn};
 ghost use Rattle.book.specs.Journal.{journalSize, free};
-ghost use Rattle.layout.specs.Layout.{countIn, entriesIn, journalIn, stationsStart, bookLength, bookBytes};
+ghost use Rattle.layout.specs.Layout.{countIn, journalIn, stationsStart, matrixStart, bookLength, bookBytes};
 ghost use Rattle.layout.specs.Bytes.{wordsOf, bookOf};
 
 // Word k.
@@ -110,23 +110,6 @@ pub fn places_in(s: &[u8]) -> [i64; Place::LENGTH]
     w
 }
 
-// The places by value.
-pub fn places_of(s: &[u8]) -> [Place; 256]
-    requires { ⌜ bookBytes ≤ length (now s) ⌝ }
-    ensures { λ r. ⌜ r ≡ bookOf (now (s .entry)) .places ⌝ }
-{
-    let none = Record::Empty;
-    let vacant = Place { entry: none };
-    let mut places = [vacant; 256];
-    let mut p: usize = 0;
-    while p < 256 {
-        let r = record_in(s, p);
-        places[p] = Place { entry: r };
-        p += 1;
-    }
-    places
-}
-
 // What slot k of the journal holds.
 pub fn slot_in(s: &[u8], k: usize) -> Reversal
     requires { ⌜ (bookBytes ≤ length (now s)) × (k < journalSize) ⌝ }
@@ -138,37 +121,30 @@ pub fn slot_in(s: &[u8], k: usize) -> Reversal
     Reversal { place, prior }
 }
 
-fn entries_in(s: &[u8]) -> [Reversal; Journal::SIZE]
+// The journal. Its slots are read into it one by one: no second list of them is made.
+pub fn journal_in(s: &[u8]) -> Journal
     requires { ⌜ bookBytes ≤ length (now s) ⌝ }
-    ensures { λ r. ⌜ r ≡ entriesIn (wordsOf (now (s .entry))) ⌝ }
+    ensures { λ r. ⌜ r ≡ journalIn (wordsOf (now (s .entry))) ⌝ }
 {
     let none = Record::Empty;
     let free = Reversal {
         place: 0,
         prior: none,
     };
-    let mut entries = [free; Journal::SIZE];
+    let next = next_in(s);
+    let count = journal_count_in(s);
+    let mut journal = Journal {
+        entries: [free; Journal::SIZE],
+        next,
+        count,
+    };
     let mut k: usize = 0;
     while k < Journal::SIZE {
         let u = slot_in(s, k);
-        entries[k] = u;
+        journal.entries[k] = u;
         k += 1;
     }
-    entries
-}
-
-pub fn journal_in(s: &[u8]) -> Journal
-    requires { ⌜ bookBytes ≤ length (now s) ⌝ }
-    ensures { λ r. ⌜ r ≡ journalIn (wordsOf (now (s .entry))) ⌝ }
-{
-    let entries = entries_in(s);
-    let next = next_in(s);
-    let count = journal_count_in(s);
-    Journal {
-        entries,
-        next,
-        count,
-    }
+    journal
 }
 
 pub fn matrix_in(s: &[u8]) -> [i64; Normals::ENTRIES]
@@ -180,6 +156,16 @@ pub fn matrix_in(s: &[u8]) -> [i64; Normals::ENTRIES]
     matrix
 }
 
+// Row i of N, counted from 0.
+pub fn row_in(s: &[u8], i: usize) -> [i64; Normals::ROW]
+    requires { ⌜ (bookBytes ≤ length (now s)) × (i < mostUnknowns) ⌝ }
+    ensures { λ r. ⌜ r ≡ wordsAt (now (s .entry)) (8 * (matrixStart + i * mostUnknowns)) mostUnknowns ⌝ }
+{
+    let mut row = [0i64; Normals::ROW];
+    words::read_words(s, 8 * (Layout::MATRIX_START + i * Normals::ROW), &mut row);
+    row
+}
+
 pub fn right_in(s: &[u8]) -> [i64; Normals::ROW]
     requires { ⌜ bookBytes ≤ length (now s) ⌝ }
     ensures { λ r. ⌜ r ≡ bookOf (now (s .entry)) .normals .right ⌝ }
@@ -187,21 +173,4 @@ pub fn right_in(s: &[u8]) -> [i64; Normals::ROW]
     let mut right = [0i64; Normals::ROW];
     words::read_words(s, 8 * Layout::RIGHT_START, &mut right);
     right
-}
-
-pub fn book_in(s: &[u8]) -> Book
-    requires { ⌜ bookBytes ≤ length (now s) ⌝ }
-    ensures { λ r. ⌜ r ≡ bookOf (now (s .entry)) ⌝ }
-{
-    let network = network_in(s);
-    let places = places_of(s);
-    let journal = journal_in(s);
-    let matrix = matrix_in(s);
-    let right = right_in(s);
-    Book {
-        network,
-        places,
-        journal,
-        normals: Normals { matrix, right },
-    }
 }

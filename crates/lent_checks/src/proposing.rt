@@ -4,16 +4,8 @@ use network::Unit;
 ghost use mathlib.Core.Path.{_≡_};
 ghost use mathlib.Core.Bool.{true};
 ghost use Prim.Native.Nat.{_≤_};
-ghost use lib.ListN.{length};
 ghost use Rattle.layout.specs.Bytes.{bookOf, bytesFit};
 ghost use Rattle.lent_checks.specs.Offers.{Offers, OffersLent, lentLengths};
-
-// What the engine works in.
-fn work_room() -> [f64; engine::WORK]
-    ensures { λ r. ⌜ 4608 ≡ length r ⌝ }
-{
-    [0.0; engine::WORK]
-}
 
 // x and m hold n and n·n whole words.
 fn lengths_fit(n: usize, x: &[u8], m: &[u8]) -> bool
@@ -33,8 +25,7 @@ fn propose_words(book: &[u8], n: usize, x: &mut [u8], m: &mut [u8]) -> i64
     let j = m.len() / 8;
     let mut xs = checking::corrections();
     let mut ms = checking::inverse();
-    let mut work = work_room();
-    if !engine::work_out(book, n, &mut xs, &mut ms, &mut work) {
+    if !engine::work_out(book, n, &mut xs, &mut ms) {
         return -1;
     }
     words::write_words(x, 0, &xs[0..i]);

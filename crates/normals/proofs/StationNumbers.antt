@@ -9,11 +9,11 @@ use Rattle.integers.specs.Tables.{getD-tabulate}
 use Rattle.lists.specs.Stored.{stored, back}
 use Rattle.network.specs.declared.Kind.{Kind}
 use Rattle.network.specs.declared.Station.{Station}
-use Rattle.network.specs.Stations.{unknownIn, unknown, number, unknownIndex, stationAt}
+use Rattle.network.specs.Stations.{unknownIn, unknown, number, unknownIndex, unknownTable, indexTable, stationAt}
 use Rattle.network.specs.StationLaws.{bit-in, unknown-bit, unknown-at, number-+1, number-small}
 use Rattle.normals.specs.declared.StationUnknowns.{StationUnknowns}
 use Rattle.normals.specs.Equations.{endIndices, coefs}
-use Rattle.normals.specs.Shares.{numbers, unknowns, unknownsAt}
+use Rattle.normals.specs.Shares.{unknownsAt}
 use Rattle.normals.proofs.Steps.{from-coef}
 
 module _ (st : List Station) (s : ℕ) where
@@ -78,23 +78,23 @@ pub unit-at : (st : List Station) (s : ℕ) (a : StationUnknowns) → a ≡ unkn
 unit-at st s a e k = rw e (unit st s k)
 
 module _ (st : List Station) (f t : ℕ) (hf : f < 32) (ht : t < 32) (a b : StationUnknowns) (p : a ≡ unknownsAt st f) (q : b ≡ unknownsAt st t) where
-  at-is : (i : ℕ) → i < 96 → unknownIndex st i ≡ getD (numbers st) i 0
+  at-is : (i : ℕ) → i < 96 → unknownIndex st i ≡ getD (indexTable st) i 0
   at-is i h = sym (getD-tabulate 96 (unknownIndex st) i 0 h)
 
-  unknown-is : (i : ℕ) → i < 96 → pos (unknown st i) ≡ getD (unknowns st) i (pos 0)
+  unknown-is : (i : ℕ) → i < 96 → pos (unknown st i) ≡ getD (unknownTable st) i (pos 0)
   unknown-is i h = sym (getD-tabulate 96 (λ q. pos (unknown st q)) i (pos 0) h)
 
-  pub ends-are : (getD (a .at) 0 0 ∷ getD (a .at) 1 0 ∷ getD (a .at) 2 0 ∷ getD (b .at) 0 0 ∷ getD (b .at) 1 0 ∷ getD (b .at) 2 0 ∷ []) ≡ endIndices (numbers st) f t
+  pub ends-are : (getD (a .at) 0 0 ∷ getD (a .at) 1 0 ∷ getD (a .at) 2 0 ∷ getD (b .at) 0 0 ∷ getD (b .at) 1 0 ∷ getD (b .at) 2 0 ∷ []) ≡ endIndices (indexTable st) f t
   ends-are =
       rw (p, q)
       (ap₂ _∷_ (at-is (f * 3) (omega arith)) (ap₂ _∷_ (at-is (f * 3 + 1) (omega arith)) (ap₂ _∷_ (at-is (f * 3 + 2) (omega arith))
       (ap₂ _∷_ (at-is (t * 3) (omega arith)) (ap₂ _∷_ (at-is (t * 3 + 1) (omega arith)) (ap₂ _∷_ (at-is (t * 3 + 2) (omega arith)) refl))))))
 
   module _ (g : ℤ) (u : natAbs g ≤ 1) where
-    from : (k i : ℕ) → i < 96 → getD (a .unknown) k (pos 0) ≡ pos (unknown st i) → stored (pos 0 -ℤ stored (stored g *ℤ stored (getD (a .unknown) k (pos 0)))) ≡ pos 0 -ℤ g *ℤ getD (unknowns st) i (pos 0)
+    from : (k i : ℕ) → i < 96 → getD (a .unknown) k (pos 0) ≡ pos (unknown st i) → stored (pos 0 -ℤ stored (stored g *ℤ stored (getD (a .unknown) k (pos 0)))) ≡ pos 0 -ℤ g *ℤ getD (unknownTable st) i (pos 0)
     from k i h e = from-coef g (getD (a .unknown) k (pos 0)) u (unit-at st f a p k) ∙ ap (λ (z : ℤ). pos 0 -ℤ g *ℤ z) (e ∙ unknown-is i h)
 
-    to : (k i : ℕ) → i < 96 → getD (b .unknown) k (pos 0) ≡ pos (unknown st i) → stored (getD (b .unknown) k (pos 0)) ≡ getD (unknowns st) i (pos 0)
+    to : (k i : ℕ) → i < 96 → getD (b .unknown) k (pos 0) ≡ pos (unknown st i) → stored (getD (b .unknown) k (pos 0)) ≡ getD (unknownTable st) i (pos 0)
     to k i h e = back (getD (b .unknown) k (pos 0)) (unit-at st t b q k) tt ∙ e ∙ unknown-is i h
 
     abbrev coefAt : ℕ → ℤ
@@ -103,7 +103,7 @@ module _ (st : List Station) (f t : ℕ) (hf : f < 32) (ht : t < 32) (a b : Stat
     abbrev unknownAt : ℕ → ℤ
     unknownAt k = stored (getD (b .unknown) k (pos 0))
 
-    pub coefs-are : (coefAt 0 ∷ coefAt 1 ∷ coefAt 2 ∷ unknownAt 0 ∷ unknownAt 1 ∷ unknownAt 2 ∷ []) ≡ coefs (unknowns st) g f t
+    pub coefs-are : (coefAt 0 ∷ coefAt 1 ∷ coefAt 2 ∷ unknownAt 0 ∷ unknownAt 1 ∷ unknownAt 2 ∷ []) ≡ coefs (unknownTable st) g f t
     coefs-are =
         let x : (k : ℕ) → getD (a .unknown) k (pos 0) ≡ getD (unknownsAt st f .unknown) k (pos 0) = λ k. ap (λ (z : StationUnknowns). getD (z .unknown) k (pos 0)) p in
         let y : (k : ℕ) → getD (b .unknown) k (pos 0) ≡ getD (unknownsAt st t .unknown) k (pos 0) = λ k. ap (λ (z : StationUnknowns). getD (z .unknown) k (pos 0)) q in

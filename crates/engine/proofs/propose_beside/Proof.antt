@@ -11,24 +11,40 @@ use denote.Ref.{now}
 use lib.ListN.{length, take}
 use lib.IntN.{ℤ}
 use Rattle.layout.specs.Bytes.{bookOf}
+use Rattle.layout.specs.CodecLaws.{fits-room}
 use Rattle.checks.specs.Checks.{checked}
 use Rattle.engine.proofs.propose_beside.Statement.{statement}
 use Rattle.engine.proofs.propose_beside.Tie as tie
 
-slice-aggregate-work-out : tie.Need-slice-aggregate-work-out
-slice-aggregate-work-out c = search needs
+slice-aggregate-candidate : tie.Need-slice-aggregate-candidate
+slice-aggregate-candidate c = search needs
 
-slice-aggregate-work-out-2 : tie.Need-slice-aggregate-work-out-2
-slice-aggregate-work-out-2 c = search needs
+slice-aggregate-candidate-2 : tie.Need-slice-aggregate-candidate-2
+slice-aggregate-candidate-2 c = search needs
 
-work-out-requires : tie.Need-work-out-requires
-work-out-requires c κs = search needs
+candidate-requires : tie.Need-candidate-requires
+candidate-requires c κs = let g = c .before .before .before .before .before .pre in omega (arith, fits-room _ (g .0), g .1)
 
 same-length : tie.Need-same-length
 same-length c = search needs
 
 returns : tie.Need-returns
 returns c = search needs
+
+slice-aggregate-is-accepted : tie.Need-slice-aggregate-is-accepted
+slice-aggregate-is-accepted c = search needs
+
+slice-aggregate-is-accepted-2 : tie.Need-slice-aggregate-is-accepted-2
+slice-aggregate-is-accepted-2 c = search needs
+
+is-accepted-requires : tie.Need-is-accepted-requires
+is-accepted-requires c κs = search needs
+
+same-length-2 : tie.Need-same-length-2
+same-length-2 c = search needs
+
+returns-2 : tie.Need-returns-2
+returns-2 c = search needs
 
 sub-copy : tie.Need-sub-copy
 sub-copy c = search needs
@@ -49,13 +65,10 @@ part-copy-start-2 : tie.Need-part-copy-start-2
 part-copy-start-2 c = search needs
 
 part-copy-end-2 : tie.Need-part-copy-end-2
-part-copy-end-2 c = let s = c .before .before .before .before .before .before .before .before .before .before .before .before .before .before .before .before .before in omega (arith, s .pre .1 .2, mul-le-mul (s .pre .1 .0) (s .pre .1 .0))
+part-copy-end-2 c = let s = c .before .before .before .before .before .before .before .before .before .before .before .before .before .before .before .before .before .before .before .before .before in omega (arith, s .pre .1 .2, mul-le-mul (s .pre .1 .0) (s .pre .1 .0))
 
 copy-requires-2 : tie.Need-copy-requires-2
 copy-requires-2 c κs = search needs
-
-same-length-2 : tie.Need-same-length-2
-same-length-2 c = search needs
 
 same-length-3 : tie.Need-same-length-3
 same-length-3 c = search needs
@@ -63,28 +76,36 @@ same-length-3 c = search needs
 same-length-4 : tie.Need-same-length-4
 same-length-4 c = search needs
 
-returns-2 : tie.Need-returns-2
-returns-2 c =
+same-length-5 : tie.Need-same-length-5
+same-length-5 c = search needs
+
+returns-3 : tie.Need-returns-3
+returns-3 c =
     let y = c .before in
     let x = y .before .before .before .before .before in
     let e = x .before .before .before .before in
-    let w = e .before .before .before .before .before in
+    let w = e .before .before .before .before .before .before .before .before .before in
     let s = w .before .before .before .before .before .before in
-    let f = w .work-out .last in
+    let f = w .candidate .last in
     ap₂ (λ (p q : List ℤ). checked (bookOf (now (s .args .s))) p q true)
     (x .copy .ensures ∙ ap (λ (i : ℕ). take i (f .1 .1 .0)) (sub-zero (s .args .n)))
     (y .copy2 .ensures ∙ ap (λ (j : ℕ). take j (f .1 .1 .1 .0)) (sub-zero (length (now (s .args .m))) ∙ s .pre .1 .2))
-    ∙ w .work-out .ensures (not-false _ (e .if1 .left))
+    ∙ e .before .is-accepted .ensures (not-false _ (e .if2 .left))
 
 pub propose-beside-spec : {M : Type 1} → statement M
 propose-beside-spec =
     tie.close
     (tie.spec
-    slice-aggregate-work-out
-    slice-aggregate-work-out-2
-    work-out-requires
+    slice-aggregate-candidate
+    slice-aggregate-candidate-2
+    candidate-requires
     same-length
     returns
+    slice-aggregate-is-accepted
+    slice-aggregate-is-accepted-2
+    is-accepted-requires
+    same-length-2
+    returns-2
     sub-copy
     part-copy-start
     part-copy-end
@@ -93,7 +114,7 @@ propose-beside-spec =
     part-copy-start-2
     part-copy-end-2
     copy-requires-2
-    same-length-2
     same-length-3
     same-length-4
-    returns-2)
+    same-length-5
+    returns-3)

@@ -21,7 +21,7 @@ use Rattle.lent_checks.proofs.proposing.propose_words.Tie as tie
 
 -- the room, and what it holds where a pair was worked out
 abbrev start : tie.After-work-out → tie.Start
-start w = w .before .before .before .before .before .before .before .before .before .before
+start w = w .before .before .before .before .before .before .before .before
 
 most : (s : tie.Start) → (length (now (s .args .x)) ≤ xBytes) × (length (now (s .args .m)) ≤ mBytes)
 most s = lengths-most (s .args .n) (now (s .args .x)) (now (s .args .m)) (s .pre .1) (s .pre .2)
@@ -29,8 +29,8 @@ most s = lengths-most (s .args .n) (now (s .args .x)) (now (s .args .m)) (s .pre
 room : (w : tie.After-work-out) → (length (now (start w .args .x)) / 8 ≤ length (w .work-out .last .1 .1 .0)) × (length (now (start w .args .m)) / 8 ≤ length (w .work-out .last .1 .1 .1 .0))
 room w =
     let h = most (start w) in
-    let x = w .before .before .before .before .before .before .corrections in
-    let m = w .before .before .before .before .before .inverse in
+    let x = w .before .before .before .before .corrections in
+    let m = w .before .before .before .inverse in
     (omega (arith, h .0, w .work-out .kept .1 .1 .0, x .ensures), omega (arith, h .1, w .work-out .kept .1 .1 .1 .0, m .ensures))
 
 corrections-requires : tie.Need-corrections-requires
@@ -39,17 +39,11 @@ corrections-requires c κs = search needs
 inverse-requires : tie.Need-inverse-requires
 inverse-requires c κs = search needs
 
-work-room-requires : tie.Need-work-room-requires
-work-room-requires c κs = search needs
-
 slice-aggregate-work-out : tie.Need-slice-aggregate-work-out
 slice-aggregate-work-out c = search needs
 
 slice-aggregate-work-out-2 : tie.Need-slice-aggregate-work-out-2
 slice-aggregate-work-out-2 c = search needs
-
-slice-aggregate-work-out-3 : tie.Need-slice-aggregate-work-out-3
-slice-aggregate-work-out-3 c = search needs
 
 work-out-requires : tie.Need-work-out-requires
 work-out-requires c κs = search needs
@@ -64,7 +58,7 @@ part-write-words-start : tie.Need-part-write-words-start
 part-write-words-start c = search needs
 
 part-write-words-end : tie.Need-part-write-words-end
-part-write-words-end c = room (c .before .before .before .before .before .before) .0
+part-write-words-end c = room (c .before .before .before .before .before) .0
 
 write-words-requires : tie.Need-write-words-requires
 write-words-requires c κs = search needs
@@ -76,7 +70,7 @@ part-write-words-start-2 : tie.Need-part-write-words-start-2
 part-write-words-start-2 c = search needs
 
 part-write-words-end-2 : tie.Need-part-write-words-end-2
-part-write-words-end-2 c = room (c .before .before .before .before .before .before .before .before .before .before .before .before) .1
+part-write-words-end-2 c = room (c .before .before .before .before .before .before .before .before .before .before .before) .1
 
 write-words-requires-2 : tie.Need-write-words-requires-2
 write-words-requires-2 c κs = search needs
@@ -92,7 +86,7 @@ returns-2 c =
     let y = c .before .before in
     let z = y .before .before .before .before .before .before in
     let e = z .before .before .before .before in
-    let w = e .before .before .before .before in
+    let w = e .before .before .before in
     let s = start w in
     let book = now (s .args .book) in
     let b = bookOf book in
@@ -120,10 +114,8 @@ propose-words-spec =
     (tie.spec
     corrections-requires
     inverse-requires
-    work-room-requires
     slice-aggregate-work-out
     slice-aggregate-work-out-2
-    slice-aggregate-work-out-3
     work-out-requires
     returns
     sub-write-words

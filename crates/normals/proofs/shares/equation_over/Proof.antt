@@ -9,7 +9,7 @@ use lib.IntN.{ℤ, pos, natAbs}
 use Rattle.integers.specs.Code.{fit, code-bounds}
 use Rattle.network.specs.Records.{joins-one, misclosures}
 use Rattle.normals.specs.Equations.{endIndices, coefs}
-use Rattle.normals.specs.Shares.{numbers, unknowns}
+use Rattle.network.specs.Stations.{unknownTable, indexTable}
 use Rattle.normals.proofs.StationNumbers.{unit-at, ends-are, coefs-are}
 use Rattle.normals.proofs.shares.equation_over.Statement.{statement}
 use Rattle.normals.proofs.shares.equation_over.Tie as tie
@@ -135,8 +135,8 @@ returns c =
     let to = b .before .to-of .ensures in
     let f : a .before .from-of .result < 32 = let h = s .pre .0 .from in omega arith in
     let t : b .before .to-of .result < 32 = let h = s .pre .0 .to in omega arith in
-    let x = ends-are st _ _ f t (a .unknowns-at .result) (b .unknowns-at2 .result) (a .unknowns-at .ensures) (b .unknowns-at2 .ensures) ∙ ap₂ (endIndices (numbers st)) from to in
-    let y = coefs-are st _ _ f t (a .unknowns-at .result) (b .unknowns-at2 .result) (a .unknowns-at .ensures) (b .unknowns-at2 .ensures) (j .joins-of .result) (joins-unit j) ∙ (λ i. coefs (unknowns st) (j .joins-of .ensures i) (from i) (to i)) in
+    let x = ends-are st _ _ f t (a .unknowns-at .result) (b .unknowns-at2 .result) (a .unknowns-at .ensures) (b .unknowns-at2 .ensures) ∙ ap₂ (endIndices (indexTable st)) from to in
+    let y = coefs-are st _ _ f t (a .unknowns-at .result) (b .unknowns-at2 .result) (a .unknowns-at .ensures) (b .unknowns-at2 .ensures) (j .joins-of .result) (joins-unit j) ∙ (λ i. coefs (unknownTable st) (j .joins-of .ensures i) (from i) (to i)) in
     let m = c .misclosures-of .ensures ∙ ap (λ (l : List ℤ). misclosures l (s .args .r)) (s .pre .1) in
     λ i. record { at = x i; coef = y i; weight = c .before .weights-of .ensures i; misclosure = m i }
 
