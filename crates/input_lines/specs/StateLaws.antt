@@ -31,7 +31,7 @@ use Rattle.input_lines.specs.declared.Given as code-given
 use Rattle.input_lines.specs.declared.State.{State}
 use Rattle.input_lines.specs.declared.LineRead.{LineRead}
 use Rattle.input_lines.specs.Runs.{Phase, opened, ended, Given, given, Run, listRoom, noted, phaseWith, phaseOpened, openingAnswer, openingSays, openRun, beforeLine, beforeLineSays, isUnopened, asked, readAfter, unedited, edits, phaseAfter, givenBy, commandSays, phaseSays, obeyed, next, obeyedSays, says}
-use Rattle.input_lines.specs.States.{phaseOf, givenOf, runOf, unopenedPhase, openedPhase, endedPhase, phaseAt, givenLength, Ready, openedWith, EditLeaves, Noted, givenCount, Reads, RunsTo, LineEnters}
+use Rattle.input_lines.specs.States.{phaseOf, givenOf, runOf, unopenedPhase, openedPhase, endedPhase, phaseAt, givenLength, Ready, openedWith, EditLeaves, Noted, givenCount, Reads, RunsTo, LineBegins}
 
 -- ════ text written after the front of a buffer
 module _ {l t m : List ℕ} {p q : ℕ} (w : Written l p t q m) (room : q ≤ length l) where
@@ -163,7 +163,7 @@ module _ (s : State) (b : Book) (list x m : List ℤ) where
     unfolding phaseOf openingSays
     open-says = rw (unopened-only (s .phase) u, o .number)
 
-  -- a line is entered in this state
+  -- a line begins in this state
   module _ (line : List ℕ) where
     module _ (t : (unopenedPhase (s .phase) && not (isStationLine line)) ≡ true) {before after : List ℕ} {n : ℕ} (o : Opens (take (s .words) list) before n after) where
       u : unopenedPhase (s .phase) ≡ true
@@ -172,27 +172,27 @@ module _ (s : State) (b : Book) (list x m : List ℤ) where
       no-station : isStationLine line ≡ false
       no-station = not-true (isStationLine line) (and-right (unopenedPhase (s .phase)) _ t)
 
-      enter-open : runOf (openedWith s n) (bookOf after) list x m ≡ beforeLine (runOf s b list x m) line
+      begin-open : runOf (openedWith s n) (bookOf after) list x m ≡ beforeLine (runOf s b list x m) line
       unfolding beforeLine
-      enter-open = open-run u o ∙ rw no-station
+      begin-open = open-run u o ∙ rw no-station
 
-      enter-says : openingAnswer n ≡ beforeLineSays (runOf s b list x m) line
+      begin-says : openingAnswer n ≡ beforeLineSays (runOf s b list x m) line
       unfolding beforeLineSays
-      enter-says = open-says u o ∙ rw no-station
+      begin-says = open-says u o ∙ rw no-station
 
     module _ (t : (unopenedPhase (s .phase) && not (isStationLine line)) ≡ false) where
-      enter-stay : runOf s b list x m ≡ beforeLine (runOf s b list x m) line
+      begin-stay : runOf s b list x m ≡ beforeLine (runOf s b list x m) line
       unfolding beforeLine
-      enter-stay = by (isStationLine line) (unopenedPhase (s .phase)) refl t
+      begin-stay = by (isStationLine line) (unopenedPhase (s .phase)) refl t
         where
           by : (i u : Bool) → unopenedPhase (s .phase) ≡ u → (u && not i) ≡ false → runOf s b list x m ≡ cond i (runOf s b list x m) (openRun (runOf s b list x m))
           by true u e q = refl
           by false true e q = let z : true ≡ false = q in cc
           by false false e q = let p = opened-stays (take (s .words) list) (s .phase) b e in rw p
 
-      enter-silent : [] ≡ beforeLineSays (runOf s b list x m) line
+      begin-silent : [] ≡ beforeLineSays (runOf s b list x m) line
       unfolding beforeLineSays
-      enter-silent = by (isStationLine line) (unopenedPhase (s .phase)) refl t
+      begin-silent = by (isStationLine line) (unopenedPhase (s .phase)) refl t
         where
           by : (i u : Bool) → unopenedPhase (s .phase) ≡ u → (u && not i) ≡ false → [] ≡ cond i [] (openingSays (take (s .words) list) (phaseOf (s .phase) b))
           by true u e q = refl
@@ -255,32 +255,32 @@ ready-next {s} {a = a} r d l p q t f =
       fits = λ h. f (rw (d .phase) at h);
     }
 
--- ════ a line entered: the book is opened where it has to be
+-- ════ a line begins: the book is opened where it has to be
 module _ {s : State} {bytes : List ℕ} {list : List ℤ} {line before : List ℕ} {at : ℕ} where
-  pub enters-open :
+  pub begins-open :
       {n : ℕ} {opened : List ℕ} {next : ℕ} {after : List ℕ} →
       (unopenedPhase (s .phase) && not (isStationLine line)) ≡ true →
       Opens (take (s .words) list) bytes n opened →
       length opened ≡ length bytes →
       Written before at (openingAnswer n) next after →
       next ≤ at + refusedRoom →
-      LineEnters s bytes list line before at (openedWith s n) opened next after
-  enters-open t o l w f =
+      LineBegins s bytes list line before at (openedWith s n) opened next after
+  begins-open t o l w f =
       record {
-        runs = λ x m. record { run = enter-open s (bookOf bytes) list x m line t o; written = written-as (enter-says s (bookOf bytes) list x m line t o) w; few = f };
+        runs = λ x m. record { run = begin-open s (bookOf bytes) list x m line t o; written = written-as (begin-says s (bookOf bytes) list x m line t o) w; few = f };
         ready = λ r. ready-open r o l;
         lines = refl;
       }
 
-  pub enters-stay : (unopenedPhase (s .phase) && not (isStationLine line)) ≡ false → LineEnters s bytes list line before at s bytes at before
-  enters-stay t =
+  pub begins-stay : (unopenedPhase (s .phase) && not (isStationLine line)) ≡ false → LineBegins s bytes list line before at s bytes at before
+  begins-stay t =
       record {
-        runs = λ x m. record { run = enter-stay s (bookOf bytes) list x m line t; written = written-as (enter-silent s (bookOf bytes) list x m line t) (nothing before at); few = omega arith };
+        runs = λ x m. record { run = begin-stay s (bookOf bytes) list x m line t; written = written-as (begin-silent s (bookOf bytes) list x m line t) (nothing before at); few = omega arith };
         ready = λ r. r;
         lines = refl;
       }
 
--- ════ a line, once entered: what it asks, leaves and prints
+-- ════ a line, once begun: what it asks, leaves and prints
 module _ (s : State) (b : Book) (list x m : List ℤ) (k : KeptLine) (a : LineRead) (list′ x′ m′ : List ℤ) (rd : Reads s k list x m a list′ x′ m′) (n : ℕ) (after : List ℕ) (ed : EditLeaves (cond (openedPhase (s .phase)) (edits b (a .command)) (unedited b)) n after) where
   asked-is : asked (runOf s b list x m) k ≡ a .command
   asked-is = rw (unopened-is (s .phase) b) (sym (rd .command))
@@ -292,7 +292,7 @@ module _ (s : State) (b : Book) (list x m : List ℤ) (k : KeptLine) (a : LineRe
   said-is : cond (endedPhase (s .phase)) [] (commandSays (a .state .lines) n (a .command)) ≡ obeyedSays (runOf s b list x m) (asked (runOf s b list x m) k)
   said-is = rw (asked-is, rd .lines, ed .number) (message-is (s .phase) b (a .command) (suc (s .lines)))
 
-module _ {s : State} {bytes : List ℕ} {list x m : List ℤ} {k : KeptLine} {before : List ℕ} {at : ℕ} {s₁ : State} {bytes₁ : List ℕ} {p : ℕ} {out : List ℕ} (e : LineEnters s bytes list (k .text) before at s₁ bytes₁ p out) where
+module _ {s : State} {bytes : List ℕ} {list x m : List ℤ} {k : KeptLine} {before : List ℕ} {at : ℕ} {s₁ : State} {bytes₁ : List ℕ} {p : ℕ} {out : List ℕ} (e : LineBegins s bytes list (k .text) before at s₁ bytes₁ p out) where
   pub line-obeyed :
       {a : LineRead} {list′ x′ m′ : List ℤ} {opened ended : Bool} {n : ℕ} {bytes₂ : List ℕ} {q : ℕ} {after : List ℕ} →
       Reads s₁ k list x m a list′ x′ m′ →

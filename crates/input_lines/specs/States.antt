@@ -129,8 +129,8 @@ pub record RunsTo (r′ : Run) (says : List ℕ) (room : ℕ) (before : List ℕ
   pub written : writing.Written before at says next after
   pub few : next ≤ at + room
 
--- a line entered, whatever the corrections and the matrix: the book may be opened
-pub record LineEnters (s : State) (bytes : List ℕ) (list : List ℤ) (line : List ℕ) (before : List ℕ) (at : ℕ) (s₁ : State) (bytes₁ : List ℕ) (next : ℕ) (after : List ℕ) : Type 0 where
+-- a line begins, whatever the corrections and the matrix: the book may be opened
+pub record LineBegins (s : State) (bytes : List ℕ) (list : List ℤ) (line : List ℕ) (before : List ℕ) (at : ℕ) (s₁ : State) (bytes₁ : List ℕ) (next : ℕ) (after : List ℕ) : Type 0 where
   pub runs : (x m : List ℤ) → RunsTo (beforeLine (runOf s (bookOf bytes) list x m) line) (beforeLineSays (runOf s (bookOf bytes) list x m) line) refusedRoom before at (runOf s₁ (bookOf bytes₁) list x m) next after
   pub ready : {x m : List ℤ} → Ready s bytes list x m → Ready s₁ bytes₁ list x m
   pub lines : s₁ .lines ≡ s .lines

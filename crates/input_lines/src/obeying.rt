@@ -1,4 +1,4 @@
-// A line obeyed: entered, which may open the book, read, applied, and answered by its message.
+// A line obeyed: it may open the book, is read, applied, and answered by its message.
 use super::Reached;
 use super::editing;
 use super::opening;
@@ -10,12 +10,12 @@ ghost use Rattle.layout.specs.Bytes.{bookOf};
 ghost use Rattle.layout.specs.Layout.{bookBytes};
 ghost use Rattle.printing.specs.Rooms.{refusedRoom, lineRoom};
 ghost use Rattle.input_lines.specs.Runs.{mostLines, next, says};
-ghost use Rattle.input_lines.specs.States.{runOf, Ready, RunsTo, LineEnters};
+ghost use Rattle.input_lines.specs.States.{runOf, Ready, RunsTo, LineBegins};
 
 // The first line whose first field is not S opens the book, and a refusal is printed.
-fn enter(from: Reached, line: &[u8], list: &[i64], book: &mut [u8], out: &mut [u8]) -> Reached
+fn begin_line(from: Reached, line: &[u8], list: &[i64], book: &mut [u8], out: &mut [u8]) -> Reached
     requires { ⌜ (from .state .words ≤ length (now list)) × (bookBytes ≤ length (now book)) × (from .printed + refusedRoom ≤ length (now out)) ⌝ }
-    ensures { λ r. ⌜ LineEnters (from .state) (now (book .entry)) (now (list .entry)) (now (line .entry)) (now (out .entry)) (from .printed) (r .state) (now (book .exit)) (r .printed) (now (out .exit)) ⌝ }
+    ensures { λ r. ⌜ LineBegins (from .state) (now (book .entry)) (now (list .entry)) (now (line .entry)) (now (out .entry)) (from .printed) (r .state) (now (book .exit)) (r .printed) (now (out .exit)) ⌝ }
 {
     let before = from.state;
     if opening::opens_at(before, line) {
@@ -43,15 +43,15 @@ pub fn obey(
     ensures { λ r. ⌜ RunsTo (next (runOf (from .state) (bookOf (now (book .entry))) (now (list .entry)) (now (x .entry)) (now (m .entry))) (record { text = now (line .entry); over = over })) (says (runOf (from .state) (bookOf (now (book .entry))) (now (list .entry)) (now (x .entry)) (now (m .entry))) (record { text = now (line .entry); over = over })) lineRoom (now (out .entry)) (from .printed) (runOf (r .state) (bookOf (now (book .exit))) (now (list .exit)) (now (x .exit)) (now (m .exit))) (r .printed) (now (out .exit)) ⌝ }
     ensures { λ r. ⌜ Ready (r .state) (now (book .exit)) (now (list .exit)) (now (x .exit)) (now (m .exit)) × (r .state .lines ≡ suc (from .state .lines)) ⌝ }
 {
-    let entered = enter(from, line, list, book, out);
-    let before = entered.state;
+    let begun = begin_line(from, line, list, book, out);
+    let before = begun.state;
     let asked = reading::read_line(before, line, over, list, x, m);
     let command = asked.command;
     let number = editing::edit_opened(book, opening::is_opened(before), command);
     let state = asked.state;
     let printed = editing::write_message(
         out,
-        entered.printed,
+        begun.printed,
         opening::is_ended(before),
         state.lines,
         command,

@@ -12,7 +12,7 @@ use Rattle.printing.specs.Reports.{none}
 use Rattle.network.specs.StationWords.{flat}
 use Rattle.input_lines.specs.Runs.{phaseOpened, openingSays, phaseAfter, phaseSays}
 use Rattle.adjustment.specs.Ends.{phaseEnds}
-use Rattle.night_print.specs.Print.{lineEnters, entrySays, lineNext, lineSays, linesNext, linesSay, endPrints, printOf}
+use Rattle.night_print.specs.Print.{runBefore, saysBefore, lineNext, lineSays, linesNext, linesSay, endPrints, printOf}
 
 -- `REFUSED 1`
 REFUSED-1 : List ℕ
@@ -25,5 +25,5 @@ empty-text = refl
 
 -- an empty line is no S line, so it opens; the refusal ends the run, and neither it nor the `U` after it gets a message
 blank-line : printOf (10 ∷ 85 ∷ 10 ∷ []) none ≡ REFUSED-1
-unfolding REFUSED-1 printOf linesAfter linesSay lineSays linesNext lineNext lineEnters entrySays endPrints flat openingSays phaseOpened phaseEnds phaseSays phaseAfter opens wholeStations refusedText decimalIn letterOf before
+unfolding REFUSED-1 printOf linesAfter linesSay lineSays linesNext lineNext runBefore saysBefore endPrints flat openingSays phaseOpened phaseEnds phaseSays phaseAfter opens wholeStations refusedText decimalIn letterOf before
 blank-line = refl

@@ -50,12 +50,12 @@ opensRun r =
       matrix = r .matrix;
     }
 
-unfoldable pub lineEnters : WholeRun → List ℕ → WholeRun
-lineEnters r line = cond (isStationLine line) r (opensRun r)
+unfoldable pub runBefore : WholeRun → List ℕ → WholeRun
+runBefore r line = cond (isStationLine line) r (opensRun r)
 
 -- "A refused opening … prints `REFUSED no` …, and ends"
-unfoldable pub entrySays : WholeRun → List ℕ → List ℕ
-entrySays r line = cond (isStationLine line) [] (openingSays (flat (r .stations)) (r .phase))
+unfoldable pub saysBefore : WholeRun → List ℕ → List ℕ
+saysBefore r line = cond (isStationLine line) [] (openingSays (flat (r .stations)) (r .phase))
 
 -- "An S line later, not numbered in turn from 1, or of another kind letter is unreadable"
 abbrev pub lineAsks : WholeRun → List ℕ → Command
@@ -80,11 +80,11 @@ lineObeyed r line c =
     }
 
 unfoldable pub lineNext : WholeRun → List ℕ → WholeRun
-lineNext r line = lineObeyed (lineEnters r line) line (lineAsks (lineEnters r line) line)
+lineNext r line = lineObeyed (runBefore r line) line (lineAsks (runBefore r line) line)
 
 -- "A refused edit prints `LINE k REFUSED no`, k from 1; any other line `LINE k UNREADABLE`; the run goes on"
 unfoldable pub lineSays : WholeRun → List ℕ → List ℕ
-lineSays r line = entrySays r line ++ phaseSays (lineEnters r line .phase) (suc (lineEnters r line .lines)) (lineAsks (lineEnters r line) line)
+lineSays r line = saysBefore r line ++ phaseSays (runBefore r line .phase) (suc (runBefore r line .lines)) (lineAsks (runBefore r line) line)
 
 -- ════ all lines, and the end
 unfoldable pub linesNext : WholeRun → List (List ℕ) → WholeRun

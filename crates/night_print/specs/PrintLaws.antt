@@ -22,7 +22,7 @@ use Rattle.printing.specs.Reports.{Offer}
 use Rattle.input_lines.specs.Runs.{Phase, unopened, opened, ended, Given, Run, listRoom, start, phaseOpened, openingSays, openRun, beforeLine, beforeLineSays, asked, isUnopened, wordsAfter, readAfter, givenBy, obeyed, next, says, runAfter, saysAll}
 use Rattle.input_lines.specs.Cut.{noted-one, opening-cut}
 use Rattle.adjustment.specs.Ends.{endSays}
-use Rattle.night_print.specs.Print.{WholeRun, atStart, opensRun, lineEnters, entrySays, lineAsks, stationsAfter, lineObeyed, lineNext, lineSays, linesNext, linesSay, endPrints, afterLines}
+use Rattle.night_print.specs.Print.{WholeRun, atStart, opensRun, runBefore, saysBefore, lineAsks, stationsAfter, lineObeyed, lineNext, lineSays, linesNext, linesSay, endPrints, afterLines}
 
 -- ════ what is kept of a run
 abbrev pub keptRun : WholeRun → Run
@@ -82,17 +82,17 @@ module _ (read : ℕ) (u : Bool) (line : List ℕ) (part : SolutionPart) (f : Li
 
 -- ════ one line
 module _ (r : WholeRun) (line : List ℕ) where
-  entered-kept : beforeLine (keptRun r) (take longestLine line) ≡ keptRun (lineEnters r line)
-  unfolding beforeLine lineEnters
-  entered-kept = rw (kept-station-line line, opened-cut (flat (r .stations)) (r .phase)) (by (isStationLine line))
+  before-kept : beforeLine (keptRun r) (take longestLine line) ≡ keptRun (runBefore r line)
+  unfolding beforeLine runBefore
+  before-kept = rw (kept-station-line line, opened-cut (flat (r .stations)) (r .phase)) (by (isStationLine line))
     where
       by : (t : Bool) → cond t (keptRun r) (keptRun (opensRun r)) ≡ keptRun (cond t r (opensRun r))
       by true = refl
       by false = refl
 
-  entering-kept : beforeLineSays (keptRun r) (take longestLine line) ≡ entrySays r line
-  unfolding beforeLineSays entrySays
-  entering-kept = rw (kept-station-line line, says-cut (flat (r .stations)) (r .phase))
+  says-before-kept : beforeLineSays (keptRun r) (take longestLine line) ≡ saysBefore r line
+  unfolding beforeLineSays saysBefore
+  says-before-kept = rw (kept-station-line line, says-cut (flat (r .stations)) (r .phase))
 
   obeyed-kept : obeyed (keptRun r) (kept longestLine line) (asked (keptRun r) (kept longestLine line)) ≡ keptRun (lineObeyed r line (lineAsks r line))
   obeyed-kept =
@@ -106,12 +106,12 @@ module _ (r : WholeRun) (line : List ℕ) where
 
 next-kept : (r : WholeRun) (line : List ℕ) → next (keptRun r) (kept longestLine line) ≡ keptRun (lineNext r line)
 unfolding next lineNext
-next-kept r line = rw (entered-kept r line) (obeyed-kept (lineEnters r line) line)
+next-kept r line = rw (before-kept r line) (obeyed-kept (runBefore r line) line)
 
 says-kept : (r : WholeRun) (line : List ℕ) → says (keptRun r) (kept longestLine line) ≡ lineSays r line
 unfolding says lineSays
 says-kept r line =
-    rw (entering-kept r line, entered-kept r line, kept-command (length (lineEnters r line .stations)) (isUnopened (lineEnters r line .phase)) line)
+    rw (says-before-kept r line, before-kept r line, kept-command (length (runBefore r line .stations)) (isUnopened (runBefore r line .phase)) line)
 
 -- ════ all lines, and the end
 run-kept : (r : WholeRun) (lines : List (List ℕ)) → runAfter (keptRun r) (map (kept longestLine) lines) ≡ keptRun (linesNext r lines)

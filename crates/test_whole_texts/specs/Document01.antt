@@ -47,7 +47,7 @@ use Rattle.printing.specs.SheetTextLaws.{global-room}
 use Rattle.printing.specs.Reports.{Offer, answerSays, checkSays}
 use Rattle.input_lines.specs.Runs.{unopened, opened, Given, none, given, phaseOpened, openingSays, isUnopened, edits, phaseAfter, givenBy, commandSays, phaseSays}
 use Rattle.adjustment.specs.Ends.{bookEnds, phaseEnds}
-use Rattle.night_print.specs.Print.{WholeRun, atStart, lineEnters, entrySays, stationsAfter, lineNext, lineSays, linesNext, linesSay, endPrints, printOf}
+use Rattle.night_print.specs.Print.{WholeRun, atStart, runBefore, saysBefore, stationsAfter, lineNext, lineSays, linesNext, linesSay, endPrints, printOf}
 
 -- ════ the input, line by line
 -- `S 1 K 0 0 100000`
@@ -131,11 +131,11 @@ stationsRead = record { stations = stations; lines = 2; phase = unopened; correc
 
 module _ (more : List (List ℕ)) where
   read-next : linesNext atStart (STATION-1 ∷ STATION-2 ∷ more) ≡ linesNext stationsRead more
-  unfolding stations STATION-1 STATION-2 linesNext lineNext lineEnters stationsAfter phaseAfter isUnopened brings commandOf fieldsCommand stationOf numberedInTurn stationOfKind exactly letterOf restFields fieldsOf before numbersIn numberIn signedOf isDecimal allDigits valueAfter
+  unfolding stations STATION-1 STATION-2 linesNext lineNext runBefore stationsAfter phaseAfter isUnopened brings commandOf fieldsCommand stationOf numberedInTurn stationOfKind exactly letterOf restFields fieldsOf before numbersIn numberIn signedOf isDecimal allDigits valueAfter
   read-next = refl
 
   read-says : linesSay atStart (STATION-1 ∷ STATION-2 ∷ more) ≡ linesSay stationsRead more
-  unfolding stations STATION-1 STATION-2 linesSay lineSays lineNext lineEnters entrySays stationsAfter phaseAfter phaseSays commandSays isUnopened brings commandOf fieldsCommand stationOf numberedInTurn stationOfKind exactly letterOf restFields fieldsOf before numbersIn numberIn signedOf isDecimal allDigits valueAfter
+  unfolding stations STATION-1 STATION-2 linesSay lineSays lineNext runBefore saysBefore stationsAfter phaseAfter phaseSays commandSays isUnopened brings commandOf fieldsCommand stationOf numberedInTurn stationOfKind exactly letterOf restFields fieldsOf before numbersIn numberIn signedOf isDecimal allDigits valueAfter
   read-says = refl
 
 -- ════ the other lines, on an opened book b
@@ -152,8 +152,8 @@ call2 = Edit (pos 2) (Add (level 1100))
 module _ (b : Book) where
   -- the first H line opens
   module _ (o : phaseOpened (flat stations) unopened ≡ opened b) (s : openingSays (flat stations) unopened ≡ []) where
-    line-opens : lineEnters stationsRead HEIGHT-1 ≡ lineEnters (withBook b 2 none none) HEIGHT-1
-    unfolding lineEnters phaseOpened HEIGHT-1 letterOf before
+    line-opens : runBefore stationsRead HEIGHT-1 ≡ runBefore (withBook b 2 none none) HEIGHT-1
+    unfolding runBefore phaseOpened HEIGHT-1 letterOf before
     line-opens = rw o
 
     opened-next : linesNext stationsRead editLines ≡ linesNext (withBook b 2 none none) editLines
@@ -161,16 +161,16 @@ module _ (b : Book) where
     opened-next = rw line-opens
 
     opened-says : linesSay stationsRead editLines ≡ linesSay (withBook b 2 none none) editLines
-    unfolding editLines linesSay lineSays lineNext entrySays openingSays HEIGHT-1 letterOf before
+    unfolding editLines linesSay lineSays lineNext saysBefore openingSays HEIGHT-1 letterOf before
     opened-says = rw (s, line-opens)
 
   edits-next : linesNext (withBook b 2 none none) editLines ≡ withBook (bookNext (bookNext b call1) call2) 6 (given (xOf firstCase)) (given (mOf firstCase))
-  unfolding editLines HEIGHT-1 HEIGHT-2 CORRECTIONS MATRIX linesNext lineNext lineEnters stationsAfter phaseOpened phaseAfter edits isUnopened brings givenBy countedAs atMost commandOf fieldsCommand otherOf added entryOf exactly letterOf restFields fieldsOf before numbersIn numberIn signedOf isDecimal allDigits valueAfter
+  unfolding editLines HEIGHT-1 HEIGHT-2 CORRECTIONS MATRIX linesNext lineNext runBefore stationsAfter phaseOpened phaseAfter edits isUnopened brings givenBy countedAs atMost commandOf fieldsCommand otherOf added entryOf exactly letterOf restFields fieldsOf before numbersIn numberIn signedOf isDecimal allDigits valueAfter
   edits-next = refl
 
   -- where neither call is refused, nothing is printed
   edits-say : bookSays b call1 ≡ 0 → bookSays (bookNext b call1) call2 ≡ 0 → linesSay (withBook b 2 none none) editLines ≡ []
-  unfolding editLines HEIGHT-1 HEIGHT-2 CORRECTIONS MATRIX linesSay lineSays lineNext lineEnters entrySays stationsAfter phaseOpened openingSays phaseAfter phaseSays commandSays edits isUnopened brings givenBy countedAs atMost commandOf fieldsCommand otherOf added entryOf exactly letterOf restFields fieldsOf before numbersIn numberIn signedOf isDecimal allDigits valueAfter
+  unfolding editLines HEIGHT-1 HEIGHT-2 CORRECTIONS MATRIX linesSay lineSays lineNext runBefore saysBefore stationsAfter phaseOpened openingSays phaseAfter phaseSays commandSays edits isUnopened brings givenBy countedAs atMost commandOf fieldsCommand otherOf added entryOf exactly letterOf restFields fieldsOf before numbersIn numberIn signedOf isDecimal allDigits valueAfter
   edits-say p q = rw (q, p)
 
   -- X and M are given: the end checks them

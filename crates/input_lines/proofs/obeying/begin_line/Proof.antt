@@ -1,9 +1,9 @@
--- A line that opens leaves the opened book and the state after its answer (`enters-open`); any other leaves all as it came (`enters-stay`). Assumes nothing.
+-- A line that opens leaves the opened book and the state after its answer (`begins-open`); any other leaves all as it came (`begins-stay`). Assumes nothing.
 use borrow.Author.Needs.{needs}
 use mathlib.Core.Path.{sym, _∙_}
-use Rattle.input_lines.specs.StateLaws.{enters-open, enters-stay}
-use Rattle.input_lines.proofs.obeying.enter.Statement.{statement}
-use Rattle.input_lines.proofs.obeying.enter.Tie as tie
+use Rattle.input_lines.specs.StateLaws.{begins-open, begins-stay}
+use Rattle.input_lines.proofs.obeying.begin_line.Statement.{statement}
+use Rattle.input_lines.proofs.obeying.begin_line.Tie as tie
 
 opens-at-requires : tie.Need-opens-at-requires
 opens-at-requires c κs = search needs
@@ -29,13 +29,13 @@ returns c =
     let l = w .before .before .before .before in
     let t = l .before .before in
     let o = l .open-list in
-    rw (c .opened .ensures) (enters-open (sym (t .before .opens-at .ensures) ∙ t .if1 .taken) (o .ensures) (o .kept .1 .1 .0) (w .write-opening .ensures .0) (w .write-opening .ensures .1))
+    rw (c .opened .ensures) (begins-open (sym (t .before .opens-at .ensures) ∙ t .if1 .taken) (o .ensures) (o .kept .1 .1 .0) (w .write-opening .ensures .0) (w .write-opening .ensures .1))
 
 returns-2 : tie.Need-returns-2
-returns-2 c = enters-stay (sym (c .before .opens-at .ensures) ∙ c .if1 .left)
+returns-2 c = begins-stay (sym (c .before .opens-at .ensures) ∙ c .if1 .left)
 
-pub enter-spec : {M : Type 1} → statement M
-enter-spec =
+pub begin-line-spec : {M : Type 1} → statement M
+begin-line-spec =
     tie.close
     (tie.spec
     opens-at-requires
