@@ -10,8 +10,8 @@
  * What the caller owes, since C cannot promise it: no pointer is null, also at length 0; slices given to one call do not overlap; each is as long as its length says.
  * Nothing else: every call answers every input. A refused call writes nothing at all.
  *
- * The calls keep no state and allocate nothing, so they are re-entrant: threads may call at the same time, on books of their own. One book has one writer at a time (open, add,
- * replace, strike and undo write), and nobody reads it meanwhile; calls that only read may share it.
+ * The calls keep no state and allocate nothing, so they are re-entrant: threads may call at the same time, on books of their own. One book has one writer at a time (open, enter,
+ * strike and undo write), and nobody reads it meanwhile; calls that only read may share it.
  *
  * A result is refusal + 256 * number. DOMBRELAT_REFUSAL(result) is 0 (done, accepted or agreed) or the refusal's number: DOMBRELAT_ constants below, in words in docs/REFUSALS.md. Where
  * several apply, the lowest number is given, but DOMBRELAT_BAD_BOOK comes before all others, and DOMBRELAT_BAD_DISTANCE before 10 to 16. DOMBRELAT_NUMBER(result) is the number
@@ -33,10 +33,11 @@
 extern "C" {
 #endif
 
-/* The version of this header and of the library that it belongs to. It goes up where an existing call gives another answer. 2: dombrelat_check_sheet leaves records between two known
- * stations out of the square sum, the degrees of freedom and so the global verdict; in 1 they counted. The bytes of a book have a number of their own, that of their layout: it is 1,
- * the book's first word. */
-#define DOMBRELAT_VERSION 2
+/* The version of this header and of the library that it belongs to. It goes up where an existing call gives another answer or is gone. 2: dombrelat_check_sheet leaves records between
+ * two known stations out of the square sum, the degrees of freedom and so the global verdict; in 1 they counted. 3: dombrelat_enter_baseline and dombrelat_enter_height, which fill a
+ * place or overwrite it, stand in place of four calls that added or replaced, and DOMBRELAT_PLACE_EMPTY (7) in place of DOMBRELAT_PLACE_TAKEN. The bytes of a book have a number of
+ * their own, that of their layout: it is 1, the book's first word; books of versions 1 and 2 are read as they are. */
+#define DOMBRELAT_VERSION 3
 
 /* The bytes of a book. A longer slice may be lent: bytes beyond stay. The layout is in docs/BOOK.md; a program needs it only to look inside. */
 #define DOMBRELAT_BOOK_BYTES 56224
@@ -72,7 +73,7 @@ extern "C" {
 #define DOMBRELAT_OUT_OF_RANGE 4      /* an observed component beyond 1,000,000,000; a weight not 1 to 10,000, off the diagonal beyond 10,000 */
 #define DOMBRELAT_BAD_MATRIX 5        /* the weight matrix is not positive definite, or gives a component (E, N or U) a variance above 16 squares of 10 mm */
 #define DOMBRELAT_BAD_MISCLOSURE 6    /* observed minus provisional is beyond 100,000 units (1 m) in a component */
-#define DOMBRELAT_PLACE_TAKEN 7       /* add: the place is filled; replace and strike: it is empty */
+#define DOMBRELAT_PLACE_EMPTY 7       /* strike: the place is empty */
 #define DOMBRELAT_NOTHING_TO_UNDO 8   /* the history is empty */
 #define DOMBRELAT_TOO_LARGE 9         /* a sum beyond 2^62; by the limits of this version it never comes */
 #define DOMBRELAT_BAD_LENGTHS 10      /* x or M is not as long as the book's unknowns ask, or a slice to write on has no room */
@@ -105,22 +106,19 @@ extern "C" {
  * Refusals: 25 (the book bytes are too short), 1 (also where the list's length is not a multiple of 32). */
 int64_t dombrelat_open(const uint8_t *list, size_t list_bytes, uint8_t *book, size_t book_bytes);
 
-/* Fills an empty place (1 to 256) with a baseline: observed differences, to minus from, and the symmetric weight matrix. Refusals: 25, 2, 3, 4, 5, 6, 7. */
-int64_t dombrelat_add_baseline(uint8_t *book, size_t book_bytes, int64_t place, int64_t from, int64_t to, int64_t east, int64_t north, int64_t up,
-                               int64_t ee, int64_t en, int64_t eu, int64_t nn, int64_t nu, int64_t uu);
+/* Enters a baseline at a place (1 to 256), which it fills or overwrites: observed differences, to minus from, and the symmetric weight matrix. A record equal to the one that is there
+ * is entered as any other, and is an edit that can be taken back. Refusals: 25, 2, 3, 4, 5, 6. */
+int64_t dombrelat_enter_baseline(uint8_t *book, size_t book_bytes, int64_t place, int64_t from, int64_t to, int64_t east, int64_t north, int64_t up,
+                                 int64_t ee, int64_t en, int64_t eu, int64_t nn, int64_t nu, int64_t uu);
 
-/* Fills an empty place with a levelled height difference, to minus from. Refusals: 25, 2, 3, 4, 6, 7. */
-int64_t dombrelat_add_height(uint8_t *book, size_t book_bytes, int64_t place, int64_t from, int64_t to, int64_t up, int64_t weight);
-
-/* Changes a filled place. Refusals as for adding. */
-int64_t dombrelat_replace_baseline(uint8_t *book, size_t book_bytes, int64_t place, int64_t from, int64_t to, int64_t east, int64_t north, int64_t up,
-                                   int64_t ee, int64_t en, int64_t eu, int64_t nn, int64_t nu, int64_t uu);
-int64_t dombrelat_replace_height(uint8_t *book, size_t book_bytes, int64_t place, int64_t from, int64_t to, int64_t up, int64_t weight);
+/* The same with a levelled height difference, to minus from. Refusals: 25, 2, 3, 4, 6. */
+int64_t dombrelat_enter_height(uint8_t *book, size_t book_bytes, int64_t place, int64_t from, int64_t to, int64_t up, int64_t weight);
 
 /* Empties a filled place. Refusals: 25, 2, 7. */
 int64_t dombrelat_strike(uint8_t *book, size_t book_bytes, int64_t place);
 
-/* Takes back the latest of the last 64 accepted edits. Refusals: 25, 8. */
+/* Takes back the latest of the last 64 accepted edits: its place holds again what it held before, a record or nothing. An undo right after an edit leaves every byte as it was before
+ * both, but where the history was full: then the oldest of its edits is gone from it. Refusals: 25, 8. */
 int64_t dombrelat_undo(uint8_t *book, size_t book_bytes);
 
 /* Checks corrections x (n words) and M (n·n words by rows: 2^30 times the inverse of the normal matrix), n the book's number of unknowns. 0: accepted, and every correction is

@@ -14,7 +14,7 @@ use Rattle.acceptance.specs.declared.Refusal.{Refusal}
 use Rattle.acceptance.specs.declared.Refusal.the-variants.{Lengths, Untied, Correction, Inverse, Defect, Residual, Refinement, TooLarge}
 
 -- ════ this paper's numbers
--- "10..16 | check | test 1, 2, 3, 4, 5, 6, 7 fails, in that order"; "9 | add, replace, check | an entry of N or u, or T, beyond ±2^62"
+-- "10..16 | check | test 1, 2, 3, 4, 5, 6, 7 fails, in that order"; 9: "an entry of N or u, or T, beyond ±2^62"
 abbrev pub refusalNumber : Refusal → ℕ
 refusalNumber Lengths = 10
 refusalNumber (Untied unknown) = 11

@@ -16,14 +16,13 @@ use Rattle.book.specs.Replay.{Answers}
 pub same-row : (k k′ : ℕ) (p p′ : ℤ) (r r′ : Record) → k ≡ k′ → p ≡ p′ → r ≡ r′ → rowOf k p r ≡ rowOf k′ p′ r′
 same-row k k′ p p′ r r′ e f g = cc
 
--- a number that the code has told from the four
-pub other-row : (k : ℕ) (p : ℤ) (r : Record) → (k ≡ 0 → ⊥) → (k ≡ 1 → ⊥) → (k ≡ 2 → ⊥) → (k ≡ 3 → ⊥) → Nameless ≡ rowOf k p r
+-- a number that the code has told from the three
+pub other-row : (k : ℕ) (p : ℤ) (r : Record) → (k ≡ 0 → ⊥) → (k ≡ 1 → ⊥) → (k ≡ 2 → ⊥) → Nameless ≡ rowOf k p r
 unfolding rowOf
-other-row zero p r w x y z = absurd (w refl)
-other-row (suc zero) p r w x y z = absurd (x refl)
-other-row (suc (suc zero)) p r w x y z = absurd (y refl)
-other-row (suc (suc (suc zero))) p r w x y z = absurd (z refl)
-other-row (suc (suc (suc (suc k)))) p r w x y z = refl
+other-row zero p r x y z = absurd (x refl)
+other-row (suc zero) p r x y z = absurd (y refl)
+other-row (suc (suc zero)) p r x y z = absurd (z refl)
+other-row (suc (suc (suc k))) p r x y z = refl
 
 -- ════ the answer
 pub call-answered : (b : Book) (c : Call) (e : Edited) (a : Answered) → (e ≡ outcome b c) × (sound (e .book) ≡ true) → (a .answer ≡ pos (e .refusal)) × (a .book ≡ e .book)

@@ -53,7 +53,7 @@ edited b p r = withEntry b p r (pushed (b .journal) (record { place = p; prior =
 abbrev pub undone : Book → Book
 undone b = withEntry b (latest (b .journal) .place) (latest (b .journal) .prior) (popped (b .journal))
 
--- "Add fills an empty place. Replace changes a filled one. Strike empties a filled one"
+-- "One "enter" fills or overwrites." "Strike empties a filled one"
 unfoldable pub bookAccepts : Book → Call → Book
 bookAccepts b (Edit p c) = edited b (placeOf p) (puts c)
 bookAccepts b Undo = undone b

@@ -1,9 +1,10 @@
--- Laws of the table: what a call that is not refused has shown, that the table looks at the 256 places alone, and how large its numbers are.
+-- Laws of the table: what a call that is not refused has shown, that the table looks at the 256 places alone, which calls get 7, and how large its numbers are.
 -- Assumes nothing.
 use Prim.Native.Nat.{ℕ, zero, suc, _<_, _≤_}
 use mathlib.Core.Path.{_≡_, refl, ap, _∙_}
 use mathlib.Core.Bool.{Bool, true, false, cond}
 use mathlib.Core.List.{List}
+use mathlib.Core.Logic.{_⊎_, inl, inr, _↔_}
 use native.Mathlib.Omega.{arith}
 use borrow.Author.Tests.{ltb-true}
 use lib.IntN.{ℤ}
@@ -16,10 +17,10 @@ use Rattle.network.specs.declared.Record.{Record}
 use Rattle.normals.specs.Formulas.{entriesFit}
 use Rattle.network.specs.RuleLaws.{record-no-small}
 use Rattle.book.specs.declared.Change.{Change}
-use Rattle.book.specs.declared.Change.the-variants.{Add, Replace, Strike}
+use Rattle.book.specs.declared.Change.the-variants.{Enter, Strike}
 use Rattle.book.specs.declared.Call.{Call}
 use Rattle.book.specs.declared.Call.the-variants.{Edit, Undo}
-use Rattle.book.specs.Calls.{placeOf, first, placeNo, filledNo, emptyNo, undoNo, changed, placesOf, sizeNo, changeNo, callNo, unless}
+use Rattle.book.specs.Calls.{placeOf, first, placeNo, emptyNo, undoNo, changed, placesOf, sizeNo, changeNo, callNo, unless}
 use Rattle.book.specs.PlaceLaws.{changed-ext, placesOf-ext}
 
 -- ════ a number that is 0
@@ -27,11 +28,6 @@ pub first-zero : (m n : ℕ) → first m n ≡ 0 → (m ≡ 0) × (n ≡ 0)
 unfolding first
 first-zero zero n e = (refl, e)
 first-zero (suc m) n e = absurd (let z : suc m ≡ 0 = e in omega arith)
-
-pub first-none : (m : ℕ) → first m 0 ≡ m
-unfolding first
-first-none zero = refl
-first-none (suc m) = refl
 
 -- the second number counts only where the first is 0
 pub first-same : (m n k : ℕ) → (m ≡ 0 → n ≡ k) → first m n ≡ first m k
@@ -60,6 +56,11 @@ unfolding undoNo
 undo-zero zero e = absurd (let z : _≡_ {A = ℕ} 8 0 = e in omega arith)
 undo-zero (suc n) e = omega arith
 
+pub some-undo : (n : ℕ) → 0 < n → undoNo n ≡ 0
+unfolding undoNo
+some-undo zero h = absurd (omega arith)
+some-undo (suc n) h = refl
+
 -- "8 | undo | history empty"
 pub undo-eight : (n : ℕ) → undoNo n ≡ 8 → n ≡ 0
 unfolding undoNo
@@ -72,6 +73,10 @@ none-undo zero e = refl
 none-undo (suc n) e = absurd (let z : suc n ≡ 0 = e in omega arith)
 
 -- ════ a refusal changes nothing
+pub unless-none : {A : Type 0} (n : ℕ) (a b : A) → n ≡ 0 → unless n a b ≡ b
+unfolding unless
+unless-none n a b e = rw e
+
 pub unless-either : {A : Type 0} (P : A → Type 0) (n : ℕ) (a b : A) → P a → (n ≡ 0 → P b) → P (unless n a b)
 unfolding unless
 unless-either P zero a b p q = q refl
@@ -95,14 +100,73 @@ module _ (net : Network) (f g : ℕ → Record) (same : (p : ℕ) → p < 256 �
 
   change-same : (p : ℕ) (c : Change) → p < 256 → changeNo net f p c ≡ changeNo net g p c
   unfolding changeNo
-  change-same p (Add r) h = rw (same p h, size-same p r)
-  change-same p (Replace r) h = rw (same p h, size-same p r)
+  change-same p (Enter r) h = ap (first (recordNo net r)) (size-same p r)
   change-same p Strike h = ap emptyNo (same p h)
 
   pub call-same : (count : ℕ) (c : Call) → callNo net f count c ≡ callNo net g count c
   unfolding callNo
   call-same count (Edit p c) = first-same (placeNo p) _ _ (λ e. change-same (placeOf p) c (place-inside p e))
   call-same count Undo = refl
+
+-- ════ "7 now means a strike of an empty place, nothing else"
+first-is : (m n k : ℕ) → first m n ≡ suc k → (m ≡ suc k) ⊎ ((m ≡ 0) × (n ≡ suc k))
+unfolding first
+first-is zero n k e = inr (refl, e)
+first-is (suc m) n k e = inl e
+
+module _ (net : Network) (at : ℕ → Record) where
+  -- a number that a test gives where it fails is that number or 0
+  place-not-seven : (p : ℤ) → placeNo p ≡ 7 → ⊥
+  unfolding placeNo
+  place-not-seven p e = by (inList 256 p) e
+    where
+      by : (t : Bool) → _≡_ {A = ℕ} (cond t 0 2) 7 → ⊥
+      by true q = absurd (let z : _≡_ {A = ℕ} 0 7 = q in omega arith)
+      by false q = absurd (let z : _≡_ {A = ℕ} 2 7 = q in omega arith)
+
+  size-not-seven : (p : ℕ) (r : Record) → sizeNo net at p r ≡ 7 → ⊥
+  unfolding sizeNo
+  size-not-seven p r e = by (entriesFit (net .stations) (placesOf (changed at p r))) e
+    where
+      by : (t : Bool) → _≡_ {A = ℕ} (cond t 0 9) 7 → ⊥
+      by true q = absurd (let z : _≡_ {A = ℕ} 0 7 = q in omega arith)
+      by false q = absurd (let z : _≡_ {A = ℕ} 9 7 = q in omega arith)
+
+  enter-not-seven : (p : ℕ) (r : Record) → changeNo net at p (Enter r) ≡ 7 → ⊥
+  unfolding changeNo
+  enter-not-seven p r e = by (first-is (recordNo net r) (sizeNo net at p r) 6 e)
+    where
+      by : (recordNo net r ≡ 7) ⊎ ((recordNo net r ≡ 0) × (sizeNo net at p r ≡ 7)) → ⊥
+      by (inl q) = omega (arith, record-no-small net r)
+      by (inr q) = size-not-seven p r (q .1)
+
+  pub seven-strikes : (count : ℕ) (c : Call) → (callNo net at count c ≡ 7) ↔ ((p : ℤ) × (c ≡ Edit p Strike) × (placeNo p ≡ 0) × (isEmpty (at (placeOf p)) ≡ true))
+  unfolding callNo changeNo undoNo emptyNo first
+  seven-strikes count (Edit p (Enter r)) = (
+    (λ e. absurd (by (first-is (placeNo p) _ 6 e))),
+    (λ w. let z : Edit p (Enter r) ≡ Edit (w .0) Strike = w .1 in let k : _≡_ {A = ℕ} 0 1 = cc in absurd (omega arith)),
+  )
+    where
+      by : (placeNo p ≡ 7) ⊎ ((placeNo p ≡ 0) × (changeNo net at (placeOf p) (Enter r) ≡ 7)) → ⊥
+      by (inl q) = place-not-seven p q
+      by (inr q) = enter-not-seven (placeOf p) r (q .1)
+  seven-strikes count (Edit p Strike) = ((λ e. by (first-is (placeNo p) _ 6 e)), (λ w. back w))
+    where
+      empty : (t : Bool) → _≡_ {A = ℕ} (cond t 7 0) 7 → t ≡ true
+      empty true q = refl
+      empty false q = absurd (let z : _≡_ {A = ℕ} 0 7 = q in omega arith)
+
+      by : (placeNo p ≡ 7) ⊎ ((placeNo p ≡ 0) × (emptyNo (at (placeOf p)) ≡ 7)) → (q : ℤ) × (Edit p Strike ≡ Edit q Strike) × (placeNo q ≡ 0) × (isEmpty (at (placeOf q)) ≡ true)
+      by (inl q) = absurd (place-not-seven p q)
+      by (inr q) = (p, refl, q .0, empty (isEmpty (at (placeOf p))) (q .1))
+
+      back : (q : ℤ) × (Edit p Strike ≡ Edit q Strike) × (placeNo q ≡ 0) × (isEmpty (at (placeOf q)) ≡ true) → first (placeNo p) (emptyNo (at (placeOf p))) ≡ 7
+      back (q, e, i, j) = let z : p ≡ q = cc in rw (z, i, j)
+  seven-strikes count Undo = ((λ e. absurd (by count e)), (λ w. let z : Undo ≡ Edit (w .0) Strike = w .1 in let k : _≡_ {A = ℕ} 0 1 = cc in absurd (omega arith)))
+    where
+      by : (n : ℕ) → undoNo n ≡ 7 → ⊥
+      by zero q = absurd (let z : _≡_ {A = ℕ} 8 7 = q in omega arith)
+      by (suc n) q = absurd (let z : _≡_ {A = ℕ} 0 7 = q in omega arith)
 
 -- ════ no number of the table is above 9
 first-small : (m n : ℕ) → m ≤ 9 → n ≤ 9 → first m n ≤ 9
@@ -118,10 +182,6 @@ module _ (net : Network) (at : ℕ → Record) where
   place-small : (p : ℤ) → placeNo p ≤ 9
   unfolding placeNo
   place-small p = cond-small (inList 256 p) 0 2 (omega arith) (omega arith)
-
-  filled-small : (r : Record) → filledNo r ≤ 9
-  unfolding filledNo
-  filled-small r = cond-small (isEmpty r) 0 7 (omega arith) (omega arith)
 
   empty-small : (r : Record) → emptyNo r ≤ 9
   unfolding emptyNo
@@ -141,8 +201,7 @@ module _ (net : Network) (at : ℕ → Record) where
 
   change-small : (p : ℕ) (c : Change) → changeNo net at p c ≤ 9
   unfolding changeNo
-  change-small p (Add r) = first-small _ _ (record-small r) (first-small _ _ (filled-small (at p)) (size-small p r))
-  change-small p (Replace r) = first-small _ _ (record-small r) (first-small _ _ (empty-small (at p)) (size-small p r))
+  change-small p (Enter r) = first-small _ _ (record-small r) (size-small p r)
   change-small p Strike = empty-small (at p)
 
   pub call-small : (count : ℕ) (c : Call) → callNo net at count c ≤ 9

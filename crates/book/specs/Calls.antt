@@ -1,4 +1,4 @@
--- The numbers of document 01's table for the calls that src/lib.rt declares. One table, by which the book and the ledger are both judged:
+-- The numbers of document 01's table, as document 02's request 3 amends it, for the calls that src/lib.rt declares. One table, by which the book and the ledger are both judged:
 -- it goes by the station list, the record at each place (counted from 0), and the number of edits that can be taken back. Assumes nothing.
 use Prim.Native.Nat.{ℕ, zero, suc}
 use mathlib.Core.Bool.{cond}
@@ -16,7 +16,7 @@ use Rattle.network.specs.declared.Record.{Record}
 use Rattle.network.specs.declared.Record.the-variants.{Empty}
 use Rattle.normals.specs.Formulas.{entriesFit}
 use Rattle.book.specs.declared.Change.{Change}
-use Rattle.book.specs.declared.Change.the-variants.{Add, Replace, Strike}
+use Rattle.book.specs.declared.Change.the-variants.{Enter, Strike}
 use Rattle.book.specs.declared.Call.{Call}
 use Rattle.book.specs.declared.Call.the-variants.{Edit, Undo}
 
@@ -33,14 +33,11 @@ unfoldable pub first : ℕ → ℕ → ℕ
 first zero n = n
 first (suc m) n = suc m
 
--- "2 | add, replace, strike | place not 1 to 256"
+-- 2, of an enter or a strike: "place not 1 to 256"
 unfoldable pub placeNo : ℤ → ℕ
 placeNo p = cond (inList placeCount p) 0 2
 
--- "7 | add / replace, strike | place filled / place empty"
-unfoldable pub filledNo : Record → ℕ
-filledNo r = cond (isEmpty r) 0 7
-
+-- "7 now means a strike of an empty place, nothing else."
 unfoldable pub emptyNo : Record → ℕ
 emptyNo r = cond (isEmpty r) 7 0
 
@@ -57,14 +54,13 @@ changed at p r k = cond (eqb k p) r (at k)
 abbrev pub placesOf : (ℕ → Record) → List Place
 placesOf at = tabulate placeCount (λ p. record { entry = at p })
 
--- "9 | add, replace, check | an entry of N or u … beyond ±2^62": of the records with r at place p
+-- 9, of an enter: "an entry of N or u … beyond ±2^62", of the records with r at place p
 unfoldable pub sizeNo : Network → (ℕ → Record) → ℕ → Record → ℕ
 sizeNo net at p r = cond (entriesFit (net .stations) (placesOf (changed at p r))) 0 9
 
--- the number of a change to place p
+-- the number of a change to place p: "One "enter" fills or overwrites", so it does not look at what the place holds
 unfoldable pub changeNo : Network → (ℕ → Record) → ℕ → Change → ℕ
-changeNo net at p (Add r) = first (recordNo net r) (first (filledNo (at p)) (sizeNo net at p r))
-changeNo net at p (Replace r) = first (recordNo net r) (first (emptyNo (at p)) (sizeNo net at p r))
+changeNo net at p (Enter r) = first (recordNo net r) (sizeNo net at p r)
 changeNo net at p Strike = emptyNo (at p)
 
 -- the number of a call
@@ -72,10 +68,9 @@ unfoldable pub callNo : Network → (ℕ → Record) → ℕ → Call → ℕ
 callNo net at count (Edit p c) = first (placeNo p) (changeNo net at (placeOf p) c)
 callNo net at count Undo = undoNo count
 
--- what an accepted change puts at its place: "the record that an add or replacement gives, an empty place for a strike"
+-- what an accepted change puts at its place: the record that an enter gives, "an empty place for a strike"
 unfoldable pub puts : Change → Record
-puts (Add r) = r
-puts (Replace r) = r
+puts (Enter r) = r
 puts Strike = Empty
 
 -- a refused call changes nothing

@@ -1,5 +1,6 @@
 -- Demand 3 of document 01, the statement alone (specs/Demand3Holds.antt proves it). It measures the book by the plain ledger of specs/Ledger.antt:
--- from the book that an accepted opening gives, for every list of calls, with any arguments, refused ones among them. Assumes nothing.
+-- from the book that an accepted opening gives, for every list of calls ("enters, strikes and undos", document 02's request 3), with any arguments,
+-- refused ones among them. Assumes nothing.
 --   openedBook, bookNext, bookSays   specs/Book.antt     the book's calls: what their contracts promise
 --   emptyLedger, ledgerNext, ledgerSays  specs/Ledger.antt   the ledger; standing: its record at a place; ledgerNormals: its N and u, worked out afresh
 --   final, answers                   specs/Run.antt      the state after a run, and the answers along it

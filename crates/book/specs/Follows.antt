@@ -24,7 +24,7 @@ use Rattle.book.specs.PlaceLaws.{changed-same, changed-other, record-set
 use Rattle.book.specs.JournalLaws.{reversals-push, reversals-pop}
 use Rattle.book.specs.CallLaws.{call-same, undo-zero, unless-both}
 use Rattle.book.specs.Sound.{SoundParts}
-use Rattle.book.specs.SoundLaws.{Enters, enters-edit, latest-undoes, sound-edited, sound-undone}
+use Rattle.book.specs.SoundLaws.{MayPut, edit-may-put, latest-undoes, sound-edited, sound-undone}
 use Rattle.book.specs.Opened.{empty-at, sound-opened}
 
 -- ════ the journal against the standing edits: of each of the latest edits it has the place, and what the place held before
@@ -69,7 +69,7 @@ module _ (net : Network) (b : Book) (l : Ledger) (o : Follows net b l) where
       ∙ call-same net (recordAt (b .places)) (standing (l .edits)) (o .holds) (b .journal .count) c
       ∙ ap (λ (n : ℕ). callNo net (standing (l .edits)) n c) (o .counted)
 
-  pub follows-edited : (p : ℕ) (r : Record) → Enters b p r → Follows net (edited b p r) (appended l p r)
+  pub follows-edited : (p : ℕ) (r : Record) → MayPut b p r → Follows net (edited b p r) (appended l p r)
   follows-edited p r n =
       let ps = b .places in
       let inside : p < length ps = let x : length ps ≡ 256 = o .sound .places in let y : p < 256 = n .inside in omega arith in
@@ -114,7 +114,7 @@ module _ (net : Network) (b : Book) (l : Ledger) (o : Follows net b l) where
   pub follows-next : (c : Call) → Follows net (bookNext b c) (ledgerNext net l c)
   unfolding bookAccepts accepted callNo
   follows-next (call.Edit p c) =
-      unless-both (Follows net) (bookSays b (call.Edit p c)) (ledgerSays net l (call.Edit p c)) b _ l _ (says (call.Edit p c)) o (λ e. follows-edited (placeOf p) (puts c) (enters-edit b p c _ _ refl refl e))
+      unless-both (Follows net) (bookSays b (call.Edit p c)) (ledgerSays net l (call.Edit p c)) b _ l _ (says (call.Edit p c)) o (λ e. follows-edited (placeOf p) (puts c) (edit-may-put b p c _ _ refl refl e))
   follows-next call.Undo =
       unless-both (Follows net) (bookSays b call.Undo) (ledgerSays net l call.Undo) b _ l _ (says call.Undo) o (λ e. follows-undone (undo-zero (b .journal .count) e))
 

@@ -1,4 +1,4 @@
--- Document 01's plain ledger, by which demand 3 measures the book: "It is fed the opened station list and each call with its arguments other than
+-- Document 01's plain ledger, which since document 02's request 3 "reads "enters, strikes and undos"", by which demand 3 measures the book: "It is fed the opened station list and each call with its arguments other than
 -- the book, and nothing else." It knows nothing of how a book is kept. Assumes nothing.
 use Prim.Native.Nat.{ℕ, _+_, _-_, min}
 use mathlib.Core.Bool.{cond}
@@ -13,7 +13,7 @@ use Rattle.book.specs.declared.Call.{Call}
 use Rattle.book.specs.declared.Call.the-variants as call
 use Rattle.book.specs.Calls.{historySize, placeOf, placesOf, callNo, puts, unless}
 
--- a standing edit: a place, counted from 0, and what it puts there: "the record that an add or replacement gives, an empty place for a strike"
+-- a standing edit: a place, counted from 0, and what it puts there: the record that an enter gives, "an empty place for a strike"
 pub record StandingEdit : Type 0 where
   pub place : ℕ
   pub puts : Record
@@ -35,7 +35,7 @@ standing (e ∷ l) p = cond (eqb p (e .place)) (e .puts) (standing l p)
 abbrev pub ledgerNormals : Network → Ledger → Normals
 ledgerNormals net l = normalsOf (net .stations) (placesOf (standing (l .edits)))
 
--- "An accepted add, replacement or strike goes to the end of the list; the count rises by one, but not above 64."
+-- an accepted enter or strike "goes to the end of the list; the count rises by one, but not above 64."
 abbrev pub appended : Ledger → ℕ → Record → Ledger
 appended l p r = record { edits = record { place = p; puts = r } ∷ l .edits; count = min (l .count + 1) historySize }
 

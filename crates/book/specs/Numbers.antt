@@ -12,24 +12,22 @@ use Rattle.network.specs.declared.Network.{Network}
 use Rattle.network.specs.declared.Record.{Record}
 use Rattle.book.specs.declared.Book.{Book}
 use Rattle.book.specs.declared.Change.{Change}
-use Rattle.book.specs.declared.Change.the-variants.{Add, Replace, Strike}
+use Rattle.book.specs.declared.Change.the-variants.{Enter, Strike}
 use Rattle.book.specs.declared.Call.the-variants.{Edit}
-use Rattle.book.specs.Calls.{placeOf, first, placeNo, filledNo, emptyNo, changeNo, callNo}
+use Rattle.book.specs.Calls.{placeOf, first, placeNo, emptyNo, changeNo, callNo}
 use Rattle.book.specs.Book.{bookSays}
 use Rattle.book.specs.Sound.{SoundParts}
 use Rattle.book.specs.SizeLaws.{untested}
 
 -- the number of a change to a place that holds q, 9 left out
 unfoldable pub changeNoOf : Network → Record → Change → ℕ
-changeNoOf net q (Add r) = first (recordNo net r) (filledNo q)
-changeNoOf net q (Replace r) = first (recordNo net r) (emptyNo q)
+changeNoOf net q (Enter r) = recordNo net r
 changeNoOf net q Strike = emptyNo q
 
 -- over records by the rules it is that of the table
 pub change-number : (net : Network) (at : ℕ → Record) → networkFits net ≡ true → ((k : ℕ) → recordFits net (at k) ≡ true) → (p : ℕ) (c : Change) → changeNoOf net (at p) c ≡ changeNo net at p c
 unfolding changeNoOf changeNo
-change-number net at g each p (Add r) = untested net at g each p r _ _ refl
-change-number net at g each p (Replace r) = untested net at g each p r _ _ refl
+change-number net at g each p (Enter r) = untested net at g each p r _ refl
 change-number net at g each p Strike = refl
 
 -- so the code's number, of its own list, place, index and record, is the book's

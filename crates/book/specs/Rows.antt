@@ -1,5 +1,5 @@
--- Calls in rows of 14 words: the call (1 add, 2 replace, 3 strike, 4 undo), the place, and the 12 words of a record (network, specs/RecordWords.antt).
--- Words that a call does not use are not looked at. A row whose first word is none of 1 to 4 names no call. Assumes nothing.
+-- Calls in rows of 14 words: the call (1 enter, 2 strike, 3 undo), the place, and the 12 words of a record (network, specs/RecordWords.antt).
+-- Words that a call does not use are not looked at. A row whose first word is none of 1 to 3 names no call. Assumes nothing.
 use Prim.Native.Nat.{ℕ, zero, suc, _+_, _*_}
 use mathlib.Core.List.{List}
 use lib.IntN.{ℤ, pos, negsuc}
@@ -8,7 +8,7 @@ use Rattle.integers.specs.Tables.{tabulate}
 use Rattle.words.specs.Signed.{indexIn}
 use Rattle.network.specs.declared.Record.{Record}
 use Rattle.network.specs.RecordWords.{recordIn}
-use Rattle.book.specs.declared.Change.the-variants.{Add, Replace, Strike}
+use Rattle.book.specs.declared.Change.the-variants.{Enter, Strike}
 use Rattle.book.specs.declared.Call.{Call}
 use Rattle.book.specs.declared.Call.the-variants.{Edit, Undo}
 use Rattle.book.specs.declared.Row.{Row}
@@ -25,15 +25,18 @@ rowSays says s Nameless = negsuc 0
 
 -- ════ rows in words
 unfoldable pub rowOf : ℕ → ℤ → Record → Row
-rowOf zero p r = Names (Edit p (Add r))
-rowOf (suc zero) p r = Names (Edit p (Replace r))
-rowOf (suc (suc zero)) p r = Names (Edit p Strike)
-rowOf (suc (suc (suc zero))) p r = Names Undo
-rowOf (suc (suc (suc (suc k)))) p r = Nameless
+rowOf zero p r = Names (Edit p (Enter r))
+rowOf (suc zero) p r = Names (Edit p Strike)
+rowOf (suc (suc zero)) p r = Names Undo
+rowOf (suc (suc (suc k))) p r = Nameless
+
+-- the calls that a row can name
+abbrev pub rowCalls : ℕ
+rowCalls = 3
 
 -- the row whose first word is at index at
 abbrev pub rowIn : List ℤ → ℕ → Row
-rowIn w at = rowOf (indexIn (getD w at (pos 0)) 4) (getD w (at + 1) (pos 0)) (recordIn w (at + 2))
+rowIn w at = rowOf (indexIn (getD w at (pos 0)) rowCalls) (getD w (at + 1) (pos 0)) (recordIn w (at + 2))
 
 -- the words of a row: the call, the place, and the words of a record that give it
 abbrev pub rowLength : ℕ

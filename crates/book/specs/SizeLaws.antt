@@ -10,10 +10,9 @@ use Rattle.network.specs.declared.Record.{Record}
 use Rattle.normals.specs.Sizes.{never-9}
 use Rattle.book.specs.Calls.{first, changed, placesOf, sizeNo}
 use Rattle.book.specs.PlaceLaws.{changed-each, placesOf-at}
-use Rattle.book.specs.CallLaws.{first-none}
 
 module _ (net : Network) (at : ℕ → Record) (g : networkFits net ≡ true) (each : (p : ℕ) → recordFits net (at p) ≡ true) where
-  -- "9 | add, replace, check | an entry of N or u … beyond ±2^62"
+  -- 9, of an enter: "an entry of N or u … beyond ±2^62"
   pub size-none : (p : ℕ) (r : Record) → recordFits net r ≡ true → sizeNo net at p r ≡ 0
   unfolding sizeNo
   size-none p r fits =
@@ -22,7 +21,7 @@ module _ (net : Network) (at : ℕ → Record) (g : networkFits net ≡ true) (e
       (record { network = g; each = λ k h. ap (recordFits net) (placesOf-at (changed at p r) k h) ∙ changed-each (λ x. recordFits net x ≡ true) at p r k fits (each k) }))
 
   -- a record that is refused is refused before 9 is looked at
-  pub untested : (p : ℕ) (r : Record) (n m : ℕ) → recordNo net r ≡ m → first m n ≡ first m (first n (sizeNo net at p r))
+  pub untested : (p : ℕ) (r : Record) (m : ℕ) → recordNo net r ≡ m → m ≡ first m (sizeNo net at p r)
   unfolding first
-  untested p r n zero e = sym (ap (first n) (size-none p r (accepted-fits net r e)) ∙ first-none n)
-  untested p r n (suc m) e = refl
+  untested p r zero e = sym (size-none p r (accepted-fits net r e))
+  untested p r (suc m) e = refl

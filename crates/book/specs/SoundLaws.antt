@@ -17,10 +17,10 @@ use Rattle.book.specs.declared.Reversal.{Reversal}
 use Rattle.book.specs.declared.Book.{Book}
 use Rattle.book.specs.declared.Edited.{Edited}
 use Rattle.book.specs.declared.Change.{Change}
-use Rattle.book.specs.declared.Change.the-variants.{Add, Replace, Strike}
+use Rattle.book.specs.declared.Change.the-variants.{Enter, Strike}
 use Rattle.book.specs.declared.Call.{Call}
 use Rattle.book.specs.declared.Call.the-variants.{Edit, Undo}
-use Rattle.book.specs.Calls.{placeOf, first, placeNo, changeNo, callNo, changed, puts}
+use Rattle.book.specs.Calls.{placeOf, placeNo, changeNo, callNo, changed, puts}
 use Rattle.book.specs.Journal.{journalSize, reversals, popped, latest}
 use Rattle.book.specs.Book.{edited, undone, bookAccepts, bookSays, bookNext, outcome, undoable}
 use Rattle.network.specs.RuleLaws.{fits-empty, accepted-fits, accepted-filled}
@@ -29,30 +29,24 @@ use Rattle.book.specs.JournalLaws.{reversals-push, reversals-pop, tidy-p
 use Rattle.book.specs.CallLaws.{first-zero, place-inside, empty-zero, undo-zero, unless-either, call-small}
 use Rattle.book.specs.Sound.{SoundParts, Undoes, undoable-first, first-undoable}
 
--- ════ an edit that is not refused
-pub record Enters (b : Book) (p : ℕ) (r : Record) : Type 0 where
+-- ════ an edit that is not refused: r may be put at place p
+pub record MayPut (b : Book) (p : ℕ) (r : Record) : Type 0 where
   pub inside : p < 256
   pub fits : recordFits (b .network) r ≡ true
   pub real : isEmpty r && isEmpty (recordAt (b .places) p) ≡ false
 
-module _ (b : Book) (p : ℕ) (inside : p < 256) where
-  -- by what an add and a replacement have in common
-  enters-record : (r : Record) (n : ℕ) → first (recordNo (b .network) r) n ≡ 0 → Enters b p r
-  enters-record r n e =
-      let y = first-zero (recordNo (b .network) r) n e in
-      record { inside = inside; fits = accepted-fits (b .network) r (y .0); real = and-no-left _ _ (accepted-filled (b .network) r (y .0)) }
+change-may-put : (b : Book) (p : ℕ) → p < 256 → (c : Change) → changeNo (b .network) (recordAt (b .places)) p c ≡ 0 → MayPut b p (puts c)
+unfolding changeNo puts
+change-may-put b p inside (Enter r) e =
+    let y = first-zero (recordNo (b .network) r) _ e in
+    record { inside = inside; fits = accepted-fits (b .network) r (y .0); real = and-no-left _ _ (accepted-filled (b .network) r (y .0)) }
+change-may-put b p inside Strike e =
+    record { inside = inside; fits = fits-empty (b .network); real = and-no-right (isEmpty (puts Strike)) _ (empty-zero (recordAt (b .places) p) e) }
 
-  enters-change : (c : Change) → changeNo (b .network) (recordAt (b .places)) p c ≡ 0 → Enters b p (puts c)
-  unfolding changeNo puts
-  enters-change (Add r) e = enters-record r _ e
-  enters-change (Replace r) e = enters-record r _ e
-  enters-change Strike e =
-      record { inside = inside; fits = fits-empty (b .network); real = and-no-right (isEmpty (puts Strike)) _ (empty-zero (recordAt (b .places) p) e) }
-
--- an edit that the table does not refuse enters its place: what it puts there, where the code has that as r, and the place as i
-pub enters-edit : (b : Book) (p : ℤ) (c : Change) (i : ℕ) (r : Record) → i ≡ placeOf p → r ≡ puts c → bookSays b (Edit p c) ≡ 0 → Enters b i r
+-- what an edit that the table does not refuse puts at its place, where the code has that as r, and the place as i
+pub edit-may-put : (b : Book) (p : ℤ) (c : Change) (i : ℕ) (r : Record) → i ≡ placeOf p → r ≡ puts c → bookSays b (Edit p c) ≡ 0 → MayPut b i r
 unfolding callNo
-enters-edit b p c i r at is e = let x = first-zero (placeNo p) _ e in rw (at, is) (enters-change b (placeOf p) (place-inside p (x .0)) c (x .1))
+edit-may-put b p c i r at is e = let x = first-zero (placeNo p) _ e in rw (at, is) (change-may-put b (placeOf p) (place-inside p (x .0)) c (x .1))
 
 -- ════ no call on a book is answered with a number above 9
 pub refusal-small : (b : Book) (c : Call) (e : Edited) → e ≡ outcome b c → e .refusal ≤ 9
@@ -92,7 +86,7 @@ each-set net l p r h new old k =
     subst (λ (x : Record). recordFits net x ≡ true) (record-set l p r k h) (changed-each (λ x. recordFits net x ≡ true) (recordAt l) p r k new (old k))
 
 module _ (b : Book) (o : SoundParts b) where
-  pub sound-edited : (p : ℕ) (r : Record) → Enters b p r → SoundParts (edited b p r)
+  pub sound-edited : (p : ℕ) (r : Record) → MayPut b p r → SoundParts (edited b p r)
   sound-edited p r n =
       let net = b .network in
       let l = b .places in
@@ -141,5 +135,5 @@ module _ (b : Book) (o : SoundParts b) where
 
   pub sound-next : (c : Call) → SoundParts (bookNext b c)
   unfolding bookAccepts callNo
-  sound-next (Edit p c) = unless-either SoundParts (bookSays b (Edit p c)) b _ o (λ e. sound-edited (placeOf p) (puts c) (enters-edit b p c _ _ refl refl e))
+  sound-next (Edit p c) = unless-either SoundParts (bookSays b (Edit p c)) b _ o (λ e. sound-edited (placeOf p) (puts c) (edit-may-put b p c _ _ refl refl e))
   sound-next Undo = unless-either SoundParts (bookSays b Undo) b _ o (λ e. sound-undone (undo-zero (b .journal .count) e))

@@ -20,7 +20,7 @@ ghost use Rattle.network.specs.Records.{recordAt};
 ghost use Rattle.network.specs.Rules.{recordFits};
 ghost use Rattle.book.specs.Book.{openedBook, opening, withEntry, edited, settled, outcome, sound};
 ghost use Rattle.book.specs.Sound.{SoundParts};
-ghost use Rattle.book.specs.SoundLaws.{Enters};
+ghost use Rattle.book.specs.SoundLaws.{MayPut};
 
 impl Book {
     // No records, nothing to take back.
@@ -89,7 +89,7 @@ impl Book {
 
     // The edit, unless it is refused.
     fn settle(self, n: u64, i: usize, r: Record) -> Edited
-        requires { ⌜ SoundParts self × (n ≡ 0 → Enters self i r) ⌝ }
+        requires { ⌜ SoundParts self × (n ≡ 0 → MayPut self i r) ⌝ }
         ensures { λ e. ⌜ e ≡ settled n self (edited self i r) ⌝ }
     {
         if n == 0 {

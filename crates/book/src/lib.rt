@@ -19,10 +19,9 @@ pub use rows::replay;
 pub use soundness::is_sound;
 pub use soundness::rules_fit;
 
-// What an edit does to its place.
+// What an edit does to its place: it enters a record there, be the place empty or filled, or strikes the record that it holds.
 pub enum Change {
-    Add(Record),
-    Replace(Record),
+    Enter(Record),
     Strike,
 }
 

@@ -1,4 +1,4 @@
-// The numbers of document 01's table for the calls that edit: the lowest wins, 0 is no refusal. No test for 9 is needed: it never comes.
+// The numbers of the table of refusals for the calls that edit: the lowest wins, 0 is no refusal. No test for 9 is needed: it never comes.
 use super::Change;
 use network::Network;
 use network::Record;
@@ -7,8 +7,7 @@ ghost use mathlib.Core.Bool.{true};
 ghost use Prim.Native.Nat.{_≤_};
 ghost use Rattle.network.specs.Units.{mostStations};
 ghost use Rattle.network.specs.Stations.{coordinatesFit};
-ghost use Rattle.network.specs.Rules.{recordNo};
-ghost use Rattle.book.specs.Calls.{first, placeNo, filledNo, emptyNo, puts};
+ghost use Rattle.book.specs.Calls.{first, placeNo, emptyNo, puts};
 ghost use Rattle.book.specs.Numbers.{changeNoOf};
 
 fn first_no(a: u64, b: u64) -> u64
@@ -23,38 +22,20 @@ fn place_no(place: i64) -> u64
     if words::between(place, 1, 256) { 0 } else { 2 }
 }
 
-fn filled_no(r: Record) -> u64
-    ensures { λ n. ⌜ n ≡ filledNo r ⌝ }
-{
-    if network::is_empty(r) { 0 } else { 7 }
-}
-
 fn empty_no(r: Record) -> u64
     ensures { λ n. ⌜ n ≡ emptyNo r ⌝ }
 {
     if network::is_empty(r) { 7 } else { 0 }
 }
 
-// Of a record that an edit gives: the number of its rules, then that of what its place holds.
-fn entry_no(net: Network, r: Record, holds: u64) -> u64
-    requires { ⌜ (net .count ≤ mostStations) × (coordinatesFit (net .stations) ≡ true) ⌝ }
-    ensures { λ n. ⌜ n ≡ first (recordNo net r) holds ⌝ }
-{
-    let rules = network::record_no(net, r);
-    first_no(rules, holds)
-}
-
-// Of a change to a place that holds this.
+// Of a change to a place that holds this: an enter goes by the record that it gives, a strike by what it finds.
 fn change_no(net: Network, change: Change, current: Record) -> u64
     requires { ⌜ (net .count ≤ mostStations) × (coordinatesFit (net .stations) ≡ true) ⌝ }
     ensures { λ n. ⌜ n ≡ changeNoOf net current change ⌝ }
 {
-    let filled = filled_no(current);
-    let empty = empty_no(current);
     match change {
-        Change::Add(r) => entry_no(net, r, filled),
-        Change::Replace(r) => entry_no(net, r, empty),
-        Change::Strike => empty,
+        Change::Enter(r) => network::record_no(net, r),
+        Change::Strike => empty_no(current),
     }
 }
 
@@ -73,8 +54,7 @@ pub fn puts_of(change: Change) -> Record
     ensures { λ r. ⌜ r ≡ puts change ⌝ }
 {
     match change {
-        Change::Add(r) => r,
-        Change::Replace(r) => r,
+        Change::Enter(r) => r,
         Change::Strike => Record::Empty,
     }
 }

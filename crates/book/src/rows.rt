@@ -17,15 +17,17 @@ ghost use Rattle.book.specs.Replay.{Answers, Ran, Replayed};
 // The words in a row.
 const ROW_LENGTH: usize = 14;
 
+// The calls that a row can name.
+const CALLS: usize = 3;
+
 // The row of this number, place and record.
 fn row_of(kind: usize, place: i64, entry: Record) -> Row
     ensures { λ r. ⌜ r ≡ rowOf kind place entry ⌝ }
 {
     match kind {
-        0 => Row::Names(Call::Edit(place, Change::Add(entry))),
-        1 => Row::Names(Call::Edit(place, Change::Replace(entry))),
-        2 => Row::Names(Call::Edit(place, Change::Strike)),
-        3 => Row::Names(Call::Undo),
+        0 => Row::Names(Call::Edit(place, Change::Enter(entry))),
+        1 => Row::Names(Call::Edit(place, Change::Strike)),
+        2 => Row::Names(Call::Undo),
         _ => Row::Nameless,
     }
 }
@@ -37,7 +39,7 @@ fn row_in(calls: &[i64], at: usize) -> Row
 {
     let word = calls[at];
     let place = calls[at + 1];
-    let kind = words::index_in(word, 4);
+    let kind = words::index_in(word, CALLS);
     let entry = network::record_in(calls, at + 2);
     row_of(kind, place, entry)
 }

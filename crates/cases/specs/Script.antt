@@ -12,7 +12,7 @@ use Rattle.lists.specs.All.{allBelow, all-at}
 use Rattle.integers.specs.Tables.{tabulate, getD-tabulate}
 use Rattle.book.specs.declared.Row.{Row}
 use Rattle.book.specs.declared.Row.the-variants.{Names}
-use Rattle.book.specs.declared.Change.the-variants.{Add, Replace}
+use Rattle.book.specs.declared.Change.the-variants.{Enter}
 use Rattle.book.specs.declared.Call.{Call}
 use Rattle.book.specs.declared.Call.the-variants.{Edit, Undo}
 use Rattle.cases.specs.Table.{Case, level, baselineWith, table}
@@ -20,20 +20,20 @@ use Rattle.cases.specs.Cases.{rowsOf, firstCase, caseAt}
 
 unfoldable pub calls : List Call
 calls =
-    Edit (pos 1) (Add (level 1000))
-    ∷ Edit (pos 2) (Add (level 1100))
-    ∷ Edit (pos 2) (Replace (level 1200))
+    Edit (pos 1) (Enter (level 1000))
+    ∷ Edit (pos 2) (Enter (level 1100))
+    ∷ Edit (pos 2) (Enter (level 1200))
     ∷ Undo
-    ∷ Edit (pos 2) (Add (level 1276))
-    ∷ Edit (pos 2) (Add (level 1278))
-    ∷ Edit (pos 3) (Add (level 101000))
-    ∷ Edit (pos 3) (Add (level 101001))
-    ∷ Edit (pos 3) (Add (baselineWith 100))
+    ∷ Edit (pos 2) (Enter (level 1276))
+    ∷ Edit (pos 2) (Enter (level 1278))
+    ∷ Edit (pos 3) (Enter (level 101000))
+    ∷ Edit (pos 3) (Enter (level 101001))
+    ∷ Edit (pos 3) (Enter (baselineWith 100))
     ∷ []
 
 -- the last, and for numbers beyond it
 abbrev pub callAt : ℕ → Call
-callAt c = getD calls c (Edit (pos 3) (Add (baselineWith 99)))
+callAt c = getD calls c (Edit (pos 3) (Enter (baselineWith 99)))
 
 -- the numbers of the cases' calls, and where those of each case start and how many there are
 unfoldable pub callNumbers : List ℕ

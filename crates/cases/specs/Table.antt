@@ -1,10 +1,10 @@
--- Document 01, "Both sides of each line": the lines marked *, as one table. "All start from the network above", that of the night print. Assumes nothing.
+-- Document 01, "Both sides of each line": the lines marked *, as one table; since document 02's request 3 every record is entered. "All start from the network above", that of the night print. Assumes nothing.
 use Prim.Native.Nat.{ℕ, _+_}
 use mathlib.Core.List.{List, [], _∷_, _++_}
 use lib.IntN.{ℤ, pos, negℤ}
 use Rattle.network.specs.Records.{baselineOf, heightOf}
 use Rattle.network.specs.declared.Record.{Record}
-use Rattle.book.specs.declared.Change.the-variants.{Add, Replace}
+use Rattle.book.specs.declared.Change.the-variants.{Enter}
 use Rattle.book.specs.declared.Call.{Call}
 use Rattle.book.specs.declared.Call.the-variants.{Edit, Undo}
 
@@ -29,7 +29,7 @@ baselineWith en = baselineBy (pos en)
 
 -- its two H lines, the second with a difference of the case's own
 abbrev pub printedCalls : ℕ → List Call
-printedCalls difference = Edit (pos 1) (Add (level 1000)) ∷ Edit (pos 2) (Add (level difference)) ∷ []
+printedCalls difference = Edit (pos 1) (Enter (level 1000)) ∷ Edit (pos 2) (Enter (level difference)) ∷ []
 
 -- ════ a case: what is called and checked, and what is expected of it
 pub record Case : Type 0 where
@@ -99,11 +99,11 @@ table =
     ∷ refusedCase (printedCalls 1100) (pos 50) (pos 0) (0 ∷ 0 ∷ []) (level 1000 ∷ level 1100 ∷ []) 14 0 (pos 0)
     -- "No records: 11, unknown 1."
     ∷ refusedCase [] (pos 50) (pos 5368709) [] [] 11 1 (pos 0)
-    -- "Record 2 replaced by 1200: X 50 is refused 16, X 100 accepted with T 2000000."
-    ∷ refusedCase (printedCalls 1100 ++ Edit (pos 2) (Replace (level 1200)) ∷ []) (pos 50) (pos 5368709) (0 ∷ 0 ∷ 0 ∷ []) (level 1000 ∷ level 1200 ∷ []) 16 0 (pos 53687090000)
-    ∷ acceptedCase (printedCalls 1100 ++ Edit (pos 2) (Replace (level 1200)) ∷ []) (0 ∷ 0 ∷ 0 ∷ []) 1200 100 0 2000000
+    -- "Record 2 replaced by 1200", entered over: "X 50 is refused 16, X 100 accepted with T 2000000."
+    ∷ refusedCase (printedCalls 1100 ++ Edit (pos 2) (Enter (level 1200)) ∷ []) (pos 50) (pos 5368709) (0 ∷ 0 ∷ 0 ∷ []) (level 1000 ∷ level 1200 ∷ []) 16 0 (pos 53687090000)
+    ∷ acceptedCase (printedCalls 1100 ++ Edit (pos 2) (Enter (level 1200)) ∷ []) (0 ∷ 0 ∷ 0 ∷ []) 1200 100 0 2000000
     -- "Undo then: X 50 accepted again."
-    ∷ asPrinted (printedCalls 1100 ++ Edit (pos 2) (Replace (level 1200)) ∷ Undo ∷ []) (0 ∷ 0 ∷ 0 ∷ 0 ∷ [])
+    ∷ asPrinted (printedCalls 1100 ++ Edit (pos 2) (Enter (level 1200)) ∷ Undo ∷ []) (0 ∷ 0 ∷ 0 ∷ 0 ∷ [])
     -- "Undo on a new book: 8."
     ∷ refusedCase (Undo ∷ []) (pos 50) (pos 5368709) (8 ∷ []) [] 11 1 (pos 0)
     -- "Record 2 as 1276, X 138: both PASS."
@@ -112,7 +112,7 @@ table =
     ∷ acceptedCase (printedCalls 1278) (0 ∷ 0 ∷ []) 1278 139 1 3864200
     -- "Difference 101000 enters": as a third record, with the solution and the inverse of the three, rounded
     ∷ record {
-      calls = printedCalls 1100 ++ Edit (pos 3) (Add (level 101000)) ∷ [];
+      calls = printedCalls 1100 ++ Edit (pos 3) (Enter (level 101000)) ∷ [];
       x = pos 33367;
       m = pos 3579139;
       answers = 0 ∷ 0 ∷ 0 ∷ [];
@@ -126,12 +126,12 @@ table =
           ++ caseGlobalWords 666000666700 2 4;
     }
     -- "101001 is refused 6", and changes nothing
-    ∷ asPrinted (printedCalls 1100 ++ Edit (pos 3) (Add (level 101001)) ∷ []) (0 ∷ 0 ∷ 6 ∷ [])
+    ∷ asPrinted (printedCalls 1100 ++ Edit (pos 3) (Enter (level 101001)) ∷ []) (0 ∷ 0 ∷ 6 ∷ [])
     -- "Weights 100, 100, 100 with EN 100: 5"
-    ∷ asPrinted (printedCalls 1100 ++ Edit (pos 3) (Add (baselineWith 100)) ∷ []) (0 ∷ 0 ∷ 5 ∷ [])
+    ∷ asPrinted (printedCalls 1100 ++ Edit (pos 3) (Enter (baselineWith 100)) ∷ []) (0 ∷ 0 ∷ 5 ∷ [])
     -- "with EN 99: entered."
     ∷ record {
-      calls = printedCalls 1100 ++ Edit (pos 3) (Add (baselineWith 99)) ∷ [];
+      calls = printedCalls 1100 ++ Edit (pos 3) (Enter (baselineWith 99)) ∷ [];
       x = pos 33;
       m = pos 3579139;
       answers = 0 ∷ 0 ∷ 0 ∷ [];

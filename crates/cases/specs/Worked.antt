@@ -26,7 +26,7 @@ use Rattle.acceptance.specs.declared.Answer.{Answer}
 use Rattle.acceptance.specs.Tests.{lengthsFit, correctionsSmall, inverseSmall, defectSmall, residualSmall, refinementSmall}
 use Rattle.acceptance.specs.Judge.{answerNumber, answerUnknown, judge, judgeNumbers}
 use Rattle.acceptance.specs.Exactly.{answer}
-use Rattle.book.specs.Calls.{placesOf, first, placeNo, filledNo, emptyNo, undoNo, puts, unless}
+use Rattle.book.specs.Calls.{placesOf, first, placeNo, emptyNo, undoNo, puts, unless}
 use Rattle.book.specs.Numbers.{changeNoOf}
 use Rattle.book.specs.Run.{final, answers}
 use Rattle.book.specs.Rows.{rowNext, rowSays}
@@ -88,9 +88,9 @@ unfolding opens stationList wholeStations kindsFit coordinatesFit unknownsFit al
 list-opens = refl
 
 pub all-places : map (casePlaces network) table ≡ map (λ c. filledPlaces (c .records)) table
-unfolding filledPlaces network table final rowNext briefNo changeNoOf puts first placeNo filledNo emptyNo undoNo recordNo recordNoOver endsFit baselineInRange weightsInRange heightInRange minorsPositive adjugateFits matrixFits misclosureFits misclosures misclosureIn observed acts actsOf misclosureAt fromOf toOf indexIn tabulate coordinate coordinateIn allBelow standing accepted unless isEmpty observations
+unfolding filledPlaces network table final rowNext briefNo changeNoOf puts first placeNo emptyNo undoNo recordNo recordNoOver endsFit baselineInRange weightsInRange heightInRange minorsPositive adjugateFits matrixFits misclosureFits misclosures misclosureIn observed acts actsOf misclosureAt fromOf toOf indexIn tabulate coordinate coordinateIn allBelow standing accepted unless isEmpty observations
 all-places = refl
 
 pub all-worked : map (λ c. workedOn network (filledPlaces (c .records)) c) table ≡ map expected table
-unfolding workedOn filledPlaces expected network table final answers rowNext rowSays briefNo changeNoOf puts first placeNo filledNo emptyNo undoNo recordNo recordNoOver endsFit baselineInRange weightsInRange heightInRange minorsPositive adjugateFits matrixFits misclosureFits misclosures misclosureIn observed acts actsOf misclosureAt fromOf toOf indexIn tabulate coordinate coordinateIn allBelow standing accepted unless isEmpty answer sum sumN entryN shareN entryU shareU A isUnknown unknown unknownIn number joins weights judge judgeNumbers lengthsFit correctionsSmall inverseSmall defectSmall residualSmall refinementSmall allTied isTied tiedSet edge firstUntied firstFailing search pass join setOf setBit digit workedOut onAcceptance room lineLength stationLineWords verdictAt recordLineWords stationLinesWords recordLinesWords globalWords sheetWords verdictWord localVerdict globalVerdict chiSquare correction adjusted covariance residual unknownAtEnd inAdjustment weightedSquares shareT T observations shareD isRecord recordCount D observationVariance differenceVariance residualVariance adjugate
+unfolding workedOn filledPlaces expected network table final answers rowNext rowSays briefNo changeNoOf puts first placeNo emptyNo undoNo recordNo recordNoOver endsFit baselineInRange weightsInRange heightInRange minorsPositive adjugateFits matrixFits misclosureFits misclosures misclosureIn observed acts actsOf misclosureAt fromOf toOf indexIn tabulate coordinate coordinateIn allBelow standing accepted unless isEmpty answer sum sumN entryN shareN entryU shareU A isUnknown unknown unknownIn number joins weights judge judgeNumbers lengthsFit correctionsSmall inverseSmall defectSmall residualSmall refinementSmall allTied isTied tiedSet edge firstUntied firstFailing search pass join setOf setBit digit workedOut onAcceptance room lineLength stationLineWords verdictAt recordLineWords stationLinesWords recordLinesWords globalWords sheetWords verdictWord localVerdict globalVerdict chiSquare correction adjusted covariance residual unknownAtEnd inAdjustment weightedSquares shareT T observations shareD isRecord recordCount D observationVariance differenceVariance residualVariance adjugate
 all-worked = refl

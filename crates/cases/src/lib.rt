@@ -49,10 +49,10 @@ fn baseline_with(en: i64) -> Record
     network::baseline_of(1, 2, [0, 0, 1000], [100, en, 0, 100, 0, 100])
 }
 
-fn add(place: i64, entry: Record) -> Call
-    ensures { λ r. ⌜ r ≡ Call.Edit place (Change.Add entry) ⌝ }
+fn enter(place: i64, entry: Record) -> Call
+    ensures { λ r. ⌜ r ≡ Call.Edit place (Change.Enter entry) ⌝ }
 {
-    Call::Edit(place, Change::Add(entry))
+    Call::Edit(place, Change::Enter(entry))
 }
 
 // The calls that the cases make.
@@ -60,16 +60,16 @@ fn call_at(c: usize) -> Call
     ensures { λ r. ⌜ r ≡ callAt c ⌝ }
 {
     match c {
-        0 => add(1, level(1000)),
-        1 => add(2, level(1100)),
-        2 => Call::Edit(2, Change::Replace(level(1200))),
+        0 => enter(1, level(1000)),
+        1 => enter(2, level(1100)),
+        2 => enter(2, level(1200)),
         3 => Call::Undo,
-        4 => add(2, level(1276)),
-        5 => add(2, level(1278)),
-        6 => add(3, level(101000)),
-        7 => add(3, level(101001)),
-        8 => add(3, baseline_with(100)),
-        _ => add(3, baseline_with(99)),
+        4 => enter(2, level(1276)),
+        5 => enter(2, level(1278)),
+        6 => enter(3, level(101000)),
+        7 => enter(3, level(101001)),
+        8 => enter(3, baseline_with(100)),
+        _ => enter(3, baseline_with(99)),
     }
 }
 

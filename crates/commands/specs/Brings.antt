@@ -16,7 +16,7 @@ use Rattle.commands.specs.declared.Entry.{Entry}
 use Rattle.commands.specs.declared.Entry.the-variants as entry
 use Rattle.commands.specs.declared.Command.{Command}
 use Rattle.commands.specs.declared.Command.the-variants.{Station, Call, Corrections, Matrix, Unreadable}
-use Rattle.commands.specs.Commands.{mostCorrections, mostEntries, letter-K, letter-F, letter-V, letter-S, letter-R, letter-D, letter-U, letter-X, letter-M, exactly, entryOf, added, replaced, replaceOf, strikeOf, undoOf, countedAs, correctionsIn, matrixIn, stationOfKind, numberedInTurn, stationOf, otherOf, fieldsCommand, letterIn, keptCommand, correctionsAfter, matrixAfter, Obeys}
+use Rattle.commands.specs.Commands.{mostCorrections, mostEntries, letter-K, letter-F, letter-V, letter-S, letter-R, letter-D, letter-U, letter-X, letter-M, exactly, entryOf, entered, afterR, strikeOf, undoOf, countedAs, correctionsIn, matrixIn, stationOfKind, numberedInTurn, stationOf, otherOf, fieldsCommand, letterIn, keptCommand, correctionsAfter, matrixAfter, Obeys}
 
 -- the two parts of a solution: x, which X lines give, and M, which M lines give
 pub data SolutionPart : Type 0 where
@@ -56,20 +56,15 @@ module _ (part : SolutionPart) where
   cond-none true a b p q = p
   cond-none false a b p q = q
 
-  added-none : (e : Entry) → brings (added e) part ≡ false
-  unfolding added brings
-  added-none (entry.Of p r) = refl
-  added-none entry.Unreadable = refl
+  entered-none : (e : Entry) → brings (entered e) part ≡ false
+  unfolding entered brings
+  entered-none (entry.Of p r) = refl
+  entered-none entry.Unreadable = refl
 
-  replaced-none : (e : Entry) → brings (replaced e) part ≡ false
-  unfolding replaced brings
-  replaced-none (entry.Of p r) = refl
-  replaced-none entry.Unreadable = refl
-
-  replace-none : (fs : List (List ℕ)) → brings (replaceOf fs) part ≡ false
-  unfolding replaceOf brings
-  replace-none [] = refl
-  replace-none (f ∷ fs) = replaced-none (entryOf (letterOf f) fs)
+  after-none : (fs : List (List ℕ)) → brings (afterR fs) part ≡ false
+  unfolding afterR brings
+  after-none [] = refl
+  after-none (f ∷ fs) = entered-none (entryOf (letterOf f) fs)
 
   undo-none : (fs : List (List ℕ)) → brings (undoOf fs) part ≡ false
   unfolding undoOf brings
@@ -95,8 +90,8 @@ module _ (part : SolutionPart) where
   other-none : (letter : ℕ) (fs : List (List ℕ)) → brings (otherOf letter fs) part ≡ false
   unfolding otherOf brings
   other-none letter fs =
-      cond-none (eqb letter letter-R) _ _ (replace-none fs)
-      (cond-none (eqb letter letter-D) _ _ (exactly-none 1 strikeOf (numbersIn fs) (λ v. refl)) (cond-none (eqb letter letter-U) _ _ (undo-none fs) (added-none (entryOf letter fs))))
+      cond-none (eqb letter letter-R) _ _ (after-none fs)
+      (cond-none (eqb letter letter-D) _ _ (exactly-none 1 strikeOf (numbersIn fs) (λ v. refl)) (cond-none (eqb letter letter-U) _ _ (undo-none fs) (entered-none (entryOf letter fs))))
 
 -- ════ what a line brought: the numbers ns stand at the front of the list, or the list is as it was
 pub data Brought (part : SolutionPart) (most : ℕ) (c : Command) (ns : FieldNumbers) (l after : List ℤ) : Type 0 where

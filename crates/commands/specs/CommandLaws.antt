@@ -18,7 +18,7 @@ use Rattle.words.specs.Bools.{clash}
 use Rattle.words.specs.Signed.{eqZ}
 use Rattle.network.specs.declared.Kind.{Kind}
 use Rattle.network.specs.declared.Record.{Record}
-use Rattle.book.specs.declared.Change.the-variants.{Add, Replace}
+use Rattle.book.specs.declared.Change.the-variants.{Enter}
 use Rattle.book.specs.declared.Call.the-variants.{Edit, Undo}
 use Rattle.text.specs.Numbers.{numberIn}
 use Rattle.text.specs.Fields.{firstField, restFields, letterOf, FieldNumbers, numbers, unreadable, numbersIn, atMost, countOf, storedIn, Stored}
@@ -32,7 +32,7 @@ use Rattle.commands.specs.declared.Entry.{Entry}
 use Rattle.commands.specs.declared.Entry.the-variants as entry
 use Rattle.commands.specs.declared.Command.{Command}
 use Rattle.commands.specs.declared.Command.the-variants.{Call, Corrections, Matrix, Unreadable}
-use Rattle.commands.specs.Commands.{letter-S, letter-X, letter-M, longestLine, exactly, levelEntry, entryOf, added, replaced, replaceOf, undoOf, countedAs, correctionsIn, matrixIn, stationWith, stationOfKind, numberedInTurn, stationOf, otherOf, fieldsCommand, letterIn, commandOf, isStationLine, keptCommand, correctionsAfter, matrixAfter, Obeys}
+use Rattle.commands.specs.Commands.{letter-S, letter-X, letter-M, longestLine, exactly, levelEntry, entryOf, entered, afterR, undoOf, countedAs, correctionsIn, matrixIn, stationWith, stationOfKind, numberedInTurn, stationOf, otherOf, fieldsCommand, letterIn, commandOf, isStationLine, keptCommand, correctionsAfter, matrixAfter, Obeys}
 
 -- all of a list is stored over
 sets-all : (out vs : List ℤ) → length vs ≡ length out → sets out 0 vs ≡ vs
@@ -107,35 +107,27 @@ station-bits k v a b c = rw (toZ-ofZ a, toZ-ofZ b, toZ-ofZ c)
 
 -- ════ a record for a place
 module _ (e : Entry) where
-  pub added-of : (place p : ℤ) (r : Record) → e ≡ entry.Of place r → p ≡ place → Call (Edit p (Add r)) ≡ added e
-  unfolding added
-  added-of place p r q s = rw (q, s)
+  pub entered-of : (place p : ℤ) (r : Record) → e ≡ entry.Of place r → p ≡ place → Call (Edit p (Enter r)) ≡ entered e
+  unfolding entered
+  entered-of place p r q s = rw (q, s)
 
-  pub added-none : e ≡ entry.Unreadable → Unreadable ≡ added e
-  unfolding added
-  added-none q = rw q
-
-  pub replaced-of : (place p : ℤ) (r : Record) → e ≡ entry.Of place r → p ≡ place → Call (Edit p (Replace r)) ≡ replaced e
-  unfolding replaced
-  replaced-of place p r q s = rw (q, s)
-
-  pub replaced-none : e ≡ entry.Unreadable → Unreadable ≡ replaced e
-  unfolding replaced
-  replaced-none q = rw q
+  pub entered-none : e ≡ entry.Unreadable → Unreadable ≡ entered e
+  unfolding entered
+  entered-none q = rw q
 
 -- ════ the fields after the first, which ends before e
 module _ (s : List ℕ) (e : ℕ) (is : e ≡ 0 + length (firstField s)) where
   next-field : e < length s → restFields s ≡ firstField (drop (e + 1) s) ∷ restFields (drop (e + 1) s)
   next-field h = some-rest s 0 e is h ∙ first-and-rest (drop (e + 1) s)
 
-  pub replace-none : length s ≤ e → Unreadable ≡ replaceOf (restFields s)
-  unfolding replaceOf
-  replace-none h = rw (no-rest s 0 e is h)
+  pub after-none : length s ≤ e → Unreadable ≡ afterR (restFields s)
+  unfolding afterR
+  after-none h = rw (no-rest s 0 e is h)
 
-  pub replace-some :
-      e < length s → replaced (entryOf (letterOf (firstField (drop (e + 1) s))) (restFields (drop (e + 1) s))) ≡ replaceOf (restFields s)
-  unfolding replaceOf
-  replace-some h = rw (next-field h)
+  pub after-some :
+      e < length s → entered (entryOf (letterOf (firstField (drop (e + 1) s))) (restFields (drop (e + 1) s))) ≡ afterR (restFields s)
+  unfolding afterR
+  after-some h = rw (next-field h)
 
   pub undo-none : length s ≤ e → Call Undo ≡ undoOf (restFields s)
   unfolding undoOf

@@ -10,7 +10,7 @@ use Rattle.words.specs.Signed.{eqZ}
 use Rattle.network.specs.Records.{baselineOf, heightOf}
 use Rattle.network.specs.declared.Kind.{Kind}
 use Rattle.network.specs.declared.Kind.the-variants as kind
-use Rattle.book.specs.declared.Change.the-variants.{Add, Replace, Strike}
+use Rattle.book.specs.declared.Change.the-variants.{Enter, Strike}
 use Rattle.book.specs.declared.Call.the-variants.{Edit, Undo}
 use Rattle.text.specs.Numbers.{numberIn}
 use Rattle.text.specs.Fields.{firstField, restFields, letterOf, FieldNumbers, numbers, unreadable, numbersIn, atMost, storedIn}
@@ -81,19 +81,15 @@ entryOf letter fields =
     cond (eqb letter letter-H) (exactly 5 entry.Unreadable levelEntry (numbersIn fields))
     (cond (eqb letter letter-B) (exactly 12 entry.Unreadable baselineEntry (numbersIn fields)) entry.Unreadable)
 
--- "H or B adds"
-unfoldable pub added : Entry → Command
-added (entry.Of place r) = Call (Edit place (Add r))
-added entry.Unreadable = Unreadable
+-- H or B enters (document 02, request 3: "One "enter" fills or overwrites")
+unfoldable pub entered : Entry → Command
+entered (entry.Of place r) = Call (Edit place (Enter r))
+entered entry.Unreadable = Unreadable
 
--- "R before H or B replaces"
-unfoldable pub replaced : Entry → Command
-replaced (entry.Of place r) = Call (Edit place (Replace r))
-replaced entry.Unreadable = Unreadable
-
-unfoldable pub replaceOf : List (List ℕ) → Command
-replaceOf [] = Unreadable
-replaceOf (f ∷ fs) = replaced (entryOf (letterOf f) fs)
+-- "A line's R then changes nothing": the fields after an R are an H or B and what comes with it, and enter too
+unfoldable pub afterR : List (List ℕ) → Command
+afterR [] = Unreadable
+afterR (f ∷ fs) = entered (entryOf (letterOf f) fs)
 
 -- ════ D, U, X and M
 -- "D and a place strikes"
@@ -148,9 +144,9 @@ stationOf read (n ∷ k ∷ fs) = cond (numberedInTurn read (numberIn n)) (stati
 -- what the first field's letter asks of the others
 unfoldable pub otherOf : ℕ → List (List ℕ) → Command
 otherOf letter fields =
-    cond (eqb letter letter-R) (replaceOf fields)
+    cond (eqb letter letter-R) (afterR fields)
     (cond (eqb letter letter-D) (exactly 1 Unreadable strikeOf (numbersIn fields))
-    (cond (eqb letter letter-U) (undoOf fields) (added (entryOf letter fields))))
+    (cond (eqb letter letter-U) (undoOf fields) (entered (entryOf letter fields))))
 
 -- "An S line later … is unreadable": `unopened` while the station list may go on
 unfoldable pub fieldsCommand : ℕ → Bool → ℕ → List (List ℕ) → Command

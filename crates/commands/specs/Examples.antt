@@ -6,12 +6,12 @@ use Prim.Native.Nat.{ℕ}
 use lib.IntN.{pos}
 use Rattle.network.specs.declared.Kind.the-variants as kind
 use Rattle.network.specs.declared.Record.the-variants as record-of
-use Rattle.book.specs.declared.Change.the-variants.{Add, Replace, Strike}
+use Rattle.book.specs.declared.Change.the-variants.{Enter, Strike}
 use Rattle.book.specs.declared.Call.the-variants.{Edit, Undo}
 use Rattle.text.specs.Before.{before}
 use Rattle.text.specs.Numbers.{allDigits, isDecimal, valueAfter, signedOf, numberIn}
 use Rattle.text.specs.Fields.{fieldsOf, restFields, letterOf, numbersIn, atMost}
-use Rattle.commands.specs.Commands.{exactly, entryOf, added, replaced, replaceOf, undoOf, countedAs, stationOfKind, numberedInTurn, stationOf, otherOf, fieldsCommand, commandOf}
+use Rattle.commands.specs.Commands.{exactly, entryOf, entered, afterR, undoOf, countedAs, stationOfKind, numberedInTurn, stationOf, otherOf, fieldsCommand, commandOf}
 use Rattle.commands.specs.declared.Command.the-variants.{Station, Call, Corrections, Unreadable}
 
 -- `S 2 V 0 0 7`, after one S line
@@ -28,17 +28,17 @@ late : commandOf 1 false (83 ∷ 32 ∷ 50 ∷ 32 ∷ 86 ∷ 32 ∷ 48 ∷ 32 �
 unfolding commandOf fieldsCommand stationOf numberedInTurn stationOfKind exactly letterOf restFields fieldsOf before numbersIn numberIn signedOf isDecimal allDigits valueAfter
 late = refl
 
--- `H 1 1 2 9 3`, and `R` before it
+-- `H 1 1 2 9 3`; `R` before it changes nothing
 level-line : List ℕ
 level-line = 72 ∷ 32 ∷ 49 ∷ 32 ∷ 49 ∷ 32 ∷ 50 ∷ 32 ∷ 57 ∷ 32 ∷ 51 ∷ []
 
-adds : commandOf 2 false level-line ≡ Call (Edit (pos 1) (Add (record-of.Height (record { from = pos 1; to = pos 2; up = pos 9; weight = pos 3 }))))
-unfolding level-line commandOf fieldsCommand otherOf added entryOf exactly letterOf restFields fieldsOf before numbersIn numberIn signedOf isDecimal allDigits valueAfter
-adds = refl
+enters : commandOf 2 false level-line ≡ Call (Edit (pos 1) (Enter (record-of.Height (record { from = pos 1; to = pos 2; up = pos 9; weight = pos 3 }))))
+unfolding level-line commandOf fieldsCommand otherOf entered entryOf exactly letterOf restFields fieldsOf before numbersIn numberIn signedOf isDecimal allDigits valueAfter
+enters = refl
 
-replaces : commandOf 2 false (82 ∷ 32 ∷ level-line) ≡ Call (Edit (pos 1) (Replace (record-of.Height (record { from = pos 1; to = pos 2; up = pos 9; weight = pos 3 }))))
-unfolding level-line commandOf fieldsCommand otherOf replaceOf replaced entryOf exactly letterOf restFields fieldsOf before numbersIn numberIn signedOf isDecimal allDigits valueAfter
-replaces = refl
+enters-after-R : commandOf 2 false (82 ∷ 32 ∷ level-line) ≡ Call (Edit (pos 1) (Enter (record-of.Height (record { from = pos 1; to = pos 2; up = pos 9; weight = pos 3 }))))
+unfolding level-line commandOf fieldsCommand otherOf afterR entered entryOf exactly letterOf restFields fieldsOf before numbersIn numberIn signedOf isDecimal allDigits valueAfter
+enters-after-R = refl
 
 -- `D 7`, `U`, `R D 7`, `R U`, `U `
 strikes : commandOf 2 false (68 ∷ 32 ∷ 55 ∷ []) ≡ Call (Edit (pos 7) Strike)
@@ -49,13 +49,13 @@ undoes : commandOf 2 false (85 ∷ []) ≡ Call Undo
 unfolding commandOf fieldsCommand otherOf undoOf letterOf restFields fieldsOf before
 undoes = refl
 
-no-replaced-strike : commandOf 2 false (82 ∷ 32 ∷ 68 ∷ 32 ∷ 55 ∷ []) ≡ Unreadable
-unfolding commandOf fieldsCommand otherOf replaceOf replaced entryOf letterOf restFields fieldsOf before
-no-replaced-strike = refl
+no-strike-after-R : commandOf 2 false (82 ∷ 32 ∷ 68 ∷ 32 ∷ 55 ∷ []) ≡ Unreadable
+unfolding commandOf fieldsCommand otherOf afterR entered entryOf letterOf restFields fieldsOf before
+no-strike-after-R = refl
 
-no-replaced-undo : commandOf 2 false (82 ∷ 32 ∷ 85 ∷ []) ≡ Unreadable
-unfolding commandOf fieldsCommand otherOf replaceOf replaced entryOf letterOf restFields fieldsOf before
-no-replaced-undo = refl
+no-undo-after-R : commandOf 2 false (82 ∷ 32 ∷ 85 ∷ []) ≡ Unreadable
+unfolding commandOf fieldsCommand otherOf afterR entered entryOf letterOf restFields fieldsOf before
+no-undo-after-R = refl
 
 no-more-fields : commandOf 2 false (85 ∷ 32 ∷ []) ≡ Unreadable
 unfolding commandOf fieldsCommand otherOf undoOf letterOf restFields fieldsOf before
@@ -75,5 +75,5 @@ unfolding commandOf fieldsCommand countedAs atMost letterOf restFields fieldsOf 
 empty-correction = refl
 
 empty-line : commandOf 2 false [] ≡ Unreadable
-unfolding commandOf fieldsCommand otherOf added entryOf letterOf restFields fieldsOf before
+unfolding commandOf fieldsCommand otherOf entered entryOf letterOf restFields fieldsOf before
 empty-line = refl

@@ -14,7 +14,7 @@ pub const LONGEST_LINE: usize = 50_000;
 pub enum Command {
     // S: the next station of the list
     Station(Station),
-    // H or B, R before H or B, D: an edit; U: an undo
+    // H or B, with or without R before it: an enter; D: a strike; U: an undo
     Call(Call),
     // X: so many corrections
     Corrections(usize),

@@ -14,7 +14,7 @@ ghost use lib.IntN.{pos};
 ghost use lib.ListN.{length, drop};
 ghost use Rattle.words.specs.Signed.{eqZ};
 ghost use Rattle.text.specs.Fields.{firstField, restFields, letterOf, numbersIn, storedIn};
-ghost use Rattle.commands.specs.Commands.{mostCorrections, mostEntries, exactly, levelEntry, baselineEntry, entryOf, added, replaced, replaceOf, strikeOf, undoOf};
+ghost use Rattle.commands.specs.Commands.{mostCorrections, mostEntries, exactly, levelEntry, baselineEntry, entryOf, entered, afterR, strikeOf, undoOf};
 ghost use Rattle.commands.specs.Commands.{countedAs, correctionsIn, matrixIn, stationWith, stationOfKind, stationOf, otherOf, letterIn, isStationLine, Obeys};
 ghost use Rattle.commands.specs.declared.Entry.the-variants as entry;
 ghost use Rattle.commands.specs.declared.Command.the-variants as command;
@@ -70,32 +70,24 @@ fn entry_at(line: &[u8], from: usize) -> Entry
     Entry::Unreadable
 }
 
-fn add(e: Entry) -> Command
-    ensures { λ r. ⌜ r ≡ added e ⌝ }
+fn enter(e: Entry) -> Command
+    ensures { λ r. ⌜ r ≡ entered e ⌝ }
 {
     match e {
-        Entry::Of(place, of) => Command::Call(Call::Edit(place, Change::Add(of))),
+        Entry::Of(place, of) => Command::Call(Call::Edit(place, Change::Enter(of))),
         Entry::Unreadable => Command::Unreadable,
     }
 }
 
-fn replace(e: Entry) -> Command
-    ensures { λ r. ⌜ r ≡ replaced e ⌝ }
-{
-    match e {
-        Entry::Of(place, of) => Command::Call(Call::Edit(place, Change::Replace(of))),
-        Entry::Unreadable => Command::Unreadable,
-    }
-}
-
-fn replace_line(line: &[u8]) -> Command
-    ensures { λ r. ⌜ r ≡ replaceOf (restFields (now (line .entry))) ⌝ }
+// A line whose first field is R: the record that the fields after it give, as if they stood alone.
+fn after_r(line: &[u8]) -> Command
+    ensures { λ r. ⌜ r ≡ afterR (restFields (now (line .entry))) ⌝ }
 {
     let end = text::field_end(line, 0);
     if line.len() <= end {
         return Command::Unreadable;
     }
-    replace(entry_at(line, end + 1))
+    enter(entry_at(line, end + 1))
 }
 
 fn strike_line(line: &[u8]) -> Command
@@ -225,7 +217,7 @@ fn other_line(line: &[u8], letter: u8) -> Command
     ensures { λ r. ⌜ r ≡ otherOf letter (restFields (now (line .entry))) ⌝ }
 {
     if letter == b'R' {
-        return replace_line(line);
+        return after_r(line);
     }
     if letter == b'D' {
         return strike_line(line);
@@ -233,7 +225,7 @@ fn other_line(line: &[u8], letter: u8) -> Command
     if letter == b'U' {
         return undo_line(line);
     }
-    add(entry_at(line, 0))
+    enter(entry_at(line, 0))
 }
 
 // What a line asks, after `read` S lines; `over` where it was cut. The numbers of an X or M line go to the front of x or m.

@@ -1,4 +1,4 @@
--- Demand 3 once more, over bytes, the statement alone (specs/Demand3Holds.antt proves it): any run of C edit calls, each given the bytes that
+-- Demand 3 once more, over bytes, the statement alone (specs/Demand3Holds.antt proves it): any run of C enters, strikes and undos, each given the bytes that
 -- the call before it left, from an accepted opening on, answers as the ledger, and leaves bytes that hold the ledger's records, N and u. Assumes nothing.
 --   editCall, openCall  specs/Calls.antt          what the C calls' contracts promise
 --   bookOf, bytesFit   specs/Bytes.antt          the book that bytes hold, and what 25 tests

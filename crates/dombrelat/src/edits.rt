@@ -17,9 +17,9 @@ fn edit_bytes(book: &mut [u8], call: Call) -> i64
     n as i64
 }
 
-// Fills an empty place with a baseline.
+// Enters a baseline at a place, be it empty or filled.
 #[no_mangle]
-pub extern "C" fn dombrelat_add_baseline(
+pub extern "C" fn dombrelat_enter_baseline(
     book: &mut [u8],
     place: i64,
     from: i64,
@@ -34,16 +34,16 @@ pub extern "C" fn dombrelat_add_baseline(
     nu: i64,
     uu: i64,
 ) -> i64
-    ensures { λ r. ⌜ r ≡ editCall (now (book .entry)) (Call.Edit place (Change.Add (baselineOf from to (east ∷ north ∷ up ∷ []) (ee ∷ en ∷ eu ∷ nn ∷ nu ∷ uu ∷ [])))) .answer ⌝ }
-    ensures { λ _. ⌜ now (book .exit) ≡ editCall (now (book .entry)) (Call.Edit place (Change.Add (baselineOf from to (east ∷ north ∷ up ∷ []) (ee ∷ en ∷ eu ∷ nn ∷ nu ∷ uu ∷ [])))) .bytes ⌝ }
+    ensures { λ r. ⌜ r ≡ editCall (now (book .entry)) (Call.Edit place (Change.Enter (baselineOf from to (east ∷ north ∷ up ∷ []) (ee ∷ en ∷ eu ∷ nn ∷ nu ∷ uu ∷ [])))) .answer ⌝ }
+    ensures { λ _. ⌜ now (book .exit) ≡ editCall (now (book .entry)) (Call.Edit place (Change.Enter (baselineOf from to (east ∷ north ∷ up ∷ []) (ee ∷ en ∷ eu ∷ nn ∷ nu ∷ uu ∷ [])))) .bytes ⌝ }
 {
     let r = network::baseline_of(from, to, [east, north, up], [ee, en, eu, nn, nu, uu]);
-    edit_bytes(book, Call::Edit(place, Change::Add(r)))
+    edit_bytes(book, Call::Edit(place, Change::Enter(r)))
 }
 
-// Fills an empty place with a height difference.
+// Enters a height difference at a place, be it empty or filled.
 #[no_mangle]
-pub extern "C" fn dombrelat_add_height(
+pub extern "C" fn dombrelat_enter_height(
     book: &mut [u8],
     place: i64,
     from: i64,
@@ -51,52 +51,11 @@ pub extern "C" fn dombrelat_add_height(
     up: i64,
     weight: i64,
 ) -> i64
-    ensures { λ r. ⌜ r ≡ editCall (now (book .entry)) (Call.Edit place (Change.Add (heightOf from to up weight))) .answer ⌝ }
-    ensures { λ _. ⌜ now (book .exit) ≡ editCall (now (book .entry)) (Call.Edit place (Change.Add (heightOf from to up weight))) .bytes ⌝ }
+    ensures { λ r. ⌜ r ≡ editCall (now (book .entry)) (Call.Edit place (Change.Enter (heightOf from to up weight))) .answer ⌝ }
+    ensures { λ _. ⌜ now (book .exit) ≡ editCall (now (book .entry)) (Call.Edit place (Change.Enter (heightOf from to up weight))) .bytes ⌝ }
 {
     let r = network::height_of(from, to, up, weight);
-    edit_bytes(book, Call::Edit(place, Change::Add(r)))
-}
-
-// Changes a filled place to a baseline.
-#[no_mangle]
-pub extern "C" fn dombrelat_replace_baseline(
-    book: &mut [u8],
-    place: i64,
-    from: i64,
-    to: i64,
-    east: i64,
-    north: i64,
-    up: i64,
-    ee: i64,
-    en: i64,
-    eu: i64,
-    nn: i64,
-    nu: i64,
-    uu: i64,
-) -> i64
-    ensures { λ r. ⌜ r ≡ editCall (now (book .entry)) (Call.Edit place (Change.Replace (baselineOf from to (east ∷ north ∷ up ∷ []) (ee ∷ en ∷ eu ∷ nn ∷ nu ∷ uu ∷ [])))) .answer ⌝ }
-    ensures { λ _. ⌜ now (book .exit) ≡ editCall (now (book .entry)) (Call.Edit place (Change.Replace (baselineOf from to (east ∷ north ∷ up ∷ []) (ee ∷ en ∷ eu ∷ nn ∷ nu ∷ uu ∷ [])))) .bytes ⌝ }
-{
-    let r = network::baseline_of(from, to, [east, north, up], [ee, en, eu, nn, nu, uu]);
-    edit_bytes(book, Call::Edit(place, Change::Replace(r)))
-}
-
-// Changes a filled place to a height difference.
-#[no_mangle]
-pub extern "C" fn dombrelat_replace_height(
-    book: &mut [u8],
-    place: i64,
-    from: i64,
-    to: i64,
-    up: i64,
-    weight: i64,
-) -> i64
-    ensures { λ r. ⌜ r ≡ editCall (now (book .entry)) (Call.Edit place (Change.Replace (heightOf from to up weight))) .answer ⌝ }
-    ensures { λ _. ⌜ now (book .exit) ≡ editCall (now (book .entry)) (Call.Edit place (Change.Replace (heightOf from to up weight))) .bytes ⌝ }
-{
-    let r = network::height_of(from, to, up, weight);
-    edit_bytes(book, Call::Edit(place, Change::Replace(r)))
+    edit_bytes(book, Call::Edit(place, Change::Enter(r)))
 }
 
 // Empties a filled place.

@@ -13,17 +13,17 @@ use Rattle.book.specs.declared.Change.{Change}
 use Rattle.book.specs.declared.Call.{Call}
 use Rattle.book.specs.declared.Call.the-variants as call
 use Rattle.book.specs.Calls.{placeOf, puts, undoNo, callNo, unless}
-use Rattle.book.specs.SoundLaws.{Enters, enters-edit}
+use Rattle.book.specs.SoundLaws.{MayPut, edit-may-put}
 use Rattle.book.specs.Book.{withEntry, edited, undone, bookAccepts, bookSays, outcome}
 use Rattle.layout.specs.Bytes.{bookOf, putBook}
 use Rattle.lent_edits.specs.LentEdits.{bytesLeft}
 
 -- ════ the core edit, with the journal that goes with it
 module _ (s : List ℕ) (b : Book) where
-  pub entered : (i next slot count more : ℕ) (r old : Record) → old ≡ recordAt (b .places) i → next ≡ b .journal .next → count ≡ b .journal .count → slot ≡ slotAfter next → more ≡ oneMore count
+  pub edit-made : (i next slot count more : ℕ) (r old : Record) → old ≡ recordAt (b .places) i → next ≡ b .journal .next → count ≡ b .journal .count → slot ≡ slotAfter next → more ≡ oneMore count
       → putBook s (withEntry b i r (record { entries = set (b .journal .entries) next (record { place = i; prior = old }); next = slot; count = more }))
       ≡ putBook s (edited b i r)
-  entered i next slot count more r old p q e n m =
+  edit-made i next slot count more r old p q e n m =
       let a : slot ≡ slotAfter (b .journal .next) = n ∙ ap slotAfter q in
       let h : more ≡ oneMore (b .journal .count) = m ∙ ap oneMore e in
       λ k. putBook s (withEntry b i r (record { entries = set (b .journal .entries) (q k) (record { place = i; prior = p k }); next = a k; count = h k }))
@@ -61,8 +61,8 @@ module _ (s : List ℕ) (b : Book) where
   undo-done (suc count) t e z h = changed call.Undo 0 t (ap undoNo e) h
 
 -- ════ what the code of an edit has at hand: the number, the place's index, and the record
-pub settle-ready : (s : List ℕ) (p : ℤ) (c : Change) (n i : ℕ) (r : Record) → n ≡ bookSays (bookOf s) (call.Edit p c) → i ≡ placeOf p → r ≡ puts c → n ≡ 0 → Enters (bookOf s) i r
-settle-ready s p c n i r e at is z = enters-edit (bookOf s) p c i r at is (sym e ∙ z)
+pub settle-ready : (s : List ℕ) (p : ℤ) (c : Change) (n i : ℕ) (r : Record) → n ≡ bookSays (bookOf s) (call.Edit p c) → i ≡ placeOf p → r ≡ puts c → n ≡ 0 → MayPut (bookOf s) i r
+settle-ready s p c n i r e at is z = edit-may-put (bookOf s) p c i r at is (sym e ∙ z)
 
 -- ════ what is written back
 pub edit-done : (s t : List ℕ) (n : ℕ) (b : Book) → n ≡ 0 → t ≡ putBook s b → t ≡ unless n s (putBook s b)

@@ -10,13 +10,13 @@ ghost use mathlib.Core.Bool.{true};
 ghost use Prim.Native.Nat.{_<_};
 ghost use Rattle.book.specs.Book.{edited, undone, bookSays, outcome};
 ghost use Rattle.book.specs.Calls.{unless};
-ghost use Rattle.book.specs.SoundLaws.{Enters};
+ghost use Rattle.book.specs.SoundLaws.{MayPut};
 ghost use Rattle.layout.specs.Bytes.{bookOf, putBook, bytesFit};
 ghost use Rattle.lent_edits.specs.LentEdits.{bytesLeft, Applies};
 
-// r enters place i, and the edit goes on the journal.
-fn enter(s: &mut [u8], net: Network, i: usize, r: Record)
-    requires { ⌜ (bytesFit (now s) ≡ true) × (net ≡ bookOf (now s) .network) × Enters (bookOf (now s)) i r ⌝ }
+// r at place i, and the edit on the journal.
+fn make_edit(s: &mut [u8], net: Network, i: usize, r: Record)
+    requires { ⌜ (bytesFit (now s) ≡ true) × (net ≡ bookOf (now s) .network) × MayPut (bookOf (now s)) i r ⌝ }
     ensures { λ _. ⌜ now (s .exit) ≡ putBook (now (s .entry)) (edited (bookOf (now (s .entry))) i r) ⌝ }
 {
     let old = layout::record_in(s, i);
@@ -32,11 +32,11 @@ fn enter(s: &mut [u8], net: Network, i: usize, r: Record)
 
 // The edit, unless it is refused.
 fn settle(s: &mut [u8], net: Network, n: u64, i: usize, r: Record)
-    requires { ⌜ (bytesFit (now s) ≡ true) × (net ≡ bookOf (now s) .network) × (n ≡ 0 → Enters (bookOf (now s)) i r) ⌝ }
+    requires { ⌜ (bytesFit (now s) ≡ true) × (net ≡ bookOf (now s) .network) × (n ≡ 0 → MayPut (bookOf (now s)) i r) ⌝ }
     ensures { λ _. ⌜ now (s .exit) ≡ unless n (now (s .entry)) (putBook (now (s .entry)) (edited (bookOf (now (s .entry))) i r)) ⌝ }
 {
     if n == 0 {
-        enter(s, net, i, r);
+        make_edit(s, net, i, r);
     }
 }
 

@@ -49,7 +49,7 @@ entryU stations places i = sum placeCount (λ p. shareU stations (recordAt place
 abbrev pub matrixLength : ℕ
 matrixLength = 2304
 
--- "9 | add, replace, check | an entry of N or u, or T, beyond ±2^62": no entry of N or u is. There are at most 48 unknowns
+-- 9: "an entry of N or u, or T, beyond ±2^62": no entry of N or u is. There are at most 48 unknowns
 unfoldable pub entriesFit : List Station → List Place → Bool
 entriesFit stations places =
     allBelow mostUnknowns (λ i. allBelow mostUnknowns (λ j. leb (natAbs (entryN stations places i j)) (2 ^ 62)) && leb (natAbs (entryU stations places i)) (2 ^ 62))

@@ -26,7 +26,7 @@ impl Ledger {
     }
 
     // An edit goes to the end of the list.
-    fn entered(self, place: i64, puts: Record) -> Ledger {
+    fn appended(self, place: i64, puts: Record) -> Ledger {
         let n = self.count;
         let mut at = self.at;
         let mut all = self.puts;
@@ -57,18 +57,18 @@ impl Ledger {
         }
     }
 
-    // After a call (0 add, 1 replace, 2 strike, any other undo), which was answered with a number: a refused one changes nothing.
+    // After a call (0 enter, 1 strike, any other undo), which was answered with a number: a refused one changes nothing.
     pub(crate) fn next(self, refusal: u64, kind: usize, place: i64, entry: Record) -> Ledger {
         if refusal != 0 {
             return self;
         }
-        if kind < 2 {
-            let l = self.entered(place, entry);
+        if kind == 0 {
+            let l = self.appended(place, entry);
             return l;
         }
-        if kind == 2 {
+        if kind == 1 {
             let none = Record::Empty;
-            let l = self.entered(place, none);
+            let l = self.appended(place, none);
             return l;
         }
         let l = self.taken_back();

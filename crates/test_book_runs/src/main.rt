@@ -49,12 +49,15 @@ impl Tally {
     }
 }
 
-// Calls by number: 0 add, 1 replace, 2 strike, any other undo.
+// Calls by number: 0 enter, 1 strike, any other undo.
+const ENTER: usize = 0;
+
+const UNDO: usize = 2;
+
 fn call_of(kind: usize, place: i64, entry: Record) -> Call {
     match kind {
-        0 => Call::Edit(place, Change::Add(entry)),
-        1 => Call::Edit(place, Change::Replace(entry)),
-        2 => Call::Edit(place, Change::Strike),
+        0 => Call::Edit(place, Change::Enter(entry)),
+        1 => Call::Edit(place, Change::Strike),
         _ => Call::Undo,
     }
 }
@@ -201,10 +204,10 @@ fn pushed_out() {
     if !book::is_sound(book) {
         return;
     }
-    let edits = series(book, 0, 65);
-    print_line(b"65 adds, accepted: ", edits.accepted);
+    let edits = series(book, ENTER, 65);
+    print_line(b"65 enters, accepted: ", edits.accepted);
     let edited = edits.book;
-    let undos = series(edited, 3, 64);
+    let undos = series(edited, UNDO, 64);
     print_line(b"64 undos, accepted: ", undos.accepted);
     let undone = undos.book;
     let places = undone.places;
@@ -213,7 +216,28 @@ fn pushed_out() {
     print_line(b"one more undo: ", e.refusal);
 }
 
+// A record entered over one that equals it is an edit too: two undos take both back, and a third has nothing left.
+fn entered_twice() {
+    let list = samples::list();
+    let opened = Book::open(&list);
+    let book = opened.book;
+    if !book::is_sound(book) {
+        return;
+    }
+    let first = series(book, ENTER, 1);
+    let filled = first.book;
+    let again = series(filled, ENTER, 1);
+    print_line(
+        b"an equal record entered over it, accepted: ",
+        again.accepted,
+    );
+    let edited = again.book;
+    let undos = series(edited, UNDO, 3);
+    print_line(b"3 undos, accepted: ", undos.accepted);
+}
+
 fn main() {
     pushed_out();
+    entered_twice();
     print_tally(random_runs());
 }

@@ -39,16 +39,13 @@ pub(crate) fn next(s: u64) -> u64
     (s % 2147483647) * 16807 % 2147483647
 }
 
-// Of ten calls four add, three replace, one strikes and two undo.
+// Of ten calls six enter, two strike and two undo.
 pub(crate) fn kind(s: u64) -> usize {
     let d = s / 7 % 10;
-    if d < 4 {
+    if d < 6 {
         return 0;
     }
-    if d < 7 {
-        return 1;
-    }
-    if d < 8 { 2 } else { 3 }
+    if d < 8 { 1 } else { 2 }
 }
 
 // low to low + n - 1.

@@ -27,23 +27,17 @@ fn called(book: Book, call: Call) -> Book {
     book
 }
 
-// The book with a record added.
-fn added(book: Book, place: i64, r: Record) -> Book {
-    called(book, Call::Edit(place, Change::Add(r)))
+// The book with a record entered.
+fn entered(book: Book, place: i64, r: Record) -> Book {
+    called(book, Call::Edit(place, Change::Enter(r)))
 }
 
-// The book with a height difference added.
+// The book with a height difference entered.
 pub(crate) fn level(book: Book, place: i64, from: i64, to: i64, up: i64, weight: i64) -> Book {
-    added(book, place, network::height_of(from, to, up, weight))
+    entered(book, place, network::height_of(from, to, up, weight))
 }
 
-// The book with the record at a place replaced by a height difference.
-pub(crate) fn relevel(book: Book, place: i64, from: i64, to: i64, up: i64, weight: i64) -> Book {
-    let r = network::height_of(from, to, up, weight);
-    called(book, Call::Edit(place, Change::Replace(r)))
-}
-
-// The book with a baseline added.
+// The book with a baseline entered.
 pub(crate) fn baseline(
     book: Book,
     place: i64,
@@ -60,7 +54,7 @@ pub(crate) fn baseline(
         [east, north, up],
         [weight, EN, 0, weight, 0, weight],
     );
-    added(book, place, b)
+    entered(book, place, b)
 }
 
 pub(crate) fn undone(book: Book) -> Book {

@@ -11,7 +11,6 @@ use books::baseline;
 use books::level;
 use books::opened;
 use books::printed;
-use books::relevel;
 use books::two;
 use books::undone;
 use checks_only::checks_only;
@@ -32,8 +31,8 @@ fn case_title(k: usize) {
         1 => title(b"X 51"),
         2 => title(b"M 0"),
         3 => title(b"no records"),
-        4 => title(b"replaced by 1200, X 50"),
-        5 => title(b"replaced by 1200, X 100"),
+        4 => title(b"entered over by 1200, X 50"),
+        5 => title(b"entered over by 1200, X 100"),
         6 => title(b"undone, X 50"),
         7 => title(b"undo on a new book"),
         8 => title(b"1276, X 138"),
@@ -72,12 +71,12 @@ fn sheet_room() {
     answer(printed(two(), 1100), 50, 5368709, 25);
 }
 
-// 64 replacements, each an edit.
-fn replaced_often(book: Book) -> Book {
+// 64 enters over a filled place, each an edit, though all but the first enter the record that is there.
+fn entered_often(book: Book) -> Book {
     let mut b = book;
     let mut k: usize = 0;
     while k < 64 {
-        b = relevel(b, 1, 1, 2, 1001, 100);
+        b = level(b, 1, 1, 2, 1001, 100);
         k = k + 1;
     }
     b
@@ -93,10 +92,10 @@ fn undone_often(book: Book) -> Book {
     b
 }
 
-// 65 edits: an addition and 64 replacements; then 64 undos, and one more.
+// 65 edits: one fills a place and 64 are entered over it; then 64 undos, and one more.
 fn history() {
     title(b"65 edits");
-    let b = replaced_often(level(two(), 1, 1, 2, 1000, 100));
+    let b = entered_often(level(two(), 1, 1, 2, 1000, 100));
     answer(b, 1, 10737418, 23);
     title(b"64 undos");
     let first = undone_often(b);

@@ -17,10 +17,10 @@ pub(crate) fn opened(list: &[i64]) -> Book {
     b
 }
 
-// The book with a record added; a refused one is told.
-fn added(book: Book, place: i64, r: Record) -> Book {
+// The book with a record entered; a refused one is told.
+fn entered(book: Book, place: i64, r: Record) -> Book {
     if book::is_sound(book) {
-        let e = book.apply(Call::Edit(place, Change::Add(r)));
+        let e = book.apply(Call::Edit(place, Change::Enter(r)));
         if e.refusal != 0 {
             io::write_all(1, b"edit refused\n");
         }
@@ -35,7 +35,7 @@ pub(crate) fn baseline(book: Book, place: i64, to: i64, east: i64, north: i64, u
     print_list(b"baseline", &[1, to, east, north, up]);
     let weight = Unit::WEIGHT_AT_MILLIMETRE;
     let b = network::baseline_of(1, to, [east, north, up], [weight, 0, 0, weight, 0, weight]);
-    added(book, place, b)
+    entered(book, place, b)
 }
 
 // A height difference from station 1.
@@ -43,7 +43,7 @@ pub(crate) fn height(book: Book, place: i64, to: i64, up: i64) -> Book {
     print_list(b"height", &[1, to, up]);
     let weight = Unit::WEIGHT_AT_MILLIMETRE;
     let h = network::height_of(1, to, up, weight);
-    added(book, place, h)
+    entered(book, place, h)
 }
 
 // A known station at 0 and two free ones by their provisional coordinates.

@@ -51,9 +51,9 @@ fn record_of(f: &[i64; 12], count: usize) -> Record {
     Record::Empty
 }
 
-fn added(book: Book, place: i64, entry: Record) -> Book {
+fn entered(book: Book, place: i64, entry: Record) -> Book {
     if book::is_sound(book) {
-        let e = book.apply(Call::Edit(place, Change::Add(entry)));
+        let e = book.apply(Call::Edit(place, Change::Enter(entry)));
         refused(e.refusal);
         let b = e.book;
         return b;
@@ -61,12 +61,12 @@ fn added(book: Book, place: i64, entry: Record) -> Book {
     book
 }
 
-// The book with the record of a line added.
+// The book with the record of a line entered.
 fn with_line(book: Book, line: &[u8]) -> Book {
     let mut f = [0i64; 12];
     let n = numbers_of(line, 12, &mut f);
     let place = f[0];
-    added(book, place, record_of(&f, n))
+    entered(book, place, record_of(&f, n))
 }
 
 // The book of these stations and records.

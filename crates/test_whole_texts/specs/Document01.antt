@@ -23,7 +23,7 @@ use Rattle.acceptance.specs.declared.Answer.{Answer}
 use Rattle.acceptance.specs.declared.Answer.the-variants.{Accepted, Refused}
 use Rattle.book.specs.declared.Book.{Book}
 use Rattle.book.specs.Book.{openedBook, bookNext, bookSays}
-use Rattle.book.specs.declared.Change.the-variants.{Add}
+use Rattle.book.specs.declared.Change.the-variants.{Enter}
 use Rattle.book.specs.declared.Call.{Call}
 use Rattle.book.specs.declared.Call.the-variants.{Edit}
 use Rattle.book.specs.Run.{final, answers}
@@ -40,7 +40,7 @@ use Rattle.text.specs.Before.{before}
 use Rattle.text.specs.Numbers.{allDigits, isDecimal, valueAfter, signedOf, numberIn, decimalIn, decimal}
 use Rattle.text.specs.Fields.{fieldsOf, restFields, letterOf, numbersIn, atMost}
 use Rattle.text.specs.Lines.{linesOf, linesAfter}
-use Rattle.commands.specs.Commands.{exactly, entryOf, added, countedAs, stationOfKind, numberedInTurn, stationOf, otherOf, fieldsCommand, commandOf}
+use Rattle.commands.specs.Commands.{exactly, entryOf, entered, countedAs, stationOfKind, numberedInTurn, stationOf, otherOf, fieldsCommand, commandOf}
 use Rattle.commands.specs.Brings.{brings}
 use Rattle.printing.specs.SheetText.{spaced, highVerdict, verdict, headText, stationText, baselineText, heightText, globalText, stationTexts, textFor, recordStart, recordTexts, sheetText}
 use Rattle.printing.specs.SheetTextLaws.{global-room}
@@ -144,10 +144,10 @@ withBook b k x m = record { stations = stations; lines = k; phase = opened b; co
 
 -- the calls of the two H lines
 abbrev call1 : Call
-call1 = Edit (pos 1) (Add (level 1000))
+call1 = Edit (pos 1) (Enter (level 1000))
 
 abbrev call2 : Call
-call2 = Edit (pos 2) (Add (level 1100))
+call2 = Edit (pos 2) (Enter (level 1100))
 
 module _ (b : Book) where
   -- the first H line opens
@@ -165,12 +165,12 @@ module _ (b : Book) where
     opened-says = rw (s, line-opens)
 
   edits-next : linesNext (withBook b 2 none none) editLines ≡ withBook (bookNext (bookNext b call1) call2) 6 (given (xOf firstCase)) (given (mOf firstCase))
-  unfolding editLines HEIGHT-1 HEIGHT-2 CORRECTIONS MATRIX linesNext lineNext runBefore stationsAfter phaseOpened phaseAfter edits isUnopened brings givenBy countedAs atMost commandOf fieldsCommand otherOf added entryOf exactly letterOf restFields fieldsOf before numbersIn numberIn signedOf isDecimal allDigits valueAfter
+  unfolding editLines HEIGHT-1 HEIGHT-2 CORRECTIONS MATRIX linesNext lineNext runBefore stationsAfter phaseOpened phaseAfter edits isUnopened brings givenBy countedAs atMost commandOf fieldsCommand otherOf entered entryOf exactly letterOf restFields fieldsOf before numbersIn numberIn signedOf isDecimal allDigits valueAfter
   edits-next = refl
 
   -- where neither call is refused, nothing is printed
   edits-say : bookSays b call1 ≡ 0 → bookSays (bookNext b call1) call2 ≡ 0 → linesSay (withBook b 2 none none) editLines ≡ []
-  unfolding editLines HEIGHT-1 HEIGHT-2 CORRECTIONS MATRIX linesSay lineSays lineNext runBefore saysBefore stationsAfter phaseOpened openingSays phaseAfter phaseSays commandSays edits isUnopened brings givenBy countedAs atMost commandOf fieldsCommand otherOf added entryOf exactly letterOf restFields fieldsOf before numbersIn numberIn signedOf isDecimal allDigits valueAfter
+  unfolding editLines HEIGHT-1 HEIGHT-2 CORRECTIONS MATRIX linesSay lineSays lineNext runBefore saysBefore stationsAfter phaseOpened openingSays phaseAfter phaseSays commandSays edits isUnopened brings givenBy countedAs atMost commandOf fieldsCommand otherOf entered entryOf exactly letterOf restFields fieldsOf before numbersIn numberIn signedOf isDecimal allDigits valueAfter
   edits-say p q = rw (q, p)
 
   -- X and M are given: the end checks them

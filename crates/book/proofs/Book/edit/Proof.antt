@@ -1,4 +1,4 @@
--- The number is the one the table gives for the call (`edit-number`); where it is 0 the record may enter (`enters-edit`), and `edit-done` makes it the outcome. Assumes nothing.
+-- The number is the one the table gives for the call (`edit-number`); where it is 0 what the change puts may be put there (`edit-may-put`), and `edit-done` makes it the outcome. Assumes nothing.
 use mathlib.Core.Path.{_≡_, refl, sym, ap, _∙_}
 use mir.Syntax.{w64}
 use mir.Facts.{toZ-ofZ}
@@ -10,7 +10,7 @@ use Rattle.book.specs.declared.Call.the-variants.{Edit}
 use Rattle.book.specs.Calls.{placeOf}
 use Rattle.book.specs.Book.{bookSays}
 use Rattle.book.specs.Sound.{SoundParts, sound-parts}
-use Rattle.book.specs.SoundLaws.{enters-edit}
+use Rattle.book.specs.SoundLaws.{edit-may-put}
 use Rattle.book.specs.Numbers.{edit-number}
 use Rattle.book.proofs.Done.{edit-done}
 use borrow.Author.Needs.{needs}
@@ -48,7 +48,7 @@ puts-of-requires c κs = search needs
 settle-requires : tie.Need-settle-requires
 settle-requires c κs =
     let s = start c in
-    (sound-self s, λ e. enters-edit (s .args .self) (s .args .place) (s .args .change) _ _ (at-place c) (c .puts-of .ensures) (sym (number c) ∙ e))
+    (sound-self s, λ e. edit-may-put (s .args .self) (s .args .place) (s .args .change) _ _ (at-place c) (c .puts-of .ensures) (sym (number c) ∙ e))
 
 returns : tie.Need-returns
 returns c =

@@ -8,9 +8,6 @@ use Rattle.book.proofs.refusals.puts_of.Tie as tie
 enum-known-change : tie.Need-enum-known-change
 enum-known-change c = search needs
 
-enum-known-change-2 : tie.Need-enum-known-change-2
-enum-known-change-2 c = search needs
-
 enum-told : tie.Need-enum-told
 enum-told c = search needs
 
@@ -20,13 +17,7 @@ returns c = ap puts (sym (c .before .change .given .1))
 
 returns-2 : tie.Need-returns-2
 unfolding puts
-returns-2 c = ap puts (sym (c .before .change2 .given .1))
-
-returns-3 : tie.Need-returns-3
-unfolding puts
-returns-3 c = ap puts (sym (c .enum-told .given .1))
+returns-2 c = ap puts (sym (c .enum-told .given .1))
 
 pub puts-of-spec : {M : Type 1} → statement M
-puts-of-spec =
-    tie.close
-    (tie.spec enum-known-change enum-known-change-2 enum-told returns returns-2 returns-3)
+puts-of-spec = tie.close (tie.spec enum-known-change enum-told returns returns-2)

@@ -4,6 +4,7 @@ use mir.Syntax.{w64}
 use mir.Facts.{toZ-ofZ}
 use lib.IntN.{ℤ}
 use Rattle.words.specs.Signed.{indexIn}
+use Rattle.book.specs.Rows.{rowCalls}
 use Rattle.book.proofs.RowCases.{same-row}
 use borrow.Author.Needs.{needs, sfits-of}
 use Rattle.book.proofs.rows.row_in.Statement.{statement}
@@ -41,7 +42,7 @@ returns c =
     let t = c .before in
     let p = t .before .before in
     c .row-of .ensures
-    ∙ same-row _ _ _ _ _ _ (t .before .index-in .ensures ∙ ap (λ (z : ℤ). indexIn z 4) (toZ-ofZ {w = w64} (sfits-of (p .before .word .given)))) (toZ-ofZ {w = w64} (sfits-of (p .place .given))) (t .record-in .ensures)
+    ∙ same-row _ _ _ _ _ _ (t .before .index-in .ensures ∙ ap (λ (z : ℤ). indexIn z rowCalls) (toZ-ofZ {w = w64} (sfits-of (p .before .word .given)))) (toZ-ofZ {w = w64} (sfits-of (p .place .given))) (t .record-in .ensures)
 
 pub row-in-spec : {M : Type 1} → statement M
 row-in-spec =

@@ -1,6 +1,6 @@
 -- By the letter, as `otherOf` goes through them. Assumes nothing.
 use Rattle.commands.specs.CommandLaws.{it-is, it-is-not}
-use Rattle.commands.specs.Commands.{letter-R, letter-D, letter-U, otherOf, added, entryOf}
+use Rattle.commands.specs.Commands.{letter-R, letter-D, letter-U, otherOf, entered, entryOf}
 use Rattle.text.specs.Fields.{restFields}
 use Prim.Native.Nat.{ℕ}
 use mathlib.Core.Path.{refl, sym, ap, _∙_}
@@ -8,12 +8,12 @@ use borrow.Author.Needs.{needs}
 use Rattle.commands.proofs.reading.other_line.Statement.{statement}
 use Rattle.commands.proofs.reading.other_line.Tie as tie
 
-replace-line-requires : tie.Need-replace-line-requires
-replace-line-requires c κs = search needs
+after-r-requires : tie.Need-after-r-requires
+after-r-requires c κs = search needs
 
 returns : tie.Need-returns
 unfolding otherOf
-returns c = rw (it-is refl letter-R (c .before .if1 .taken)) (c .replace-line .ensures)
+returns c = rw (it-is refl letter-R (c .before .if1 .taken)) (c .after-r .ensures)
 
 strike-line-requires : tie.Need-strike-line-requires
 strike-line-requires c κs = search needs
@@ -37,8 +37,8 @@ returns-3 c =
 entry-at-requires : tie.Need-entry-at-requires
 entry-at-requires c κs = search needs
 
-add-requires : tie.Need-add-requires
-add-requires c κs = search needs
+enter-requires : tie.Need-enter-requires
+enter-requires c κs = search needs
 
 returns-4 : tie.Need-returns-4
 unfolding otherOf
@@ -48,18 +48,18 @@ returns-4 c =
     let u = t .before in
     let s = u .before .before .before in
     rw (it-is-not refl letter-R (u .before .if1 .left), it-is-not refl letter-D (u .if2 .left), it-is-not refl letter-U (t .if3 .left))
-    (c .add .ensures ∙ ap added (e .entry-at .ensures ∙ ap (λ (l : ℕ). entryOf l (restFields (s .args .line .now))) (sym (s .pre))))
+    (c .enter .ensures ∙ ap entered (e .entry-at .ensures ∙ ap (λ (l : ℕ). entryOf l (restFields (s .args .line .now))) (sym (s .pre))))
 
 pub other-line-spec : {M : Type 1} → statement M
 other-line-spec =
     tie.close
     (tie.spec
-    replace-line-requires
+    after-r-requires
     returns
     strike-line-requires
     returns-2
     undo-line-requires
     returns-3
     entry-at-requires
-    add-requires
+    enter-requires
     returns-4)

@@ -4,8 +4,8 @@ use borrow.Author.Needs.{needs}
 use Rattle.lent_edits.proofs.changes.settle.Statement.{statement}
 use Rattle.lent_edits.proofs.changes.settle.Tie as tie
 
-enter-requires : tie.Need-enter-requires
-enter-requires c κs = let s = c .before .before .before in (s .pre .0, s .pre .1, s .pre .2 (c .before .if1 .taken))
+make-edit-requires : tie.Need-make-edit-requires
+make-edit-requires c κs = let s = c .before .before .before in (s .pre .0, s .pre .1, s .pre .2 (c .before .if1 .taken))
 
 same-length : tie.Need-same-length
 same-length c = search needs
@@ -14,10 +14,10 @@ returns : tie.Need-returns
 returns c =
     let e = c .before .before in
     let t = e .before .before in
-    edit-done _ _ (t .before .before .args .n) _ (t .if1 .taken) (e .enter .ensures)
+    edit-done _ _ (t .before .before .args .n) _ (t .if1 .taken) (e .make-edit .ensures)
 
 returns-2 : tie.Need-returns-2
 returns-2 c = let s = c .before .before in edit-kept (s .args .s .now) (s .args .n) _ (c .if1 .left)
 
 pub settle-spec : {M : Type 1} → statement M
-settle-spec = tie.close (tie.spec enter-requires same-length returns returns-2)
+settle-spec = tie.close (tie.spec make-edit-requires same-length returns returns-2)

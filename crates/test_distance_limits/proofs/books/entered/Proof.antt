@@ -1,8 +1,8 @@
--- `added` edits only a sound book. Assumes nothing.
+-- `entered` edits only a sound book. Assumes nothing.
 use mathlib.Core.Path.{sym, _∙_}
 use borrow.Author.Needs.{needs}
-use Rattle.test_distance_limits.proofs.books.added.Statement.{statement}
-use Rattle.test_distance_limits.proofs.books.added.Tie as tie
+use Rattle.test_distance_limits.proofs.books.entered.Statement.{statement}
+use Rattle.test_distance_limits.proofs.books.entered.Tie as tie
 
 is-sound-requires : tie.Need-is-sound-requires
 is-sound-requires c κs = search needs
@@ -22,8 +22,8 @@ returns c = search needs
 returns-2 : tie.Need-returns-2
 returns-2 c = search needs
 
-pub added-spec : {M : Type 1} → statement M
-added-spec =
+pub entered-spec : {M : Type 1} → statement M
+entered-spec =
     tie.close
     (tie.spec
     is-sound-requires

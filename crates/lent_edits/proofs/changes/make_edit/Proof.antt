@@ -1,4 +1,4 @@
--- `enter` puts a record in, and the edit on the journal. Assumes nothing.
+-- What `put` ensures, with the journal that goes with the edit (`edit-made`). Assumes nothing.
 use Prim.Native.Nat.{ℕ, _<_, _≤_}
 use mathlib.Core.Path.{sym, _∙_, subst}
 use lib.ListN.{length}
@@ -6,10 +6,10 @@ use Rattle.book.specs.Journal.{journalSize}
 use Rattle.layout.specs.Bytes.{bookOf}
 use Rattle.layout.specs.CodecLaws.{fits-room, fits-sound}
 use Rattle.layout.specs.Layout.{bookBytes}
-use Rattle.lent_edits.proofs.Changed.{entered}
+use Rattle.lent_edits.proofs.Changed.{edit-made}
 use borrow.Author.Needs.{needs}
-use Rattle.lent_edits.proofs.changes.enter.Statement.{statement}
-use Rattle.lent_edits.proofs.changes.enter.Tie as tie
+use Rattle.lent_edits.proofs.changes.make_edit.Statement.{statement}
+use Rattle.lent_edits.proofs.changes.make_edit.Tie as tie
 
 room : (s : tie.Start) → bookBytes ≤ length (s .args .s .now)
 room s = fits-room (s .args .s .now) (s .pre .0)
@@ -52,10 +52,10 @@ returns c =
     let o = n .before .before in
     let s = o .before .before .before in
     p .put .ensures
-    ∙ entered (s .args .s .now) (bookOf (s .args .s .now)) (s .args .i) _ _ _ _ (s .args .r) _ (o .record-in .ensures) (n .next-in .ensures) (k .before .journal-count-in .ensures) (a .slot-after .ensures) (k .one-more .ensures)
+    ∙ edit-made (s .args .s .now) (bookOf (s .args .s .now)) (s .args .i) _ _ _ _ (s .args .r) _ (o .record-in .ensures) (n .next-in .ensures) (k .before .journal-count-in .ensures) (a .slot-after .ensures) (k .one-more .ensures)
 
-pub enter-spec : {M : Type 1} → statement M
-enter-spec =
+pub make-edit-spec : {M : Type 1} → statement M
+make-edit-spec =
     tie.close
     (tie.spec
     record-in-requires

@@ -1,8 +1,8 @@
 -- The call is made only where `is_sound` told that the book is sound. Assumes nothing.
 use mathlib.Core.Path.{sym, _∙_}
 use borrow.Author.Needs.{needs}
-use Rattle.test_surveys.proofs.records.added.Statement.{statement}
-use Rattle.test_surveys.proofs.records.added.Tie as tie
+use Rattle.test_surveys.proofs.records.entered.Statement.{statement}
+use Rattle.test_surveys.proofs.records.entered.Tie as tie
 
 is-sound-requires : tie.Need-is-sound-requires
 is-sound-requires c κs = search needs
@@ -19,5 +19,5 @@ returns c = search needs
 returns-2 : tie.Need-returns-2
 returns-2 c = search needs
 
-pub added-spec : {M : Type 1} → statement M
-added-spec = tie.close (tie.spec is-sound-requires apply-requires refused-requires returns returns-2)
+pub entered-spec : {M : Type 1} → statement M
+entered-spec = tie.close (tie.spec is-sound-requires apply-requires refused-requires returns returns-2)

@@ -1,8 +1,8 @@
 -- The loop's invariant: k is at most 64, so one more fits. Assumes nothing.
 use Prim.Native.Nat.{_≤_, _-_}
 use borrow.Author.Needs.{needs}
-use Rattle.test_check_cases.proofs.replaced_often.Statement.{statement}
-use Rattle.test_check_cases.proofs.replaced_often.Tie as tie
+use Rattle.test_check_cases.proofs.entered_often.Statement.{statement}
+use Rattle.test_check_cases.proofs.entered_often.Tie as tie
 
 abbrev Inv-loop : tie.InvT-loop
 Inv-loop b₀ k₀ b k = k ≤ 64
@@ -13,8 +13,8 @@ abbrev μ-loop : tie.MeasureT-loop
 loop-holds : tie.Need-loop-holds Inv-loop μ-loop
 loop-holds c = search needs
 
-relevel-requires : tie.Need-relevel-requires Inv-loop μ-loop
-relevel-requires c κs = search needs
+level-requires : tie.Need-level-requires Inv-loop μ-loop
+level-requires c κs = search needs
 
 add-k : tie.Need-add-k Inv-loop μ-loop
 add-k c = search needs
@@ -28,7 +28,7 @@ loop-again c = search needs
 returns : tie.Need-returns Inv-loop μ-loop
 returns c = search needs
 
-pub replaced-often-spec : {M : Type 1} → statement M
-replaced-often-spec =
+pub entered-often-spec : {M : Type 1} → statement M
+entered-often-spec =
     tie.close
-    (tie.spec Inv-loop μ-loop loop-holds relevel-requires add-k loop-less loop-again returns)
+    (tie.spec Inv-loop μ-loop loop-holds level-requires add-k loop-less loop-again returns)
