@@ -20,3 +20,4 @@ pub mod ReplayLaws
 pub mod SizeLaws
 pub mod Numbers
 pub mod Exchanged
+pub mod EditUndo

@@ -1,4 +1,5 @@
 pub mod Commands
 pub mod CommandLaws
 pub mod Brings
+pub mod AfterR
 pub mod Examples

@@ -48,7 +48,7 @@ rows-take (suc k) [] = refl
 rows-take (suc k) (c ∷ cs) = ap (λ (l : List Row). Names c ∷ l) (rows-take k cs)
 
 -- ════ a call through the book
-through-fits : (s : List ℕ) (f : Book → Edited) → bytesFit s ≡ true → through s f ≡ answeredWith s (f (bookOf s))
+pub through-fits : (s : List ℕ) (f : Book → Edited) → bytesFit s ≡ true → through s f ≡ answeredWith s (f (bookOf s))
 unfolding through
 through-fits s f e = ap (λ (t : Bool). cond t (answeredWith s (f (bookOf s))) (refusedWith 25 s)) e
 
@@ -58,11 +58,11 @@ through-unfit s f e = ap (λ (t : Bool). cond t (answeredWith s (f (bookOf s))) 
 
 -- ════ bytes hold a book, and are those of s₀ beyond it
 module _ (s₀ : List ℕ) where
-  says-same : (s : List ℕ) (b : Book) (c : Call) → HoldsBook s₀ s b → bytesSays s c ≡ pos (bookSays b c)
+  pub says-same : (s : List ℕ) (b : Book) (c : Call) → HoldsBook s₀ s b → bytesSays s c ≡ pos (bookSays b c)
   says-same s b c h =
       ap (λ (r : Returned). r .answer) (through-fits s (λ x. outcome x c) (h .fits)) ∙ ap (λ (x : Book). pos (bookSays x c)) (h .reads)
 
-  stays : (s : List ℕ) (b : Book) (c : Call) → HoldsBook s₀ s b → HoldsBook s₀ (bytesNext s c) (bookNext b c)
+  pub stays : (s : List ℕ) (b : Book) (c : Call) → HoldsBook s₀ s b → HoldsBook s₀ (bytesNext s c) (bookNext b c)
   stays s b c h =
       subst (λ (y : Book). HoldsBook s₀ (bytesNext s c) (bookNext y c)) (h .reads)
       (subst (λ (t : List ℕ). HoldsBook s₀ t (bookNext (bookOf s) c)) (sym (ap (λ (r : Returned). r .bytes) (through-fits s (λ y. outcome y c) (h .fits)))) (call-leaves s₀ s (h .fits) (h .beyond) c))
@@ -119,6 +119,17 @@ module _ (list s : List ℕ) (o : Opened list s) where
 pub opened-fits-next : (list s : List ℕ) → openCall list s .answer ≡ pos 0 → bytesFit (openCall list s .bytes) ≡ true
 opened-fits-next list s a = holds-opened list s (accepted list s a) .fits
 
+-- bytes that hold no book are answered 25, and not 0
+pub says-fits : (s : List ℕ) (c : Call) → bytesSays s c ≡ pos 0 → bytesFit s ≡ true
+says-fits s c a = go (true-or-false (bytesFit s))
+  where
+    go : (bytesFit s ≡ true) ⊎ (bytesFit s ≡ false) → bytesFit s ≡ true
+    go (inl e) = e
+    go (inr e) = not-zero 24 (sym (ap (λ (r : Returned). r .answer) (through-unfit s (λ b. outcome b c) e)) ∙ a)
+
+pub holds-own : (s : List ℕ) → bytesFit s ≡ true → HoldsBook s s (bookOf s)
+holds-own s e = record { reads = refl; fits = e; beyond = λ j q. refl }
+
 -- what an accepted edit has shown of the bytes, and what it leaves
 pub record Next (s : List ℕ) (c : Call) : Type 0 where
   pub says : bookSays (bookOf s) c ≡ 0
@@ -126,14 +137,10 @@ pub record Next (s : List ℕ) (c : Call) : Type 0 where
   pub reads : bookOf (bytesNext s c) ≡ bookNext (bookOf s) c
 
 pub edited-next : (s : List ℕ) (c : Call) → bytesSays s c ≡ pos 0 → Next s c
-edited-next s c a = go (true-or-false (bytesFit s))
-  where
-    go : (bytesFit s ≡ true) ⊎ (bytesFit s ≡ false) → Next s c
-    go (inl e) =
-        let h : HoldsBook s s (bookOf s) = record { reads = refl; fits = e; beyond = λ j q. refl } in
-        let next = stays s s (bookOf s) c h in
-        record { says = ap natAbs (sym (says-same s s (bookOf s) c h) ∙ a); fits = next .fits; reads = next .reads }
-    go (inr e) = not-zero 24 (sym (ap (λ (r : Returned). r .answer) (through-unfit s (λ b. outcome b c) e)) ∙ a)
+edited-next s c a =
+    let h = holds-own s (says-fits s c a) in
+    let next = stays s s (bookOf s) c h in
+    record { says = ap natAbs (sym (says-same s s (bookOf s) c h) ∙ a); fits = next .fits; reads = next .reads }
 
 -- an opened book keeps its station list
 final-network : (b : Book) (calls : List Call) → final bookNext b calls .network ≡ b .network

@@ -1,0 +1,39 @@
+-- "A line's R then changes nothing": an H or B line asks the same with an R and a blank before it, as long as it is then no longer than a line may be;
+-- before any other line an R is unreadable. Assumes nothing.
+use Prim.Native.Nat.{ℕ, _+_, _≤_}
+use mathlib.Core.Path.{_≡_, refl, sym, ap, _∙_}
+use mathlib.Core.Bool.{Bool, cond}
+use mathlib.Core.List.{List, _∷_}
+use mathlib.Core.Logic.{_⊎_, inl, inr}
+use native.Mathlib.Omega.{arith}
+use borrow.Author.Tests.{le-ltb, ne-eqb}
+use lib.ListN.{length}
+use Rattle.text.specs.Before.{before}
+use Rattle.text.specs.Fields.{fieldsOf, restFields, letterOf}
+use Rattle.text.specs.FieldLaws.{first-and-rest}
+use Rattle.commands.specs.declared.Command.the-variants.{Unreadable}
+use Rattle.commands.specs.Commands.{letter-H, letter-B, letter-R, longestLine, entryOf, entered, afterR, otherOf, fieldsCommand, letterIn, commandOf}
+
+-- the line with R and a blank before it
+abbrev pub withR : List ℕ → List ℕ
+withR line = letter-R ∷ 32 ∷ line
+
+module _ (read : ℕ) (unopened : Bool) (line : List ℕ) (short : length line + 2 ≤ longestLine) where
+  -- what the fields after the R give
+  with-R : commandOf read unopened (withR line) ≡ entered (entryOf (letterIn line) (restFields line))
+  unfolding commandOf fieldsCommand otherOf afterR letterOf restFields fieldsOf before
+  with-R =
+      ap (λ (t : Bool). cond t Unreadable (afterR (fieldsOf line))) (le-ltb longestLine (length (withR line)) (omega arith))
+      ∙ ap afterR (first-and-rest line)
+
+  enters : (letter : ℕ) → letterIn line ≡ letter → (letter ≡ letter-H) ⊎ (letter ≡ letter-B) → commandOf read unopened line ≡ entered (entryOf (letterIn line) (restFields line))
+  unfolding commandOf fieldsCommand otherOf
+  enters letter is (inl h) = rw (le-ltb longestLine (length line) (omega arith), is, h)
+  enters letter is (inr b) = rw (le-ltb longestLine (length line) (omega arith), is, b)
+
+  pub R-changes-nothing : (letterIn line ≡ letter-H) ⊎ (letterIn line ≡ letter-B) → commandOf read unopened (withR line) ≡ commandOf read unopened line
+  R-changes-nothing which = with-R ∙ sym (enters (letterIn line) refl which)
+
+  pub R-before-others : (letterIn line ≡ letter-H → ⊥) → (letterIn line ≡ letter-B → ⊥) → commandOf read unopened (withR line) ≡ Unreadable
+  unfolding entryOf entered
+  R-before-others h b = with-R ∙ rw (ne-eqb (letterIn line) letter-H h, ne-eqb (letterIn line) letter-B b)
