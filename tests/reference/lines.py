@@ -1,4 +1,4 @@
-"""The program's language, from document 01 "The night print": bytes in, bytes out."""
+"""The program's language, from document 01 "The night print" and request 3 of document 02: bytes in, bytes out."""
 import survey
 
 LETTERS = {b'K': survey.KNOWN, b'F': survey.FREE, b'V': survey.HEIGHT}
@@ -35,6 +35,18 @@ def record(kind, fields):
         return place, survey.Level(start, end, up, weight)
     values = numbers(fields, 12)
     return values[0], survey.Baseline(values[1], values[2], tuple(values[3:6]), tuple(values[6:]))
+
+
+def edit_of(fields):
+    """The ledger's call and its arguments, of an edit's fields; None where the line is no edit. R before H or B changes nothing."""
+    if fields[0] == b'R' and fields[1:2] in ([b'H'], [b'B']):
+        fields = fields[1:]
+    head, *rest = fields
+    if head in (b'H', b'B'):
+        return 'enter', *record(head, rest)
+    if head == b'D':
+        return 'strike', *numbers(rest, 1)
+    return ('undo',) if fields == [b'U'] else None
 
 
 def split(data):
@@ -78,14 +90,10 @@ class Run:
                 raise Unreadable
             self.rows.append((LETTERS[fields[2]], *values[1:]))
             return 0
-        if head in (b'H', b'B'):
-            return self.ledger.add(*record(head, fields[1:]))
-        if head == b'R' and len(fields) > 1 and fields[1] in (b'H', b'B'):
-            return self.ledger.replace(*record(fields[1], fields[2:]))
-        if head == b'D':
-            return self.ledger.strike(*numbers(fields[1:], 1))
-        if head == b'U' and len(fields) == 1:
-            return self.ledger.undo()
+        edit = edit_of(fields)
+        if edit:
+            call, *arguments = edit
+            return getattr(self.ledger, call)(*arguments)
         if head in (b'X', b'M'):
             values = [number(f) for f in fields[1:]]
             if len(values) > (48 if head == b'X' else 2304):

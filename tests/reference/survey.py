@@ -1,6 +1,6 @@
-"""An independent implementation of document 01, as requests 1 (check distances) and 2 (records that are a check only) of document 02 amend it, for the tests: stations, records, the
-ledger, the check, the sheet. Written from the documents alone, in whole numbers, with no thought for speed. Numbers of stations, places and unknowns count from 1 as in the document;
-lists from 0."""
+"""An independent implementation of document 01, as requests 1 (check distances), 2 (records that are a check only) and 3 (enter) of document 02 amend it, for the tests: stations,
+records, the ledger, the check, the sheet. Written from the documents alone, in whole numbers, with no thought for speed. Numbers of stations, places and unknowns count from 1 as in
+the document; lists from 0."""
 from dataclasses import dataclass
 
 KNOWN, FREE, HEIGHT = 1, 2, 3          # kinds of station, as words
@@ -175,34 +175,23 @@ class Ledger:
     def records(self):
         return {p: self.at(p) for p in sorted(self.entries) if self.at(p) is not None}
 
-    def _enter(self, place, record):
+    def _accept(self, place, record):
         self.edits.append(place)
         self.entries.setdefault(place, []).append(record)
         self.count = min(self.count + 1, 64)
         return 0
 
-    def _put(self, place, record, filled):
+    def enter(self, place, record):
         if not 1 <= place <= 256:
             return 2
-        number = record_number(self.net, record)
-        if number:
-            return number
-        if (self.at(place) is not None) != filled:
-            return 7
-        return self._enter(place, record)
-
-    def add(self, place, record):
-        return self._put(place, record, False)
-
-    def replace(self, place, record):
-        return self._put(place, record, True)
+        return record_number(self.net, record) or self._accept(place, record)
 
     def strike(self, place):
         if not 1 <= place <= 256:
             return 2
         if self.at(place) is None:
             return 7
-        return self._enter(place, None)
+        return self._accept(place, None)
 
     def undo(self):
         if self.count == 0:
