@@ -3,7 +3,7 @@ import math
 import struct
 
 from layout import BYTES, COUNT_AT, MATRIX_AT, NEXT_AT, PLACES, PLACES_AT, SLOTS, SLOTS_AT, WORDS
-from expected import packed
+from expected import entering, packed
 import solve
 import survey
 
@@ -87,17 +87,19 @@ class Arguments:
         return survey.Baseline(start, end, tuple(self.odd(v) for v in made.observed), tuple(self.odd(v) for v in weights))
 
     def edit(self, name, book):
-        """The numbers of an edit of that name; its place is most often one that the edit can take."""
+        """The numbers of an edit of that name. The place of a strike is most often filled, that of an enter filled or empty; some enters are of the record that is there."""
         r = self.rng
         call, _, kind = name.partition('_')
         if call == 'undo':
             return []
-        place = self.odd(r.randint(1, PLACES) if r.random() < 0.3 else r.randint(1, 60) if call == 'add' else r.choice(sorted(book.records) or [1]))
+        place = self.odd(r.randint(1, PLACES) if r.random() < 0.4 else r.randint(1, 60) if call == 'enter' and r.random() < 0.5 else r.choice(sorted(book.records) or [1]))
         if call == 'strike':
             return [place]
-        record = self.record(book.net, kind)
-        numbers = [place, record.start, record.end]
-        return numbers + ([*record.observed, *record.weights] if kind == 'baseline' else [record.up, record.single])
+        if r.random() < 0.08:
+            equal = [numbers for made, numbers in (entering(p, v) for p, v in sorted(book.records.items())) if made == name]
+            if equal:
+                return r.choice(equal)
+        return entering(place, self.record(book.net, kind))[1]
 
     # ---- checks, proposals, readings
     def exact(self, book):

@@ -1,6 +1,6 @@
 """Random calls on the static library from fixed seeds: every result and every byte of every lent slice compared with the independent implementation in tests/reference and the
-layout of docs/BOOK.md. Valid calls, refused ones, extreme numbers, wrong lengths, every call on damaged and short bytes. Fails too where it meets less than coverage.py asks.
-Prints 'N passed, M failed' last.
+layout of docs/BOOK.md. Valid calls, refused ones, extreme numbers, wrong lengths, every call on damaged and short bytes; an enter and its undo, which leave the book as it was. Fails
+too where it meets less than coverage.py asks. Prints 'N passed, M failed' last.
 
     python3 tests/host/calls.py LIBRARY.so
 """
@@ -9,15 +9,20 @@ import sys
 from arguments import SHORT, SLICES
 from comparison import Comparison
 from coverage import CALLS, SIZES
-from expected import BAD_LENGTHS, EDITS, NO_BOOK, NO_PROPOSAL, ON_BOOKS, edit_given, lengths_fit, opening, outcome, packed, refusal, words_in
-from layout import BYTES, judge
-from library import Buffer, Library
+from expected import BAD_LENGTHS, BAD_PLACE, EDITS, NO_BOOK, NO_PROPOSAL, ON_BOOKS, edit_given, entering, lengths_fit, opening, outcome, packed, refusal, words_in
+from layout import BYTES, MATRIX_AT, NEXT_AT, SLOTS, judge
+from library import Buffer, Header, Library
 import kinds
 import survey
 
-BOOKS, EDITS_A_BOOK = 180, 120                                         # random books
+BOOKS, EDITS_A_BOOK = 190, 120                                         # random books
 NETWORKS = {'1 to 9': 50, '10 to 24': 40, '25 to 47': 20, '48': 10}      # by numbers of unknowns
 VERDICTS = ('PASS', 'FAIL', 'LOOSE', 'LOW', 'HIGH', 'NONE')              # by their words in a sheet
+ENTERS = ('enter_baseline', 'enter_height')
+BOOK_EDITS = ('enter_baseline', 'enter_baseline', 'enter_baseline', 'enter_height', 'enter_height', 'strike')      # of a random book, beside undos
+UNDOS = (0.02, 0.15, 0.45)                                             # their share in a random book; with few the history runs full
+HEADER = {'VERSION': 3, 'PLACE_EMPTY': 7, 'PLACE_TAKEN': None}           # what it must say; None: it has no such constant
+GONE = ('add_baseline', 'add_height', 'replace_baseline', 'replace_height')      # calls before request 3
 
 
 class Calls(Comparison):
@@ -30,13 +35,26 @@ class Calls(Comparison):
         else:
             left = list(got[1])
             slices = iter(left[1:])
-            result, front = outcome(name, model, [next(slices) if isinstance(a, Buffer) else a for a in arguments])
+            wanted = self.edited if name in EDITS and model else outcome
+            result, front = wanted(name, model, [next(slices) if isinstance(a, Buffer) else a for a in arguments])
             k = 0 if name in EDITS else len(left) - 1
             left[k] = front + left[k][len(front):]
             if name == 'check_sheet' and result == 0:
                 self.note_sheet(model, words_in(front))
         self.compare(name, got, result, left)
         return got[0]
+
+    def edited(self, name, model, numbers):
+        """What is wanted of an edit, which is noted by what its place holds before and after it."""
+        call, place, _ = edit_given(name, numbers)
+        place = model.latest() if call == 'undo' else place
+        before = model.records.get(place)
+        wanted = outcome(name, model, numbers)
+        if call == 'enter' and wanted[0] != BAD_PLACE:
+            self.coverage.note('%s, at %s place' % (name, 'an empty' if before is None else 'a filled'), wanted[0])
+        if wanted[0] == 0:
+            self.coverage.note('accepted edits', kinds.of_edit(call, before, model.records.get(place)))
+        return wanted
 
     def proposal(self, model, got):
         """(result, slices) wanted of a proposal: the pair is free but that the check accepts it, and there is one wherever the exact pair, rounded, is accepted."""
@@ -118,30 +136,56 @@ class Calls(Comparison):
 
     # ---- runs of calls
     def run(self):
+        self.header()
         for _ in range(BOOKS):
             self.book()
         for size, count in NETWORKS.items():
             for _ in range(count):
                 self.network(*SIZES[size])
 
-    def edit(self, book, model, ledger):
-        """A random edit, also against the plain ledger."""
-        name = self.rng.choice(['add_baseline', 'add_height', 'add_baseline', 'replace_baseline', 'replace_height', 'strike', 'undo', 'undo'])
+    def header(self):
+        """The header has just the calls that are tested here, and the constants that follow from them; the library has no call that is gone."""
+        header = Header()
+        for name, want in HEADER.items():
+            self.same('%s in the header' % name, header.constants.get(name), want)
+        self.same('the calls of the header', sorted(header.calls), sorted(('open',) + ON_BOOKS))
+        self.same('the calls that the library has', [name for name in ENTERS + GONE if self.lib.has(name)], list(ENTERS))
+
+    def edit(self, name, book, model, ledger):
+        """An edit of that name with random numbers, also against the plain ledger. Returns the result."""
         numbers = self.arguments.edit(name, model)
         result = self.ask(name, book, model, numbers)
         call, place, record = edit_given(name, numbers)
         self.same(name + ' by the ledger', result, getattr(ledger, call)(*(v for v in (place, record) if v is not None)))
+        return result
+
+    def enter_and_undo(self, book, model, ledger):
+        """A random enter and its undo at once: every byte is as it was, but for those of the journal where it was full, since its oldest edit is gone."""
+        full = model.count == SLOTS
+        before = book.get()
+        if self.edit(self.rng.choice(ENTERS), book, model, ledger) != 0:
+            return
+        place = model.latest()
+        entered = model.records.get(place)
+        self.edit('undo', book, model, ledger)
+        left = book.get()
+        if full:
+            before, left = (data[:8 * NEXT_AT] + data[8 * MATRIX_AT:] for data in (before, left))
+        self.same('the book after an enter and its undo', left, before)
+        self.coverage.note('undone at once, history %s' % ('full' if full else 'not full'), kinds.of_edit('enter', model.records.get(place), entered))
 
     def book(self):
-        """A long run of edits on one book; damaged copies of it and checks on the way."""
+        """A long run of edits on one book; enters undone at once, damaged copies and checks on the way."""
         tail = self.arguments.bytes(self.rng.choice([0, 0, 1, 5, 16]))
         model = self.open_any(tail)
         ledger = survey.Ledger(model.net)
         book = Buffer(model.bytes() + tail)
+        undos = self.rng.choice(UNDOS)
         for k in range(EDITS_A_BOOK):
-            self.edit(book, model, ledger)
+            self.edit('undo' if self.rng.random() < undos else self.rng.choice(BOOK_EDITS), book, model, ledger)
             if k % 8 == 0:
                 self.damaged(book.get(), model)
+                self.enter_and_undo(book, model, ledger)
             if k % 12 == 0:
                 for name in ON_BOOKS[len(EDITS):]:
                     self.any(name, book, model, model)
@@ -152,8 +196,8 @@ class Calls(Comparison):
         model = self.open(packed([v for row in rows for v in row]), bytes(BYTES))
         book = Buffer(model.bytes())
         for place, r in enumerate(self.arguments.tied_records(model.net), 1):
-            kind, numbers = ('baseline', [*r.observed, *r.weights]) if isinstance(r, survey.Baseline) else ('height', [r.up, r.single])
-            self.same('a record of a network', self.ask('add_' + kind, book, model, [place, r.start, r.end, *numbers]), 0)
+            name, numbers = entering(place, r)
+            self.same('a record of a network', self.ask(name, book, model, numbers), 0)
         for _ in range(3):
             pair = self.arguments.exact(model)
             if pair:
@@ -168,4 +212,4 @@ class Calls(Comparison):
 
 
 if __name__ == '__main__':
-    Calls(Library(sys.argv[1]), 20261115).report(CALLS)
+    Calls(Library(sys.argv[1]), 20261117).report(CALLS)

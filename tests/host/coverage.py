@@ -1,5 +1,5 @@
 """What the tests of the C calls must have met at least so many times, in one place: a test that no longer reaches what it is for fails. Each number is about half of what the
-fixed seeds give. What a table does not have must not come at all: refusal 9, for one."""
+fixed seeds give. What a table does not have must not come at all: refusal 9, for one, and 7 but of a strike."""
 from collections import Counter
 import itertools
 
@@ -16,15 +16,23 @@ def distance_refusals(least):
     return dict.fromkeys((' '.join(filter(None, numbers)) for numbers in apply if any(numbers)), least)
 
 
-# tests/host/calls.py. Each call by its refusals, 0 where it is done; then the lengths of lent slices on bytes that hold a book, damage, and what was written.
+# tests/host/calls.py. Each call by its refusals, 0 where it is done, and an enter also by what its place holds; what accepted edits found and an undo restored; enters undone at once,
+# by whether the history had 64 edits; then the lengths of lent slices on bytes that hold a book, damage, and what was written.
 CALLS = {
     'open': {0: 150, 1: 90, 25: 250},
-    'add_baseline': {0: 4000, 2: 40, 3: 150, 4: 250, 5: 200, 6: 100, 7: 200, 25: 1000},
-    'add_height': {0: 3500, 2: 20, 3: 90, 4: 30, 6: 25, 7: 150, 25: 1000},
-    'replace_baseline': {0: 900, 2: 20, 3: 90, 4: 120, 5: 100, 6: 50, 7: 450, 25: 1000},
-    'replace_height': {0: 1000, 2: 25, 3: 90, 4: 30, 6: 20, 7: 500, 25: 1000},
-    'strike': {0: 1100, 2: 25, 7: 550, 25: 1000},
-    'undo': {0: 3000, 8: 180, 25: 1000},
+    'enter_baseline': {0: 6800, 2: 90, 3: 200, 4: 430, 5: 350, 6: 170, 25: 1000},
+    'enter_baseline, at an empty place': {0: 5000, 3: 130, 4: 280, 5: 230, 6: 110},
+    'enter_baseline, at a filled place': {0: 1700, 3: 75, 4: 140, 5: 110, 6: 55},
+    'enter_height': {0: 6000, 2: 55, 3: 150, 4: 75, 6: 60, 25: 1000},
+    'enter_height, at an empty place': {0: 4600, 3: 95, 4: 45, 6: 35},
+    'enter_height, at a filled place': {0: 1400, 3: 50, 4: 30, 6: 24},
+    'strike': {0: 1100, 2: 30, 7: 800, 25: 1000},
+    'undo': {0: 3700, 8: 300, 25: 1000},
+    'accepted edits': {
+        'enter at an empty place': 9500, 'enter over another record': 2500, 'enter over an equal record': 680, 'strike': 1100, 'undo of enter at an empty place': 2100,
+        'undo of enter over another record': 850, 'undo of enter over an equal record': 220, 'undo of strike': 520},
+    'undone at once, history not full': {'enter at an empty place': 700, 'enter over another record': 300, 'enter over an equal record': 70},
+    'undone at once, history full': {'enter at an empty place': 60, 'enter over another record': 40, 'enter over an equal record': 8},
     'check': {0: 240, 10: 450, 11: 450, 12: 20, 13: 20, 14: 25, 15: 30, 16: 50, 25: 1000},
     'check_sheet': {0: 440, 10: 550, 11: 500, 12: 25, 13: 20, 14: 30, 15: 25, 16: 40, 25: 1000},
     'check_distance': {-2: 80, 0: 90, 3: 270, 10: 330, 11: 440, 12: 11, 13: 16, 14: 18, 15: 24, 16: 40, 17: 45, 25: 1000},
@@ -51,7 +59,7 @@ CALLS = {
     'damage: a journal word': {'refused': 150, 'read': 80},
     'damage: places exchanged': {'refused': 30, 'read': 150},
     'record, what it read': {'Baseline': 220, 'Level': 160, 'NoneType': 450},
-    'the unknown of 11': {'the first': 1000, 'a later one': 480},
+    'the unknown of 11': {'the first': 900, 'a later one': 470},
     'accepted sheets by unknowns': {'1 to 9': 300, '10 to 24': 75, '25 to 47': 35, '48': 18},
     'accepted sheets by global verdict': {'PASS': 15, 'LOW': 15, 'HIGH': 250, 'NONE': 140},
     'accepted sheets by a record in them': {

@@ -8,8 +8,6 @@ extreme numbers. Fails too where it meets less than coverage.py asks. Prints 'N 
 from dataclasses import astuple, fields, replace
 import itertools
 import math
-import os
-import re
 import sys
 
 from arguments import LENGTHS
@@ -17,7 +15,7 @@ from comparison import Comparison
 from coverage import DISTANCES
 from expected import packed, result_of, words_in
 from layout import Book
-from library import Buffer, Library
+from library import Buffer, Header, Library
 import survey
 
 RANDOM_NETWORKS, SQUARE_NETWORKS, CORNER_NETWORKS = 34, 24, 6
@@ -29,12 +27,6 @@ HEADER = {'BAD_ENDS': 3, 'BAD_DISTANCE': 17, 'DISAGREES': survey.DISAGREES,
           'DISTANCE_MAX': survey.MOST_DISTANCE, 'HEIGHT_ABOVE_MARK_MAX': survey.MOST_HEIGHT, 'TOLERANCE_MAX': survey.MOST_TOLERANCE}      # what it must say
 BESIDE = {-1: 'one below', 0: 'at', 1: 'one above'}
 SIZES = {'to 10^6': 10 ** 6, 'to 10^12': 10 ** 12, 'to 10^18': 10 ** 18, 'to 2.9·10^18': 29 * 10 ** 17, 'to 3·10^18': 3 * 10 ** 18, 'above': 2 ** 63}      # of D²
-
-
-def header():
-    """The header's constants."""
-    with open(os.path.join(os.path.dirname(os.path.abspath(__file__)), '../../include/dombrelat.h'), encoding='utf-8') as file:
-        return {name: int(value) for name, value in re.findall(r'^#define DOMBRELAT_(\w+) \(?(-?\d+)\b', file.read(), re.MULTILINE)}
 
 
 def exchanged(d):
@@ -285,7 +277,7 @@ class Distances(Comparison):
                 self.ask(pair, given)
 
     def run(self):
-        constants = header()
+        constants = Header().constants
         for name, want in HEADER.items():
             self.same('%s in the header' % name, constants.get(name), want)
         for _ in range(RANDOM_NETWORKS):

@@ -6,7 +6,7 @@ import struct
 from layout import BYTES, PLACES, Book, record_words
 import survey
 
-EDITS = ('add_baseline', 'add_height', 'replace_baseline', 'replace_height', 'strike', 'undo')
+EDITS = ('enter_baseline', 'enter_height', 'strike', 'undo')
 CHECKS = ('check', 'check_sheet')
 READINGS = ('unknowns', 'sheet_bytes', 'stations', 'record')
 ON_BOOKS = EDITS + CHECKS + ('check_distance', 'propose') + READINGS
@@ -49,8 +49,15 @@ def record_given(kind, numbers):
     return survey.Level(*numbers) if kind == 'height' else None
 
 
+def entering(place, r):
+    """(name, numbers) of the call that enters a record"""
+    if isinstance(r, survey.Baseline):
+        return 'enter_baseline', [place, r.start, r.end, *r.observed, *r.weights]
+    return 'enter_height', [place, r.start, r.end, r.up, r.single]
+
+
 def edit_given(name, numbers):
-    """(add, replace, strike or undo; place; record) of an edit's arguments"""
+    """(enter, strike or undo; place; record) of an edit's arguments"""
     call, _, kind = name.partition('_')
     return call, numbers[0] if numbers else None, record_given(kind, numbers[1:])
 

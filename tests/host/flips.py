@@ -36,7 +36,7 @@ def full_book():
                 r = survey.Baseline(start, end, tuple(d), (rng.randint(50, 900), rng.randint(-9, 9), rng.randint(-9, 9), rng.randint(50, 900), rng.randint(-9, 9), rng.randint(50, 900)))
             else:
                 r = survey.Level(start, end, d[2], rng.randint(1, 10_000))
-            if book.edit('replace' if place in book.records else 'add', place, r) == 0:
+            if book.edit('enter', place, r) == 0:
                 break
     return book
 

@@ -63,7 +63,8 @@ class Book:
             w += [0] * 15 if slot is None else [slot[0]] + record_words(slot[1])
         return struct.pack('<%dq' % MATRIX_AT, *w) + normal_bytes(self.net, self.records)
 
-    def enter(self, place, record):
+    def change(self, place, record):
+        """Changes what a place holds; the journal keeps what it held."""
         self.slots[self.next] = (place - 1, self.records.get(place))
         self.next = (self.next + 1) % SLOTS
         self.count = min(self.count + 1, SLOTS)
@@ -75,8 +76,12 @@ class Book:
         else:
             self.records[place] = record
 
+    def latest(self):
+        """The place whose record an undo restores; None where there is nothing to undo."""
+        return self.slots[self.next - 1][0] + 1 if self.count else None
+
     def edit(self, call, place, record):
-        """The number of an edit, which is done where it is 0."""
+        """The number of an enter, a strike or an undo, which is done where it is 0."""
         if call == 'undo':
             if self.count == 0:
                 return 8
@@ -88,14 +93,13 @@ class Book:
             return 0
         if not 1 <= place <= PLACES:
             return 2
-        if call != 'strike':
+        if call == 'strike':
+            number = 0 if place in self.records else 7
+        else:
             number = survey.record_number(self.net, record)
-            if number:
-                return number
-        if (place in self.records) != (call != 'add'):
-            return 7
-        self.enter(place, None if call == 'strike' else record)
-        return 0
+        if number == 0:
+            self.change(place, record)
+        return number
 
 
 def fits(net, r):

@@ -1,7 +1,8 @@
-"""The static library as a shared object, for the tests: each call on lent buffers and numbers. A guard stands before and after each buffer."""
+"""The static library as a shared object, for the tests: each call on lent buffers and numbers. A guard stands before and after each buffer. And what its header says."""
 import ctypes
 import itertools
 import os
+import re
 
 I64, SIZE = ctypes.c_int64, ctypes.c_size_t
 GUARD = b'\xa5' * 64
@@ -24,9 +25,22 @@ class Buffer:
         return whole[len(self.front):end]
 
 
+class Header:
+    """The constants of include/dombrelat.h, and the calls that it declares."""
+
+    def __init__(self):
+        with open(os.path.join(os.path.dirname(os.path.abspath(__file__)), '../../include/dombrelat.h'), encoding='utf-8') as file:
+            text = file.read()
+        self.constants = {name: int(value) for name, value in re.findall(r'^#define DOMBRELAT_(\w+) \(?(-?\d+)\b', text, re.MULTILINE)}
+        self.calls = re.findall(r'^int64_t dombrelat_(\w+)\(', text, re.MULTILINE)
+
+
 class Library:
     def __init__(self, path):
         self.so = ctypes.CDLL(os.path.abspath(path))
+
+    def has(self, name):
+        return hasattr(self.so, 'dombrelat_' + name)
 
     def call(self, name, *arguments):
         """The result of dombrelat_NAME; a Buffer is passed as a pointer and its length, a number as int64_t."""
