@@ -12,7 +12,7 @@ import sys
 
 sys.path[:0] = [os.path.join(os.path.dirname(os.path.abspath(__file__)), '..', folder) for folder in ('reference', 'host')]
 from coverage import PROPOSALS, Coverage
-from expected import NO_PROPOSAL, packed, words_in
+from expected import NO_PROPOSAL, entering, packed, words_in
 from layout import BYTES
 from library import Buffer, Library
 import solve
@@ -95,10 +95,8 @@ def fill(library, net, rows, records):
     held = {}
     for place, r in records.items():
         number = survey.record_number(net, r)
-        if isinstance(r, survey.Baseline):
-            got = library.call('add_baseline', book, place, r.start, r.end, *r.observed, *r.weights)
-        else:
-            got = library.call('add_height', book, place, r.start, r.end, r.up, r.single)
+        name, numbers = entering(place, r)
+        got = library.call(name, book, *numbers)
         if got != number:
             return 'an edit was answered %d, not %d' % (got, number)
         if number == 0:
