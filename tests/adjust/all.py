@@ -23,20 +23,29 @@ from coverage import Seen
 INPUTS = 4000       # random inputs of a run
 NO_FREEDOM = 'D = 0 beside a check only'
 
-# In how many inputs each test must see a kind of input, a message or a verdict: somewhat less often than it does.
+# In how many inputs each test must see a kind of input, a message, a verdict or an accepted edit: somewhat less often than it does.
 EXAMPLES = {'input': 13, 'SHEET': 9, 'FAIL': 4, 'PASS': 9, 'GLOBAL LOW': 3, 'GLOBAL NONE': 1, 'GLOBAL PASS': 5, 'LINE k UNREADABLE': 1, 'NO PROPOSAL': 1,
             'REFUSED 1': 1, 'REFUSED 11': 1, 'REFUSED 16': 1, **{'LINE k REFUSED %d' % no: 1 for no in range(2, 9)}}
-NAMED = {'input': 57, 'SHEET': 30, 'LOOSE': 10, 'PASS': 21, 'FAIL': 7, 'GLOBAL NONE': 9, 'LINE k UNREADABLE': 19, 'LINE k REFUSED 8': 3, 'NO PROPOSAL': 6, 'REFUSED 1': 13, 'REFUSED 10': 6,
-         'REFUSED 11': 1, 'REFUSED 12': 1}
+NAMED = {'input': 76, 'SHEET': 45, 'LOOSE': 10, 'PASS': 35, 'FAIL': 7, 'GLOBAL NONE': 9, 'LINE k UNREADABLE': 21, 'LINE k REFUSED 7': 4, 'LINE k REFUSED 8': 4, 'NO PROPOSAL': 6,
+         'REFUSED 1': 13, 'REFUSED 10': 6, 'REFUSED 11': 1, 'REFUSED 12': 1, 'REFUSED 16': 1,
+         'R enter at an empty place': 3, 'R enter over another record': 5, 'R enter over an equal record': 1, 'enter over another record': 8, 'enter over an equal record': 3,
+         'undo of enter at an empty place': 6, 'undo of enter over another record': 4, 'undo of enter over an equal record': 3, 'undo of strike': 1}
 LIMITS = {'input': 369, 'GLOBAL LOW': 90, 'GLOBAL PASS': 180, 'GLOBAL HIGH': 90, 'GLOBAL NONE': 9}
-PIECES = {'input': 100, 'SHEET': 20, 'LINE k UNREADABLE': 40, 'LINE k REFUSED 7': 30, 'NO PROPOSAL': 3, 'REFUSED 1': 15, 'REFUSED 10': 15, 'REFUSED 11': 12, 'REFUSED 14': 8,
+PIECES = {'input': 100, 'SHEET': 20, 'LINE k UNREADABLE': 40, 'LINE k REFUSED 7': 15, 'NO PROPOSAL': 3, 'REFUSED 1': 15, 'REFUSED 10': 15, 'REFUSED 11': 12, 'REFUSED 14': 8,
           **{kind.__name__: share for kind, share in inputs.KINDS}}
-WHOLE = {'input': 900, 'SHEET': 240, 'NO PROPOSAL': 30, 'REFUSED 1': 180, 'REFUSED 11': 150, 'LINE k UNREADABLE': 400, 'LINE k REFUSED 7': 250}
+WHOLE = {'input': 900, 'SHEET': 240, 'NO PROPOSAL': 30, 'REFUSED 1': 180, 'REFUSED 11': 150, 'LINE k UNREADABLE': 400, 'LINE k REFUSED 7': 150}
+WITH_R = {'input': 400, 'R put before a line': 320, 'SHEET': 100, 'LINE k UNREADABLE': 180, 'LINE k REFUSED 7': 70, 'NO PROPOSAL': 12, 'REFUSED 11': 50, 'REFUSED 14': 15,
+          'R enter at an empty place': 240, 'R enter over another record': 95, 'R enter over an equal record': 40, 'undo of enter at an empty place': 90,
+          'undo of enter over another record': 60, 'undo of enter over an equal record': 28, **{'LINE k REFUSED %d' % no: 8 for no in range(2, 7)},
+          **{kind.__name__: 4 * share for kind, share in inputs.KINDS}}
 FAILING = {'input': 300, 'a sheet withheld': 50, 'within a line': 75, 'between lines': 120, 'messages': 100, 'no message': 90, 'a refused opening': 40}
 RANDOM = {'input': INPUTS, 'SHEET': 1000, 'PASS': 700, 'FAIL': 600, 'LOOSE': 400, 'GLOBAL PASS': 400, 'GLOBAL HIGH': 400, 'GLOBAL NONE': 80, 'GLOBAL LOW': 10,
-          'LINE k UNREADABLE': 1500, 'NO PROPOSAL': 120, 'REFUSED 1': 700, 'REFUSED 10': 500, 'REFUSED 11': 500, 'REFUSED 12': 20, 'REFUSED 13': 15, 'REFUSED 14': 150,
+          'LINE k UNREADABLE': 1500, 'NO PROPOSAL': 120, 'REFUSED 1': 700, 'REFUSED 10': 500, 'REFUSED 11': 500, 'REFUSED 12': 20, 'REFUSED 13': 8, 'REFUSED 14': 150,
           'REFUSED 15': 6, 'REFUSED 16': 60, 'LINE k REFUSED 2': 120, 'LINE k REFUSED 3': 150, 'LINE k REFUSED 4': 80, 'LINE k REFUSED 5': 500, 'LINE k REFUSED 6': 120,
-          'LINE k REFUSED 7': 1000, 'LINE k REFUSED 8': 500, 'full_size': INPUTS // inputs.FULL_EVERY, 'as the reference': 3900,
+          'LINE k REFUSED 7': 700, 'LINE k REFUSED 8': 450, 'full_size': INPUTS // inputs.FULL_EVERY, 'as the reference': 3900,
+          'enter at an empty place': 2200, 'enter over another record': 900, 'enter over an equal record': 430, 'R enter at an empty place': 1300, 'R enter over another record': 840,
+          'R enter over an equal record': 370, 'strike': 1000, 'undo of enter at an empty place': 930, 'undo of enter over another record': 710,
+          'undo of enter over an equal record': 340, 'undo of strike': 700,
           'baseline known-known': 180, 'baseline known-free': 520, 'baseline known-height': 460, 'baseline free-free': 120, 'baseline free-height': 250, 'baseline height-height': 130,
           'height difference known-known': 180, 'height difference known-free': 280, 'height difference known-height': 460, 'height difference free-free': 65,
           'height difference free-height': 160, 'height difference height-height': 115, NO_FREEDOM: 25,
@@ -76,9 +85,9 @@ def named(tally):
     """Inputs that a random one seldom hits, against the reference; and both sides of the limits of the global test."""
     seen = Seen()
     for name, data in inputs.NAMED.items():
-        got = program.output(data)
-        seen.add(got, 'input')
-        tally.add(name, program.Expected(data).difference(got))
+        got, expected = program.output(data), program.Expected(data)
+        seen.add(got, 'input', *expected.run.found)
+        tally.add(name, expected.difference(got))
     tally.add('coverage of the named inputs', seen.lacking(NAMED))
     seen = Seen()
     for data, last in limits.cases():
@@ -103,6 +112,21 @@ def interrupted(tally):
         seen.add(b'', 'input', *kinds)
         tally.add('seed %d, failing midway' % seed, wrong)
     tally.add('coverage of failing inputs', seen.lacking(FAILING))
+
+
+def with_r(tally):
+    """Random inputs with R before every H and B line: the same bytes as with R before none."""
+    seen = Seen()
+    for seed in range(400):
+        kind, data = inputs.made(seed)
+        without = inputs.without_r(data)
+        data = inputs.with_r(without)
+        reference = program.Noted()
+        reference.run(data)
+        got, want = program.output(data), program.output(without)
+        seen.add(got, 'input', kind, *(['R put before a line'] if data != without else []), *reference.found)
+        tally.add('seed %d with R before every H and B' % seed, None if got == want else program.first_difference(got, want))
+    tally.add('coverage of inputs with R', seen.lacking(WITH_R))
 
 
 def whole(tally):
@@ -136,7 +160,7 @@ def differential(tally, count):
         expected = program.Expected(data)
         got = program.output(data)
         tally.add('seed %d (%s)' % (seed, kind), expected.difference(got))
-        seen.add(got, 'input', kind, *(['as the reference'] if got == expected.text else []), *sheet_kinds(expected))
+        seen.add(got, 'input', kind, *(['as the reference'] if got == expected.text else []), *sheet_kinds(expected), *expected.run.found)
     if count >= INPUTS:
         tally.add('coverage of the random inputs', seen.lacking(RANDOM))
     print('%d random inputs, of them %s' % (count, ', '.join('%d %s' % (number, kind) for kind, number in sorted(seen.counts.items()) if kind != 'input')))
@@ -158,6 +182,7 @@ def main():
         for test in streams.BOTH:
             tally.add('%s, %s' % (os.path.relpath(command, program.ROOT), test.__name__), test(command))
     interrupted(tally)
+    with_r(tally)
     whole(tally)
     differential(tally, count)
     print('%d passed, %d failed' % (tally.passed, tally.failed))

@@ -44,6 +44,7 @@ class Survey:
     def __init__(self, rng, count, scale, noise=None):
         """Without a noise, as large as the weights say: a standard deviation is 1,000 over the root of the weight."""
         self.rng, self.scale, self.noise = rng, scale, noise or int(2_000 / (scale / 2) ** 0.5)
+        self.latest = {}            # records by the place that they were last given
         far = rng.choice((1_000, 10_000_000, 499_000_000))
         self.rows = [(survey.KNOWN, *[rng.randint(-far, far) for _ in range(3)])]
         for _ in range(count - 1):
@@ -123,6 +124,25 @@ def damaged(rng, line):
     return b' '.join(fields)
 
 
+def marked(rng, line, share):
+    """An H or B line, with R before it or not."""
+    return b'R ' + line if rng.random() < share else line
+
+
+def without_r(data):
+    """The text without the R before an H or a B."""
+    return b'\n'.join(line[2:] if line[:2] == b'R ' and enters(line[2:]) else line for line in data.split(b'\n'))
+
+
+def with_r(data):
+    """The text with R before each H or B line, but for one that would be too long to be read."""
+    return b'\n'.join(b'R ' + line if enters(line) and len(line) + 2 <= LINE else line for line in data.split(b'\n'))
+
+
+def enters(line):
+    return line.split(b' ', 1)[0] in (b'H', b'B')
+
+
 def padded(rng, line, length):
     """The line with zeros put before one of its numbers, so that it has this many bytes; the line itself where it has no number."""
     fields = line.split(b' ')
@@ -135,13 +155,13 @@ def padded(rng, line, length):
 
 
 def edit(rng, book, places):
-    """An edit line at one of the places, whatever they hold."""
+    """An edit line at one of the places, whatever they hold; some records are those that the place was last given."""
     kind = rng.random()
     place = rng.choice(places)
-    if kind < 0.35:
-        return record_line(place, book.record())
-    if kind < 0.55:
-        return b'R ' + record_line(place, book.record())
+    if kind < 0.5:
+        if place not in book.latest or rng.random() < 0.8:
+            book.latest[place] = book.record()
+        return marked(rng, record_line(place, book.latest[place]), 0.4)
     if kind < 0.75:
         return b'D %d' % place
     return b'U'
@@ -214,11 +234,12 @@ def network(rng):
     """A network people would enter, with mistakes among its lines, and a solution."""
     book = Survey(rng, rng.choice((2, 2, 3, 3, 4, 5, 6)), rng.choice((5, 100, 10_000)), rng.choice((None, None, None, 2_000, 90_000)))
     records = book.chained()
-    share = rng.choice((0, 0, 0.05, 0.3))
+    book.latest = dict(enumerate(records, 1))
+    share, r_share = rng.choice((0, 0, 0.05, 0.3)), rng.choice((0, 0, 0.3, 1))
     text = book.lines()
     if rng.random() < 0.15:
         text = with_damage(rng, text, 0.3)
-    text += with_damage(rng, [record_line(k, r) for k, r in enumerate(records, 1)], share)
+    text += with_damage(rng, [marked(rng, record_line(k, r), r_share) for k, r in enumerate(records, 1)], share)
     text += with_damage(rng, [edit(rng, book, range(1, len(records) + 2)) for _ in range(rng.choice((0, 0, 3, 10)))], share)
     answer = solution(rng, text)
     if rng.random() < 0.2:
@@ -252,7 +273,7 @@ def history(rng):
             if not filled.get(place) or rng.random() < 0.7:
                 start, end = rng.sample((1, 2, 3), 2)
                 up = book.rows[end - 1][3] - book.rows[start - 1][3] + rng.randint(-500, 500)
-                line = (b'R ' if filled.get(place) else b'') + record_line(place, survey.Level(start, end, up, rng.randint(1, 100)))
+                line = marked(rng, record_line(place, survey.Level(start, end, up, rng.randint(1, 100))), 0.5)
             undone.append((place, filled.get(place)))
             filled[place] = line[:1] != b'D'
             text.append(line)
@@ -414,8 +435,27 @@ NAMED = {
     'a later X': HEAD + PAIR + b'X 51\nM 5368709\nX 50\n',
     'X first': HEAD + b'X 50\nM 5368709\n' + PAIR,
     'R before others': HEAD + PAIR + b'R D 1\nR U\nR X 1\nR\nR R H 1 1 2 1000 100\nR S 3 K 0 0 0\nR H 1 1 2 1010 100\n',
+    'R in other words': HEAD + PAIR + b'r H 1 1 2 1010 100\nRH 1 1 2 1010 100\nR  H 1 1 2 1010 100\nR h 1 1 2 1010 100\nH R 1 1 2 1010 100\nR H\nR B\nR H 1 1 2 1010\n' + PAIR_SOLVED,
+    'R before the first record, which opens': HEAD + b'R H 1 1 2 1000 100\nS 3 V 0 0 0\nH 2 1 2 1100 100\n' + PAIR_SOLVED,
+    'R at empty places': HEAD + b'R H 1 1 2 1000 100\nR H 2 1 2 1100 100\n' + PAIR_SOLVED,
+    'R at an empty place, undone': HEAD + PAIR + b'R H 3 1 2 1200 100\nU\nD 3\n' + PAIR_SOLVED,
+    'a line of 50,000 bytes with its R, and one of 50,001': HEAD + PAIR + b'R H 1 1 2 ' + b'0' * (LINE - 18) + b'1010 100\nR H 1 1 2 ' + b'0' * (LINE - 17) + b'1020 100\n',
+    'a record entered over another': HEAD + PAIR + b'H 2 1 2 1200 100\nX 100\nM 5368709\n',
+    'a record entered over another, with R': HEAD + PAIR + b'R H 2 1 2 1200 100\nX 100\nM 5368709\n',
+    'a record entered over another, with the solution from before': HEAD + PAIR + b'H 2 1 2 1200 100\n' + PAIR_SOLVED,
+    'a record entered over another, and undone': HEAD + PAIR + b'H 2 1 2 1200 100\nU\n' + PAIR_SOLVED,
+    'a record entered over another, struck, and both undone': HEAD + PAIR + b'H 2 1 2 1200 100\nD 2\nD 2\nU\nU\n' + PAIR_SOLVED,
+    'a record entered at an empty place, and undone': HEAD + PAIR + b'H 3 1 2 1200 100\nU\nD 3\n' + PAIR_SOLVED,
+    'a record entered over an equal one, and undone': HEAD + PAIR + b'H 2 1 2 1100 100\nR H 2 1 2 1100 100\nU\nU\n' + PAIR_SOLVED,
+    'a record entered over an equal one, and undone once more': HEAD + PAIR + b'H 2 1 2 1100 100\nU\nU\nX 0\nM 10737418\n',
+    'a record entered over an equal one 64 times pushes out the others': HEAD + PAIR + b'H 2 1 2 1100 100\n' * 64 + b'U\n' * 65 + PAIR_SOLVED,
+    'a refused record leaves the one at its place': HEAD + PAIR + b'H 2 1 2 101001 100\nR H 2 1 3 1100 100\nR H 2 1 2 1100 0\nU\nH 2 1 2 1100 100\n' + PAIR_SOLVED,
+    'a baseline entered over a height difference': HEAD + PAIR + b'B 2 1 2 300 -200 1010 100 20 -30 90 10 80\n',
+    'a baseline entered over a height difference, and undone': HEAD + PAIR + b'B 2 1 2 300 -200 1010 100 20 -30 90 10 80\nU\n' + PAIR_SOLVED,
+    'a height difference entered over a baseline': HEAD + b'B 1 1 2 300 -200 1010 100 20 -30 90 10 80\nB 2 1 2 300 -200 1010 100 20 -30 90 10 80\n' + PAIR + PAIR_SOLVED,
+    'strikes of empty places': HEAD + b'D 1\n' + PAIR + b'D 3\nD 2\nD 2\nH 2 1 2 1100 100\nD 256\n' + PAIR_SOLVED,
     'undo beyond': HEAD + PAIR + b'U\nU\nU\nU\n',
-    '65 edits and 66 undos': HEAD + b'H 1 1 2 1000 100\n' + b'R H 1 1 2 1001 100\n' * 64 + b'U\n' * 66,
+    '65 edits and 66 undos': HEAD + b'H 1 1 2 1000 100\n' + b'H 1 1 2 1001 100\nR H 1 1 2 1002 100\n' * 32 + b'U\n' * 66,
     '64-bit ends': HEAD + b'H 1 1 2 -9223372036854775808 100\nH 1 1 2 9223372036854775807 100\nH 1 1 2 9223372036854775808 100\nH 1 1 2 -9223372036854775809 100\n' + PAIR,
     'leading zeros and -0': b'S 01 K -0 00 0100000\nS 0002 V 0 0 101000\nH 001 01 2 01000 0100\nH -0 1 2 1000 100\n',
     'no proposal': HEAD,
@@ -427,7 +467,7 @@ NAMED = {
     'a baseline between known stations': SECOND_KNOWN + PAIR + b'B 3 1 3 710 -380 900 100 20 -30 90 10 80\n' + PAIR_SOLVED,
     'a height difference between known stations': SECOND_KNOWN + PAIR + b'H 3 3 1 -900 10000\n' + PAIR_SOLVED,
     'records of both kinds between known stations': SECOND_KNOWN + PAIR + b'B 3 3 1 100 200 -300 1 0 0 1 0 1\nH 256 1 3 300 1\nH 9 3 1 -299 10000\n' + PAIR_SOLVED,
-    'records between known stations struck, undone and replaced': SECOND_KNOWN + PAIR + b'H 3 1 3 900 100\nD 3\nH 4 3 1 -900 100\nU\nH 5 1 3 900 100\nR H 5 3 2 700 100\n',
+    'records between known stations struck, undone and entered over': SECOND_KNOWN + PAIR + b'H 3 1 3 900 100\nD 3\nH 4 3 1 -900 100\nU\nH 5 1 3 900 100\nR H 5 3 2 700 100\n',
     'D is 0 beside a baseline between known stations': SECOND_KNOWN + b'H 1 1 2 1000 100\nB 2 1 3 710 -380 900 100 20 -30 90 10 80\n',
     'D is 0 beside a height difference between known stations': SECOND_KNOWN + b'H 1 1 2 1000 100\nH 2 1 3 900 10000\n',
     'no record but between known stations': SECOND_KNOWN + b'B 1 1 3 710 -380 900 100 20 -30 90 10 80\nX 0\nM 0\n',

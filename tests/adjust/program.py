@@ -10,6 +10,7 @@ WHOLE = os.path.join(ROOT, 'target', 'bin', 'test_whole_texts')
 LONGEST = 8192      # bytes of a text that WHOLE takes
 WRAPPER = os.path.join(ROOT, 'bin', 'adjust')
 sys.path.insert(0, os.path.join(HERE, '..', 'reference'))
+import kinds
 import lines
 import proposals
 
@@ -33,12 +34,33 @@ def first_difference(got, want):
     return 'line %d is %r, not %r' % (k + 1, shown(g), shown(w))
 
 
+class Noted(lines.Run):
+    """The reference, with what accepted edits find at their place, as `enter over another record`; where R is before the line, `R enter over another record`."""
+
+    def __init__(self, propose=lambda net, records: None):
+        super().__init__(propose)
+        self.mark = ''
+        self.found = set()
+
+    def apply(self, line):
+        self.mark = 'R ' if line[:2] == b'R ' else ''
+        return super().apply(line)
+
+    def edit(self, call, *arguments):
+        place = arguments[0] if arguments else self.ledger.edits[-1] if self.ledger.edits else None
+        before = self.ledger.at(place)
+        refused = super().edit(call, *arguments)
+        if not refused:
+            self.found.add(self.mark + kinds.of_edit(call, before, self.ledger.at(place)))
+        return refused
+
+
 class Expected:
     """What the reference prints for these bytes. Where the engine proposes, `network` is what it proposes for, and `messages` what stands before its sheet."""
 
     def __init__(self, data):
         self.network = None
-        self.run = lines.Run(self.propose)
+        self.run = Noted(self.propose)
         self.text = self.run.run(data)
 
     def propose(self, net, records):

@@ -92,8 +92,7 @@ class Run:
             return 0
         edit = edit_of(fields)
         if edit:
-            call, *arguments = edit
-            return getattr(self.ledger, call)(*arguments)
+            return self.edit(*edit)
         if head in (b'X', b'M'):
             values = [number(f) for f in fields[1:]]
             if len(values) > (48 if head == b'X' else 2304):
@@ -104,6 +103,9 @@ class Run:
                 self.m = values
             return 0
         raise Unreadable
+
+    def edit(self, call, *arguments):
+        return getattr(self.ledger, call)(*arguments)
 
     def run(self, data):
         for k, line in enumerate(split(data), 1):
