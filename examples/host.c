@@ -52,6 +52,17 @@ static void read_record(int64_t place, int64_t record[14]) {
     number("a place", dombrelat_record(book, sizeof book, place, (uint8_t *)record, DOMBRELAT_RECORD_BYTES));
 }
 
+/* Entering at a filled place overwrites it, and an undo restores the earlier record. */
+static void enter_and_undo(void) {
+    int64_t record[14];
+    number("a record", dombrelat_enter_height(book, sizeof book, 5, 2, 4, -189900, 100));
+    read_record(5, record);
+    printf("entered again, place 5 holds %" PRId64, record[5]);
+    number("an undo", dombrelat_undo(book, sizeof book));
+    read_record(5, record);
+    printf(", and after an undo %" PRId64 "\n", record[5]);
+}
+
 /* Unknowns count by station, then E, N, U: a known station has none, a free one all three, a height station U alone. */
 static void print_unknown(int64_t unknown) {
     int64_t list[DOMBRELAT_STATIONS][4];
@@ -119,13 +130,14 @@ int main(void) {
             printf("after 2 records the check is refused with %d: ", (int)DOMBRELAT_REFUSAL(result));
             print_unknown(DOMBRELAT_UNTIED_UNKNOWN(result));
         }
-        number("a record", dombrelat_add_height(book, sizeof book, k + 1, l[0], l[1], l[2], l[3]));
+        number("a record", dombrelat_enter_height(book, sizeof book, k + 1, l[0], l[1], l[2], l[3]));
     }
 
     /* A blunder: two metres too much are refused, and the book stays as it was. */
-    result = dombrelat_replace_height(book, sizeof book, 5, 2, 4, -189960 + 200000, 100);
+    result = dombrelat_enter_height(book, sizeof book, 5, 2, 4, -189960 + 200000, 100);
     read_record(5, record);
     printf("a height difference 2 m off is refused with %d, and place 5 still holds %" PRId64 "\n", (int)DOMBRELAT_REFUSAL(result), record[5]);
+    enter_and_undo();
 
     number("a proposal", dombrelat_propose(book, sizeof book, (uint8_t *)x, x_bytes, (uint8_t *)m, m_bytes));
     sheet_bytes = (size_t)number("the sheet's bytes", dombrelat_sheet_bytes(book, sizeof book));
