@@ -20,8 +20,8 @@ static inline int64_t fill(int heights) {
         int64_t d[3];
         t = t == f ? (t + 1) % 32 : t;
         d[0] = stations[t][1] - stations[f][1] + k % 17, d[1] = stations[t][2] - stations[f][2] - k % 13, d[2] = stations[t][3] - stations[f][3] + k % 11;
-        refused |= heights && k % 4 == 3 ? dombrelat_add_height(bytes, sizeof book, k + 1, f + 1, t + 1, d[2], 50 + k)
-                                         : dombrelat_add_baseline(bytes, sizeof book, k + 1, f + 1, t + 1, d[0], d[1], d[2], 100 + k, 3, -2, 120, 1, 90);
+        refused |= heights && k % 4 == 3 ? dombrelat_enter_height(bytes, sizeof book, k + 1, f + 1, t + 1, d[2], 50 + k)
+                                         : dombrelat_enter_baseline(bytes, sizeof book, k + 1, f + 1, t + 1, d[0], d[1], d[2], 100 + k, 3, -2, 120, 1, 90);
     }
     return refused;
 }

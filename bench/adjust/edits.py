@@ -1,4 +1,5 @@
-"""Edit lines for the network of examples/full_size_network.txt, all of them accepted: replacements of baselines and of height differences, strikes with the place filled again, undos.
+"""Edit lines for the network of examples/full_size_network.txt, all of them accepted: baselines and height differences entered over those at their places,
+with R before them, which changes nothing; strikes with the place filled again; undos.
 
     edits.py COUNT
 """

@@ -1,27 +1,27 @@
-/* One edit of a full book by value: a replay of 256 adds and then EDITS replacements, less a replay of the 256 adds alone. Both answer every row, and the answers are
- * compared. It runs on a stack of 512 KiB. */
+/* One edit of a full book by value: a replay of 256 enters at empty places and then EDITS more rows, most of them enters over those records, less a replay of the 256 alone. Both
+ * answer every row, and the answers are compared. It runs on a stack of 512 KiB. */
 #include "../common.h"
 #include "twin.h"
 #include <pthread.h>
 #include <string.h>
 
-enum { EDITS = 4000, ROWS = 256 + EDITS, WORDS = 14 };
+enum { FILL = 256, EDITS = 4000, ROWS = FILL + EDITS, WORDS = 14 };
 
 uint64_t bench_replay(const int64_t *list, size_t words, const int64_t *calls, size_t call_words, int64_t *answers, size_t room);
 
 static int64_t list[17 * 4], calls[ROWS * WORDS], answers[ROWS], twin_answers[ROWS];
 static int failed;
 
-/* one known station and 16 free ones; baselines between them, every one of which enters; the last edits are struck, undone and refused ones too */
+/* one known station and 16 free ones; baselines between them, every one of which is accepted; among the last rows are strikes, undos and such as name no call */
 static void sample(void) {
     for (int s = 0; s < 17; s++) {
         list[s * 4] = s == 0 ? 1 : 2;
     }
     for (int k = 0; k < ROWS; k++) {
         int f = k % 17, t = (f + 1 + k / 17 % 16) % 17, v = k % 1000;
-        int64_t row[WORDS] = {k < 256 ? 1 : 2, k % 256 + 1, 1, f + 1, t + 1, v, -v, 2 * v, 100, 10, -10, 100, 10, 100};
+        int64_t row[WORDS] = {ENTER, k % 256 + 1, 1, f + 1, t + 1, v, -v, 2 * v, 100, 10, -10, 100, 10, 100};
         if (k >= ROWS - 100) {
-            row[0] = 3 + k % 3;
+            row[0] = STRIKE + k % 3;
         }
         memcpy(calls + k * WORDS, row, sizeof row);
     }
@@ -40,9 +40,9 @@ static void library_all(int k) {
     library(ROWS);
 }
 
-static void library_adds(int k) {
+static void library_fill(int k) {
     (void)k;
-    library(256);
+    library(FILL);
 }
 
 static void plain_all(int k) {
@@ -50,13 +50,13 @@ static void plain_all(int k) {
     plain(ROWS);
 }
 
-static void plain_adds(int k) {
+static void plain_fill(int k) {
     (void)k;
-    plain(256);
+    plain(FILL);
 }
 
 static void *measure(void *unused) {
-    void (*const replays[])(int) = {library_all, library_adds, plain_all, plain_adds};
+    void (*const replays[])(int) = {library_all, library_fill, plain_all, plain_fill};
     double best[4];
     library(ROWS);
     plain(ROWS);

@@ -1,4 +1,4 @@
-/* The plain C twin of the book: the same struct, the same edits, in place. It refuses what the table refuses of adds, replacements, strikes and undos, and
+/* The plain C twin of the book: the same struct, the same edits, in place. It refuses what the table refuses of enters, strikes and undos, and
    keeps N and u by taking the old record's share off and putting the new one's on. */
 #include "twin.h"
 #include <string.h>
@@ -104,7 +104,7 @@ static void put(book *b, size_t place, const record *r)
 
 int64_t twin_call(book *b, int64_t call, int64_t place, record r)
 {
-    if (call == 4) {
+    if (call == UNDO) {
         if (b->held == 0)
             return 8;
         size_t slot = (b->next + 63) % 64;
@@ -115,18 +115,15 @@ int64_t twin_call(book *b, int64_t call, int64_t place, record r)
         put(b, last.place, &last.prior);
         return 0;
     }
-    if (call < 1 || call > 4)
+    if (call != ENTER && call != STRIKE)
         return -1;
     if (place < 1 || place > 256)
         return 2;
-    if (call == 3)
-        memset(&r, 0, sizeof r);
-    int n = call == 3 ? 0 : record_no(b, &r);
+    int n = call == ENTER ? record_no(b, &r) : b->places[place - 1].kind == 0 ? 7 : 0;
     if (n)
         return n;
-    int filled = b->places[place - 1].kind != 0;
-    if (filled != (call != 1))
-        return 7;
+    if (call == STRIKE)
+        memset(&r, 0, sizeof r);
     b->entries[b->next] = (reversal) { (size_t)place - 1, b->places[place - 1] };
     b->next = (b->next + 1) % 64;
     b->held += b->held < 64;

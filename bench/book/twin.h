@@ -3,6 +3,7 @@
 #include <stdint.h>
 
 enum { STATIONS = 32, COMPONENTS = 96, PLACES = 256, ROW = 48 };
+enum { ENTER = 1, STRIKE, UNDO }; /* the first word of a row of calls */
 
 typedef struct {
     int64_t kind, east, north, up; /* 1 known, 2 free, 3 height; 0 beyond the list */

@@ -3,7 +3,7 @@
 #include "../common.h"
 #include <string.h>
 
-int64_t twin_replace_baseline(uint8_t *bytes, size_t n, int64_t place, const int64_t numbers[11]);
+int64_t twin_enter_baseline(uint8_t *bytes, size_t n, int64_t place, const int64_t numbers[11]);
 
 static _Alignas(8) uint8_t book[DOMBRELAT_BOOK_BYTES], other[DOMBRELAT_BOOK_BYTES];
 static int64_t record[11] = {0, 0, 0, 0, 0, 100, 3, -2, 120, 1, 90}, refused;
@@ -14,21 +14,15 @@ static void choose(int k) {
     record[2] = k % 97, record[3] = -(k % 89), record[4] = k % 83;
 }
 
-static void add(int k) {
-    const int64_t *r = record;
-    choose(k);
-    refused |= dombrelat_add_baseline(book, sizeof book, k + 1, r[0], r[1], r[2], r[3], r[4], r[5], r[6], r[7], r[8], r[9], r[10]);
-}
-
 static void library(int k) {
     const int64_t *r = record;
     choose(k);
-    refused |= dombrelat_replace_baseline(book, sizeof book, 1 + k % 256, r[0], r[1], r[2], r[3], r[4], r[5], r[6], r[7], r[8], r[9], r[10]);
+    refused |= dombrelat_enter_baseline(book, sizeof book, 1 + k % 256, r[0], r[1], r[2], r[3], r[4], r[5], r[6], r[7], r[8], r[9], r[10]);
 }
 
 static void plain(int k) {
     choose(k);
-    refused |= twin_replace_baseline(other, sizeof other, 1 + k % 256, record);
+    refused |= twin_enter_baseline(other, sizeof other, 1 + k % 256, record);
 }
 
 int main(void) {
@@ -41,7 +35,7 @@ int main(void) {
     }
     refused = dombrelat_open((const uint8_t *)stations, sizeof stations, book, sizeof book);
     for (int k = 0; k < 256; k++) {
-        add(k);
+        library(k);
     }
     memcpy(other, book, sizeof book);
     least(calls, 2, 100, 256, best);

@@ -1,4 +1,4 @@
-/* A plain C implementation of one edit on lent bytes, for the comparison of speed: the whole test behind 25, the replacement of a record, N, u and the journal, in place.
+/* A plain C implementation of one edit on lent bytes, for the comparison of speed: the whole test behind 25, the record entered, N, u and the journal, in place.
  * It takes the layout of docs/BOOK.md as an array of int64_t. */
 #include <stdint.h>
 #include <stdlib.h>
@@ -130,7 +130,7 @@ static int sound(const int64_t *w, int at[96]) {
     return memcmp(fresh, w + MATRIX, sizeof fresh) == 0;
 }
 
-int64_t twin_replace_baseline(uint8_t *bytes, size_t n, int64_t place, const int64_t numbers[11]) {
+int64_t twin_enter_baseline(uint8_t *bytes, size_t n, int64_t place, const int64_t numbers[11]) {
     int64_t *w = (int64_t *)bytes, *old, *slot, l[3], before[3], r[14] = {1};
     int at[96], no;
     if (n < 8 * WORDS || !sound(w, at)) {
@@ -145,9 +145,6 @@ int64_t twin_replace_baseline(uint8_t *bytes, size_t n, int64_t place, const int
         return no;
     }
     old = w + PLACES + 14 * (place - 1);
-    if (old[0] == 0) {
-        return 7;
-    }
     rules(w, old, before);
     share(at, old, before, -1, w + MATRIX, w + RIGHT);
     share(at, r, l, 1, w + MATRIX, w + RIGHT);
