@@ -18,9 +18,8 @@ ghost use Rattle.network.specs.Units.{placeCount};
 ghost use Rattle.network.specs.Stations.{opens};
 ghost use Rattle.network.specs.Records.{recordAt};
 ghost use Rattle.network.specs.Rules.{recordFits};
-ghost use Rattle.book.specs.Book.{openedBook, opening, withEntry, edited, settled, outcome, sound};
+ghost use Rattle.book.specs.Book.{openedBook, opening, withEntry, outcome, sound};
 ghost use Rattle.book.specs.Sound.{SoundParts};
-ghost use Rattle.book.specs.SoundLaws.{MayPut};
 
 impl Book {
     // No records, nothing to take back.
@@ -87,27 +86,6 @@ impl Book {
         self
     }
 
-    // The edit, unless it is refused.
-    fn settle(self, n: u64, i: usize, r: Record) -> Edited
-        requires { ⌜ SoundParts self × (n ≡ 0 → MayPut self i r) ⌝ }
-        ensures { λ e. ⌜ e ≡ settled n self (edited self i r) ⌝ }
-    {
-        if n == 0 {
-            let old = self.record_at(i);
-            let journal = self.journal;
-            let longer = journal.push(Reversal {
-                place: i,
-                prior: old,
-            });
-            let book = self.put(i, r, longer);
-            return Edited { refusal: 0, book };
-        }
-        Edited {
-            refusal: n,
-            book: self,
-        }
-    }
-
     // Changes a place.
     fn edit(self, place: i64, change: Change) -> Edited
         requires { ⌜ sound self ≡ true ⌝ }
@@ -117,8 +95,20 @@ impl Book {
         let i = words::index_in(place, Unit::PLACES);
         let current = self.record_at(i);
         let n = refusals::edit_no(net, place, change, current);
+        if n != 0 {
+            return Edited {
+                refusal: n,
+                book: self,
+            };
+        }
+        let journal = self.journal;
+        let longer = journal.push(Reversal {
+            place: i,
+            prior: current,
+        });
         let r = refusals::puts_of(change);
-        self.settle(n, i, r)
+        let book = self.put(i, r, longer);
+        Edited { refusal: 0, book }
     }
 
     // Takes the latest edit back.
