@@ -1,6 +1,6 @@
 """Random calls on the static library from fixed seeds: every result and every byte of every lent slice compared with the independent implementation in tests/reference and the
-layout of docs/BOOK.md. Valid calls, refused ones, extreme numbers, wrong lengths, every call on damaged and short bytes; an enter and its undo, which leave the book as it was. Fails
-too where it meets less than coverage.py asks. Prints 'N passed, M failed' last.
+layout of docs/BOOK.md. Valid calls, refused ones, extreme numbers, wrong lengths, every call on damaged and short bytes; an enter and its undo, which leave the book as it was
+but for the oldest edit of a full history. Fails too where it meets less than coverage.py asks. Prints 'N passed, M failed' last.
 
     python3 tests/host/calls.py LIBRARY.so
 """

@@ -107,7 +107,7 @@ def fits(net, r):
 
 
 @functools.lru_cache(maxsize=4)
-def entered(front):
+def before_journal(front):
     """(stations, records, bytes of their N and u) of the bytes before the journal; None where they break a rule. Kept, since damage elsewhere leaves them as they are."""
     w = struct.unpack('<%dq' % NEXT_AT, front)
     if w[0] != 1 or not 1 <= w[1] <= 32:
@@ -126,7 +126,7 @@ def entered(front):
 
 def judge(data):
     """The book in lent bytes, or None where 25 is right."""
-    known = entered(data[:8 * NEXT_AT]) if len(data) >= BYTES else None
+    known = before_journal(data[:8 * NEXT_AT]) if len(data) >= BYTES else None
     if known is None or known[2] != data[8 * MATRIX_AT:BYTES]:
         return None
     book = Book(known[0])

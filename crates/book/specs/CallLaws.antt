@@ -114,23 +114,19 @@ unfolding first
 first-is zero n k e = inr (refl, e)
 first-is (suc m) n k e = inl e
 
+-- a test that gives 0 or another number than 7
+not-seven : (t : Bool) (n : ℕ) → (n ≡ 7 → ⊥) → cond t 0 n ≡ 7 → ⊥
+not-seven true n h e = absurd (let z : _≡_ {A = ℕ} 0 7 = e in omega arith)
+not-seven false n h e = h e
+
 module _ (net : Network) (at : ℕ → Record) where
-  -- a number that a test gives where it fails is that number or 0
   place-not-seven : (p : ℤ) → placeNo p ≡ 7 → ⊥
   unfolding placeNo
-  place-not-seven p e = by (inList 256 p) e
-    where
-      by : (t : Bool) → _≡_ {A = ℕ} (cond t 0 2) 7 → ⊥
-      by true q = absurd (let z : _≡_ {A = ℕ} 0 7 = q in omega arith)
-      by false q = absurd (let z : _≡_ {A = ℕ} 2 7 = q in omega arith)
+  place-not-seven p e = not-seven (inList 256 p) 2 (λ q. omega arith) e
 
   size-not-seven : (p : ℕ) (r : Record) → sizeNo net at p r ≡ 7 → ⊥
   unfolding sizeNo
-  size-not-seven p r e = by (entriesFit (net .stations) (placesOf (changed at p r))) e
-    where
-      by : (t : Bool) → _≡_ {A = ℕ} (cond t 0 9) 7 → ⊥
-      by true q = absurd (let z : _≡_ {A = ℕ} 0 7 = q in omega arith)
-      by false q = absurd (let z : _≡_ {A = ℕ} 9 7 = q in omega arith)
+  size-not-seven p r e = not-seven (entriesFit (net .stations) (placesOf (changed at p r))) 9 (λ q. omega arith) e
 
   enter-not-seven : (p : ℕ) (r : Record) → changeNo net at p (Enter r) ≡ 7 → ⊥
   unfolding changeNo

@@ -1,5 +1,6 @@
--- The numbers of document 01's table, as document 02's request 3 amends it, for the calls that src/lib.rt declares. One table, by which the book and the ledger are both judged:
--- it goes by the station list, the record at each place (counted from 0), and the number of edits that can be taken back. Assumes nothing.
+-- The numbers of document 01's table, as document 02's request 3 amends it, for the calls that src/lib.rt declares. One table, by which the book and
+-- the ledger are both judged: it goes by the station list, the record at each place (counted from 0), and the number of edits that can be taken back.
+-- Assumes nothing.
 use Prim.Native.Nat.{ℕ, zero, suc}
 use mathlib.Core.Bool.{cond}
 use mathlib.Core.List.{List}

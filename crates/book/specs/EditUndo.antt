@@ -1,5 +1,6 @@
--- An edit that is not refused, be it an enter over a filled or an empty place or a strike, and an undo right after it leave the book as it was.
--- Document 02, request 3: "Its undo restores the earlier record, or emptiness." The crate dombrelat states it again over bytes. Assumes nothing.
+-- An edit that is not refused, be it an enter over a filled or an empty place or a strike, and an undo right after it leave the book as it was, but for the
+-- oldest edit of a full history, which is gone. Document 02, request 3: "Its undo restores the earlier record, or emptiness." The crate dombrelat states
+-- it again over bytes. Assumes nothing.
 use Prim.Native.Nat.{ℕ, zero, suc, _-_, _<_}
 use mathlib.Core.Path.{_≡_, refl, sym, ap, _∙_}
 use mathlib.Core.Bool.{true}

@@ -1,5 +1,5 @@
--- Document 01's plain ledger, which since document 02's request 3 "reads "enters, strikes and undos"", by which demand 3 measures the book: "It is fed the opened station list and each call with its arguments other than
--- the book, and nothing else." It knows nothing of how a book is kept. Assumes nothing.
+-- Document 01's plain ledger, by which demand 3 measures the book; of enters, strikes and undos since document 02's request 3. "It is fed the opened
+-- station list and each call with its arguments other than the book, and nothing else." It knows nothing of how a book is kept. Assumes nothing.
 use Prim.Native.Nat.{ℕ, _+_, _-_, min}
 use mathlib.Core.Bool.{cond}
 use mathlib.Core.List.{List, [], _∷_}

@@ -1,4 +1,5 @@
--- Document 01, "Both sides of each line": the lines marked *, as one table; since document 02's request 3 every record is entered. "All start from the network above", that of the night print. Assumes nothing.
+-- Document 01, "Both sides of each line": the lines marked *, as one table; since document 02's request 3 every record is entered.
+-- "All start from the network above", that of the night print. Assumes nothing.
 use Prim.Native.Nat.{ℕ, _+_}
 use mathlib.Core.List.{List, [], _∷_, _++_}
 use lib.IntN.{ℤ, pos, negℤ}

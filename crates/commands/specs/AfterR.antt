@@ -6,7 +6,8 @@ use mathlib.Core.Bool.{Bool, cond}
 use mathlib.Core.List.{List, _∷_}
 use mathlib.Core.Logic.{_⊎_, inl, inr}
 use native.Mathlib.Omega.{arith}
-use borrow.Author.Tests.{le-ltb, ne-eqb}
+use native.Mathlib.Decide.{decLe}
+use borrow.Author.Tests.{lt-ltb, le-ltb, ne-eqb}
 use lib.ListN.{length}
 use Rattle.text.specs.Before.{before}
 use Rattle.text.specs.Fields.{fieldsOf, restFields, letterOf}
@@ -34,6 +35,10 @@ module _ (read : ℕ) (unopened : Bool) (line : List ℕ) (short : length line +
   pub R-changes-nothing : (letterIn line ≡ letter-H) ⊎ (letterIn line ≡ letter-B) → commandOf read unopened (withR line) ≡ commandOf read unopened line
   R-changes-nothing which = with-R ∙ sym (enters (letterIn line) refl which)
 
-  pub R-before-others : (letterIn line ≡ letter-H → ⊥) → (letterIn line ≡ letter-B → ⊥) → commandOf read unopened (withR line) ≡ Unreadable
-  unfolding entryOf entered
-  R-before-others h b = with-R ∙ rw (ne-eqb (letterIn line) letter-H h, ne-eqb (letterIn line) letter-B b)
+pub R-before-others : (read : ℕ) (unopened : Bool) (line : List ℕ) → (letterIn line ≡ letter-H → ⊥) → (letterIn line ≡ letter-B → ⊥) → commandOf read unopened (withR line) ≡ Unreadable
+unfolding entryOf entered commandOf
+R-before-others read unopened line h b = by (decLe (length line + 2) longestLine)
+  where
+    by : Dec (length line + 2 ≤ longestLine) → commandOf read unopened (withR line) ≡ Unreadable
+    by (yes short) = with-R read unopened line short ∙ rw (ne-eqb (letterIn line) letter-H h, ne-eqb (letterIn line) letter-B b)
+    by (no long) = ap (λ (t : Bool). cond t Unreadable (fieldsCommand read unopened (letterIn (withR line)) (restFields (withR line)))) (lt-ltb longestLine (length (withR line)) (omega arith))

@@ -43,55 +43,55 @@ howMany Unreadable = 0
 
 -- ════ only an X line brings corrections, and only an M line a matrix
 module _ (part : SolutionPart) where
-  exactly-none : (k : ℕ) (f : (ℕ → ℤ) → Command) (ns : FieldNumbers) → ((v : ℕ → ℤ) → brings (f v) part ≡ false) → brings (exactly k Unreadable f ns) part ≡ false
+  exactly-brings-none : (k : ℕ) (f : (ℕ → ℤ) → Command) (ns : FieldNumbers) → ((v : ℕ → ℤ) → brings (f v) part ≡ false) → brings (exactly k Unreadable f ns) part ≡ false
   unfolding exactly brings
-  exactly-none k f unreadable h = refl
-  exactly-none k f (numbers vs) h = by (eqb (length vs) k)
+  exactly-brings-none k f unreadable h = refl
+  exactly-brings-none k f (numbers vs) h = by (eqb (length vs) k)
     where
       by : (t : Bool) → brings (cond t (f (λ i. lib.ListN.getD vs i (lib.IntN.pos 0))) Unreadable) part ≡ false
       by true = h (λ i. lib.ListN.getD vs i (lib.IntN.pos 0))
       by false = refl
 
-  cond-none : (t : Bool) (a b : Command) → brings a part ≡ false → brings b part ≡ false → brings (cond t a b) part ≡ false
-  cond-none true a b p q = p
-  cond-none false a b p q = q
+  cond-brings-none : (t : Bool) (a b : Command) → brings a part ≡ false → brings b part ≡ false → brings (cond t a b) part ≡ false
+  cond-brings-none true a b p q = p
+  cond-brings-none false a b p q = q
 
-  entered-none : (e : Entry) → brings (entered e) part ≡ false
+  entered-brings-none : (e : Entry) → brings (entered e) part ≡ false
   unfolding entered brings
-  entered-none (entry.Of p r) = refl
-  entered-none entry.Unreadable = refl
+  entered-brings-none (entry.Of p r) = refl
+  entered-brings-none entry.Unreadable = refl
 
-  after-none : (fs : List (List ℕ)) → brings (afterR fs) part ≡ false
+  after-brings-none : (fs : List (List ℕ)) → brings (afterR fs) part ≡ false
   unfolding afterR brings
-  after-none [] = refl
-  after-none (f ∷ fs) = entered-none (entryOf (letterOf f) fs)
+  after-brings-none [] = refl
+  after-brings-none (f ∷ fs) = entered-brings-none (entryOf (letterOf f) fs)
 
-  undo-none : (fs : List (List ℕ)) → brings (undoOf fs) part ≡ false
+  undo-brings-none : (fs : List (List ℕ)) → brings (undoOf fs) part ≡ false
   unfolding undoOf brings
-  undo-none [] = refl
-  undo-none (f ∷ fs) = refl
+  undo-brings-none [] = refl
+  undo-brings-none (f ∷ fs) = refl
 
   pub unreadable-none : brings Unreadable part ≡ false
   unfolding brings
   unreadable-none = refl
 
-  kind-none : (letter : ℕ) (ns : FieldNumbers) → brings (stationOfKind letter ns) part ≡ false
+  kind-brings-none : (letter : ℕ) (ns : FieldNumbers) → brings (stationOfKind letter ns) part ≡ false
   unfolding stationOfKind brings
-  kind-none letter ns =
-      cond-none (eqb letter letter-K) _ _ (exactly-none 3 _ ns (λ v. refl))
-      (cond-none (eqb letter letter-F) _ _ (exactly-none 3 _ ns (λ v. refl)) (cond-none (eqb letter letter-V) _ _ (exactly-none 3 _ ns (λ v. refl)) refl))
+  kind-brings-none letter ns =
+      cond-brings-none (eqb letter letter-K) _ _ (exactly-brings-none 3 _ ns (λ v. refl))
+      (cond-brings-none (eqb letter letter-F) _ _ (exactly-brings-none 3 _ ns (λ v. refl)) (cond-brings-none (eqb letter letter-V) _ _ (exactly-brings-none 3 _ ns (λ v. refl)) refl))
 
-  station-none : (read : ℕ) (fs : List (List ℕ)) → brings (stationOf read fs) part ≡ false
+  station-brings-none : (read : ℕ) (fs : List (List ℕ)) → brings (stationOf read fs) part ≡ false
   unfolding stationOf brings
-  station-none read [] = refl
-  station-none read (n ∷ []) = refl
-  station-none read (n ∷ k ∷ fs) = cond-none (numberedInTurn read (numberIn n)) _ _ (kind-none (letterOf k) (numbersIn fs)) refl
+  station-brings-none read [] = refl
+  station-brings-none read (n ∷ []) = refl
+  station-brings-none read (n ∷ k ∷ fs) = cond-brings-none (numberedInTurn read (numberIn n)) _ _ (kind-brings-none (letterOf k) (numbersIn fs)) refl
 
-  other-none : (letter : ℕ) (fs : List (List ℕ)) → brings (otherOf letter fs) part ≡ false
+  other-brings-none : (letter : ℕ) (fs : List (List ℕ)) → brings (otherOf letter fs) part ≡ false
   unfolding otherOf brings
-  other-none letter fs =
-      cond-none (eqb letter letter-R) _ _ (after-none fs)
-      (cond-none (eqb letter letter-D) _ _ (exactly-none 1 strikeOf (numbersIn fs) (λ v. refl)) (cond-none (eqb letter letter-U) _ _ (undo-none fs) (entered-none (entryOf letter fs))))
+  other-brings-none letter fs =
+      cond-brings-none (eqb letter letter-R) _ _ (after-brings-none fs)
+      (cond-brings-none (eqb letter letter-D) _ _ (exactly-brings-none 1 strikeOf (numbersIn fs) (λ v. refl)) (cond-brings-none (eqb letter letter-U) _ _ (undo-brings-none fs) (entered-brings-none (entryOf letter fs))))
 
 -- ════ what a line brought: the numbers ns stand at the front of the list, or the list is as it was
 pub data Brought (part : SolutionPart) (most : ℕ) (c : Command) (ns : FieldNumbers) (l after : List ℤ) : Type 0 where
@@ -133,10 +133,10 @@ not-corrections read u letter fs e = rw e (by (eqb letter letter-S) (eqb letter 
     as-matrix (numbers vs) = refl
 
     by : (s t w : Bool) → brings (cond s (cond w (stationOf read fs) Unreadable) (cond t (countedAs Matrix (matrixIn fs)) (otherOf letter fs))) corrections ≡ false
-    by true t true = station-none corrections read fs
+    by true t true = station-brings-none corrections read fs
     by true t false = refl
     by false true w = as-matrix (matrixIn fs)
-    by false false w = other-none corrections letter fs
+    by false false w = other-brings-none corrections letter fs
 
 not-matrix : (read : ℕ) (u : Bool) (letter : ℕ) (fs : List (List ℕ)) → eqb letter letter-M ≡ false → brings (fieldsCommand read u letter fs) matrix ≡ false
 unfolding fieldsCommand countedAs brings
@@ -147,10 +147,10 @@ not-matrix read u letter fs e = rw e (by (eqb letter letter-S) (eqb letter lette
     as-corrections (numbers vs) = refl
 
     by : (s t w : Bool) → brings (cond s (cond w (stationOf read fs) Unreadable) (cond t (countedAs Corrections (correctionsIn fs)) (otherOf letter fs))) matrix ≡ false
-    by true t true = station-none matrix read fs
+    by true t true = station-brings-none matrix read fs
     by true t false = refl
     by false true w = as-corrections (correctionsIn fs)
-    by false false w = other-none matrix letter fs
+    by false false w = other-brings-none matrix letter fs
 
 is-corrections : (read : ℕ) (u : Bool) (letter : ℕ) (fs : List (List ℕ)) → letter ≡ letter-X → fieldsCommand read u letter fs ≡ countedAs Corrections (correctionsIn fs)
 unfolding fieldsCommand

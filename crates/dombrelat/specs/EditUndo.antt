@@ -1,5 +1,6 @@
--- An edit that is answered 0, be it an enter over a filled or an empty place or a strike, and an undo right after it leave the bytes as they were.
--- Document 02, request 3: "Its undo restores the earlier record, or emptiness." Over books: book, specs/EditUndo.antt. Assumes nothing.
+-- An edit that is answered 0, be it an enter over a filled or an empty place or a strike, and an undo right after it leave the bytes as they were, but for
+-- those of the journal where the history was full: its oldest edit is gone. Document 02, request 3: "Its undo restores the earlier record, or emptiness."
+-- Over books: book, specs/EditUndo.antt. Assumes nothing.
 use Prim.Native.Nat.{ℕ, _<_, _≤_}
 use mathlib.Core.Path.{_≡_, sym, ap, _∙_, subst}
 use mathlib.Core.Bool.{true}

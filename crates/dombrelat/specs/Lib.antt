@@ -1,4 +1,5 @@
--- What the C calls answer and leave (Calls, CheckCalls, Proposal, Reading), the three demands over bytes (Demand1, Demand2, Demand3), an edit with its undo (EditUndo), and their laws. The layout of a book's bytes is in crate layout.
+-- What the C calls answer and leave (Calls, CheckCalls, Proposal, Reading), the three demands over bytes (Demand1, Demand2, Demand3),
+-- an edit with its undo (EditUndo), and their laws. The layout of a book's bytes is in crate layout.
 pub mod Calls
 pub mod CheckCalls
 pub mod Proposal

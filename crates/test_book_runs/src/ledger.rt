@@ -1,4 +1,5 @@
 // Document 01's plain ledger in code: the standing edits in order. It knows nothing of a book.
+use super::samples;
 use network::Place;
 use network::Record;
 ghost use Prim.Native.Nat.{_≤_};
@@ -57,16 +58,16 @@ impl Ledger {
         }
     }
 
-    // After a call (0 enter, 1 strike, any other undo), which was answered with a number: a refused one changes nothing.
+    // After a call of a kind, which was answered with a number: a refused one changes nothing.
     pub(crate) fn next(self, refusal: u64, kind: usize, place: i64, entry: Record) -> Ledger {
         if refusal != 0 {
             return self;
         }
-        if kind == 0 {
+        if kind == samples::ENTER {
             let l = self.appended(place, entry);
             return l;
         }
-        if kind == 1 {
+        if kind == samples::STRIKE {
             let none = Record::Empty;
             let l = self.appended(place, none);
             return l;

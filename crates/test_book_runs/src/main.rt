@@ -49,17 +49,15 @@ impl Tally {
     }
 }
 
-// Calls by number: 0 enter, 1 strike, any other undo.
-const ENTER: usize = 0;
-
-const UNDO: usize = 2;
-
+// The call of a kind.
 fn call_of(kind: usize, place: i64, entry: Record) -> Call {
-    match kind {
-        0 => Call::Edit(place, Change::Enter(entry)),
-        1 => Call::Edit(place, Change::Strike),
-        _ => Call::Undo,
+    if kind == samples::ENTER {
+        return Call::Edit(place, Change::Enter(entry));
     }
+    if kind == samples::STRIKE {
+        return Call::Edit(place, Change::Strike);
+    }
+    Call::Undo
 }
 
 // The book is sound, and its records are those of the ledger.
@@ -204,10 +202,10 @@ fn pushed_out() {
     if !book::is_sound(book) {
         return;
     }
-    let edits = series(book, ENTER, 65);
+    let edits = series(book, samples::ENTER, 65);
     print_line(b"65 enters, accepted: ", edits.accepted);
     let edited = edits.book;
-    let undos = series(edited, UNDO, 64);
+    let undos = series(edited, samples::UNDO, 64);
     print_line(b"64 undos, accepted: ", undos.accepted);
     let undone = undos.book;
     let places = undone.places;
@@ -224,15 +222,15 @@ fn entered_twice() {
     if !book::is_sound(book) {
         return;
     }
-    let first = series(book, ENTER, 1);
+    let first = series(book, samples::ENTER, 1);
     let filled = first.book;
-    let again = series(filled, ENTER, 1);
+    let again = series(filled, samples::ENTER, 1);
     print_line(
         b"an equal record entered over it, accepted: ",
         again.accepted,
     );
     let edited = again.book;
-    let undos = series(edited, UNDO, 3);
+    let undos = series(edited, samples::UNDO, 3);
     print_line(b"3 undos, accepted: ", undos.accepted);
 }
 

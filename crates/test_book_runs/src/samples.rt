@@ -39,13 +39,20 @@ pub(crate) fn next(s: u64) -> u64
     (s % 2147483647) * 16807 % 2147483647
 }
 
+// Kinds of call.
+pub(crate) const ENTER: usize = 0;
+
+pub(crate) const STRIKE: usize = 1;
+
+pub(crate) const UNDO: usize = 2;
+
 // Of ten calls six enter, two strike and two undo.
 pub(crate) fn kind(s: u64) -> usize {
     let d = s / 7 % 10;
     if d < 6 {
-        return 0;
+        return ENTER;
     }
-    if d < 8 { 1 } else { 2 }
+    if d < 8 { STRIKE } else { UNDO }
 }
 
 // low to low + n - 1.

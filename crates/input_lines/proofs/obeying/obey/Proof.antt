@@ -1,4 +1,4 @@
--- The line begins (`LineBegins`), read in the state that leaves (`Reads`), its edit made (`EditLeaves`) and its message written: `line-obeyed` puts the
+-- The line begins (`LineBegins`), is read in the state that leaves (`Reads`), its edit made (`EditLeaves`) and its message written: `line-obeyed` puts the
 -- four together, and `ready-next` keeps up what the next line asks. Assumes nothing.
 use borrow.Author.Needs.{needs}
 use mathlib.Core.Path.{sym, ap, _∙_}
