@@ -77,6 +77,11 @@ pub unless-none : {A : Type 0} (n : ℕ) (a b : A) → n ≡ 0 → unless n a b 
 unfolding unless
 unless-none n a b e = rw e
 
+pub unless-some : {A : Type 0} (n : ℕ) (a b : A) → (n ≡ 0 → ⊥) → unless n a b ≡ a
+unfolding unless
+unless-some zero a b h = absurd (h refl)
+unless-some (suc n) a b h = refl
+
 pub unless-either : {A : Type 0} (P : A → Type 0) (n : ℕ) (a b : A) → P a → (n ≡ 0 → P b) → P (unless n a b)
 unfolding unless
 unless-either P zero a b p q = q refl
@@ -146,7 +151,7 @@ module _ (net : Network) (at : ℕ → Record) where
       by : (placeNo p ≡ 7) ⊎ ((placeNo p ≡ 0) × (changeNo net at (placeOf p) (Enter r) ≡ 7)) → ⊥
       by (inl q) = place-not-seven p q
       by (inr q) = enter-not-seven (placeOf p) r (q .1)
-  seven-strikes count (Edit p Strike) = ((λ e. by (first-is (placeNo p) _ 6 e)), (λ w. back w))
+  seven-strikes count (Edit p Strike) = ((λ e. by (first-is (placeNo p) _ 6 e)), back)
     where
       empty : (t : Bool) → _≡_ {A = ℕ} (cond t 7 0) 7 → t ≡ true
       empty true q = refl

@@ -1,17 +1,19 @@
--- Laws of the journal: what can be taken back after an edit goes on it and after the latest comes off. Assumes nothing.
+-- Laws of the journal: what can be taken back after an edit goes on it, after the latest comes off, and after both. Assumes nothing.
 use Prim.Native.Nat.{ℕ, zero, suc, _+_, _-_, _%_, _≤_, _<_, min}
 use mathlib.Core.Path.{_≡_, refl, sym, ap, _∙_}
 use mathlib.Core.Bool.{Bool, true, false, _&&_, _||_}
-use mathlib.Core.List.{List, _∷_}
+use mathlib.Core.List.{List, [], _∷_}
 use native.Mathlib.Omega.{arith}
 use native.Mathlib.Decide.{ℕ-discrete, decLt}
-use borrow.Author.Tests.{lt-ltb, le-ltb, le-leb, ltb-true, leb-true}
-use lib.Dec.{leb, ltb}
-use lib.ListN.{take, length, set, getD}
-use lib.Seq.{getD-set-same, getD-set-other}
+use borrow.Author.Tests.{eqb-true, lt-ltb, le-ltb, le-leb, ltb-true, leb-true}
+use lib.Dec.{eqb, leb, ltb}
+use lib.ListN.{take, drop, length, set, getD}
+use lib.Seq.{getD-set-same, getD-set-other, set-getD}
 use Rattle.words.specs.Bools.{clash, and-left, and-right, and-both}
 use Rattle.lists.specs.All.{all-at, all-by}
 use Rattle.network.specs.Records.{isEmpty, observations}
+use Rattle.network.specs.RuleLaws.{empty-is}
+use Rattle.network.specs.declared.Record.the-variants.{Empty}
 use Rattle.book.specs.declared.Reversal.{Reversal}
 use Rattle.book.specs.declared.Journal.{Journal}
 use Rattle.book.specs.Journal.{journalSize, slotBefore, slotAfter, oneMore, age, free, entriesBefore, reversals, pushed, popped, latest, isFree, inUse, journalFits}
@@ -33,6 +35,18 @@ fewer l p (suc m) zero = ap (entriesBefore l p) (let e : 0 ≡ min (suc m) 0 = o
 fewer l p (suc m) (suc k) =
     ap (λ (r : List Reversal). getD l (slotBefore p) free ∷ r) (fewer l (slotBefore p) m k)
     ∙ ap (entriesBefore l p) (let e : suc (min m k) ≡ min (suc m) (suc k) = omega arith in e)
+
+-- what a free slot holds
+pub is-free : (u : Reversal) → isFree u ≡ true → u ≡ free
+unfolding isFree
+is-free u e =
+    let place : u .place ≡ 0 = eqb-true _ _ (and-left (eqb (u .place) 0) (isEmpty (u .prior)) e) in
+    let prior : u .prior ≡ Empty = empty-is (u .prior) (and-right (eqb (u .place) 0) (isEmpty (u .prior)) e) in
+    λ i. record { place = place i; prior = prior i }
+
+-- the slot before the one after
+back-again : (slot : ℕ) → slot < journalSize → slotBefore (slotAfter slot) ≡ slot
+back-again slot h = omega arith
 
 -- the counters in range, and the slots not in use free
 pub record Tidy (j : Journal) : Type 0 where
@@ -78,9 +92,8 @@ reversals-push j e len t =
     let k = j .count in
     let p : slot < journalSize = t .next in
     let q : k ≤ journalSize = t .count in
-    let home : slotBefore (slotAfter slot) ≡ slot = omega arith in
     ap (λ (n : ℕ). entriesBefore (set l slot e) (slotAfter slot) n) (let w : oneMore k ≡ suc (min (journalSize - 1) k) = omega arith in w)
-    ∙ ap (λ (n : ℕ). getD (set l slot e) n free ∷ entriesBefore (set l slot e) n (min (journalSize - 1) k)) home
+    ∙ ap (λ (n : ℕ). getD (set l slot e) n free ∷ entriesBefore (set l slot e) n (min (journalSize - 1) k)) (back-again slot p)
     ∙ ap (λ (u : Reversal). u ∷ entriesBefore (set l slot e) slot (min (journalSize - 1) k)) (getD-set-same l slot e free (omega arith))
     ∙ ap (λ (r : List Reversal). e ∷ r) (untouched l slot e 0 (min (journalSize - 1) k) slot p (omega arith) (omega arith) ∙ sym (fewer l slot (journalSize - 1) k))
 
@@ -120,3 +133,32 @@ tidy-popped j len some t =
         let p : j .next < journalSize = t .next in
         let q : j .count ≤ journalSize = t .count in
         ap isFree (getD-set-other (j .entries) (slotBefore (j .next)) slot free free e) ∙ t .blank slot h (omega arith)
+
+-- ════ an edit goes on and comes off
+pub set-again : {A : Type 0} (l : List A) (i : ℕ) (a b : A) → set (set l i a) i b ≡ set l i b
+set-again [] i a b = refl
+set-again (x ∷ l) zero a b = refl
+set-again {A} (x ∷ l) (suc i) a b = ap (λ (r : List A). x ∷ r) (set-again l i a b)
+
+module _ (j : Journal) (u : Reversal) (long : length (j .entries) ≡ journalSize) (t : Tidy j) where
+  pub latest-pushed : latest (pushed j u) ≡ u
+  latest-pushed =
+      let p : j .next < journalSize = t .next in
+      ap (λ (n : ℕ). getD (set (j .entries) (j .next) u) n free) (back-again (j .next) p) ∙ getD-set-same (j .entries) (j .next) u free (omega arith)
+
+  pub history-back : reversals (popped (pushed j u)) ≡ take (journalSize - 1) (reversals j)
+  history-back =
+      ap (λ (h : List Reversal). drop 1 h) (sym (reversals-pop (pushed j u) (omega arith) (tidy-pushed j u long t)) ∙ reversals-push j u long t)
+
+  pub journal-back : j .count < journalSize → popped (pushed j u) ≡ j
+  journal-back few =
+      let p : j .next < journalSize = t .next in
+      let home = back-again (j .next) p in
+      let was : getD (j .entries) (j .next) free ≡ free = is-free _ (t .blank (j .next) p (omega arith)) in
+      let entries : set (set (j .entries) (j .next) u) (slotBefore (slotAfter (j .next))) free ≡ j .entries =
+      ap (λ (n : ℕ). set (set (j .entries) (j .next) u) n free) home
+      ∙ set-again (j .entries) (j .next) u free
+      ∙ ap (set (j .entries) (j .next)) (sym was)
+      ∙ set-getD (j .entries) (j .next) free in
+      let count : oneMore (j .count) - 1 ≡ j .count = omega arith in
+      λ i. record { entries = entries i; next = home i; count = count i }

@@ -18,7 +18,7 @@ ghost use Rattle.book.specs.Replay.{Answers, Ran, Replayed};
 const ROW_LENGTH: usize = 14;
 
 // The calls that a row can name.
-const CALLS: usize = 3;
+const ROW_CALLS: usize = 3;
 
 // The row of this number, place and record.
 fn row_of(kind: usize, place: i64, entry: Record) -> Row
@@ -39,7 +39,7 @@ fn row_in(calls: &[i64], at: usize) -> Row
 {
     let word = calls[at];
     let place = calls[at + 1];
-    let kind = words::index_in(word, CALLS);
+    let kind = words::index_in(word, ROW_CALLS);
     let entry = network::record_in(calls, at + 2);
     row_of(kind, place, entry)
 }

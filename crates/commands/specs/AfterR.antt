@@ -10,14 +10,14 @@ use native.Mathlib.Decide.{decLe}
 use borrow.Author.Tests.{lt-ltb, le-ltb, ne-eqb}
 use lib.ListN.{length}
 use Rattle.text.specs.Before.{before}
-use Rattle.text.specs.Fields.{fieldsOf, restFields, letterOf}
+use Rattle.text.specs.Fields.{space, fieldsOf, restFields, letterOf}
 use Rattle.text.specs.FieldLaws.{first-and-rest}
 use Rattle.commands.specs.declared.Command.the-variants.{Unreadable}
 use Rattle.commands.specs.Commands.{letter-H, letter-B, letter-R, longestLine, entryOf, entered, afterR, otherOf, fieldsCommand, letterIn, commandOf}
 
 -- the line with R and a blank before it
 abbrev pub withR : List ℕ → List ℕ
-withR line = letter-R ∷ 32 ∷ line
+withR line = letter-R ∷ space ∷ line
 
 module _ (read : ℕ) (unopened : Bool) (line : List ℕ) (short : length line + 2 ≤ longestLine) where
   -- what the fields after the R give
@@ -27,13 +27,14 @@ module _ (read : ℕ) (unopened : Bool) (line : List ℕ) (short : length line +
       ap (λ (t : Bool). cond t Unreadable (afterR (fieldsOf line))) (le-ltb longestLine (length (withR line)) (omega arith))
       ∙ ap afterR (first-and-rest line)
 
-  enters : (letter : ℕ) → letterIn line ≡ letter → (letter ≡ letter-H) ⊎ (letter ≡ letter-B) → commandOf read unopened line ≡ entered (entryOf (letterIn line) (restFields line))
+  -- what they give alone
+  without-R : (letter : ℕ) → letterIn line ≡ letter → (letter ≡ letter-H) ⊎ (letter ≡ letter-B) → commandOf read unopened line ≡ entered (entryOf (letterIn line) (restFields line))
   unfolding commandOf fieldsCommand otherOf
-  enters letter is (inl h) = rw (le-ltb longestLine (length line) (omega arith), is, h)
-  enters letter is (inr b) = rw (le-ltb longestLine (length line) (omega arith), is, b)
+  without-R letter is (inl h) = rw (le-ltb longestLine (length line) (omega arith), is, h)
+  without-R letter is (inr b) = rw (le-ltb longestLine (length line) (omega arith), is, b)
 
   pub R-changes-nothing : (letterIn line ≡ letter-H) ⊎ (letterIn line ≡ letter-B) → commandOf read unopened (withR line) ≡ commandOf read unopened line
-  R-changes-nothing which = with-R ∙ sym (enters (letterIn line) refl which)
+  R-changes-nothing which = with-R ∙ sym (without-R (letterIn line) refl which)
 
 pub R-before-others : (read : ℕ) (unopened : Bool) (line : List ℕ) → (letterIn line ≡ letter-H → ⊥) → (letterIn line ≡ letter-B → ⊥) → commandOf read unopened (withR line) ≡ Unreadable
 unfolding entryOf entered commandOf

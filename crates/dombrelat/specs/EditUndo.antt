@@ -23,7 +23,7 @@ use Rattle.layout.specs.CodecLaws.{read-sized, fits-room, fits-tested, writes-s
 use Rattle.lent_edits.specs.LeavesBook.{HoldsBook}
 use Rattle.dombrelat.specs.Calls.{Returned}
 use Rattle.dombrelat.specs.Demand3.{bytesNext, bytesSays}
-use Rattle.dombrelat.specs.Demand3Holds.{through-fits, says-same, stays, says-fits, holds-own}
+use Rattle.dombrelat.specs.Demand3Holds.{through-fits, says-same, stays, says-fits, holds-own, edited-next}
 
 -- ════ the statement
 -- the bytes `after` hold the book of the bytes s again
@@ -39,9 +39,9 @@ EditAndUndo =
     (s : List ℕ) (p : ℤ) (c : Change) → bytesSays s (Edit p c) ≡ pos 0
     → (bytesSays (bytesNext s (Edit p c)) Undo ≡ pos 0) × Restored s (bytesNext (bytesNext s (Edit p c)) Undo)
 
--- ════ the bytes that a call leaves where it is not refused
-wrote : (s : List ℕ) (c : Call) → bytesFit s ≡ true → bookSays (bookOf s) c ≡ 0 → bytesNext s c ≡ putBook s (bookNext (bookOf s) c)
-wrote s c fit e = ap (λ (r : Returned). r .bytes) (through-fits s (λ b. outcome b c) fit) ∙ unless-none (bookSays (bookOf s) c) s _ e
+-- ════ a call that is not refused writes its book
+writes-book : (s : List ℕ) (c : Call) → bytesFit s ≡ true → bookSays (bookOf s) c ≡ 0 → bytesNext s c ≡ putBook s (bookNext (bookOf s) c)
+writes-book s c fit e = ap (λ (r : Returned). r .bytes) (through-fits s (λ b. outcome b c) fit) ∙ unless-none (bookSays (bookOf s) c) s _ e
 
 pub edit-and-undo : EditAndUndo
 edit-and-undo s p c a =
@@ -49,7 +49,7 @@ edit-and-undo s p c a =
     let t = bytesNext s (Edit p c) in
     let fit = says-fits s (Edit p c) a in
     let own = holds-own s fit in
-    let said : bookSays b (Edit p c) ≡ 0 = let z : pos (bookSays b (Edit p c)) ≡ pos 0 = sym (says-same s s b (Edit p c) own) ∙ a in cc in
+    let said = edited-next s (Edit p c) a .says in
     let w = book.edit-and-undo b (fits-tested s fit) (read-sized s) p c said in
     let h : HoldsBook s t (bookNext b (Edit p c)) = stays s s b (Edit p c) own in
     let k : HoldsBook s (bytesNext t Undo) (bookNext (bookNext b (Edit p c)) Undo) = stays s t (bookNext b (Edit p c)) Undo h in
@@ -60,10 +60,10 @@ edit-and-undo s p c a =
         fits = k .fits;
         beyond = k .beyond;
         whole = λ few bytes.
-            wrote t Undo (h .fits) undoes
+            writes-book t Undo (h .fits) undoes
             ∙ ap (λ (x : Book). putBook t (bookNext x Undo)) (h .reads)
             ∙ ap (putBook t) (w .1 .whole few)
-            ∙ ap (λ (x : List ℕ). putBook x b) (wrote s (Edit p c) fit said)
+            ∙ ap (λ (x : List ℕ). putBook x b) (writes-book s (Edit p c) fit said)
             ∙ writes-over s (bookNext b (Edit p c)) b (subst Sized (h .reads) (read-sized t)) (read-sized s) (fits-room s fit)
             ∙ writes-same s fit bytes;
       },

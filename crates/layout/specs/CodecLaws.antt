@@ -4,7 +4,7 @@ use Prim.Native.Nat.{ℕ, _-_, _<_, _≤_}
 use mathlib.Core.Path.{_≡_, sym, ap, _∙_, subst}
 use mathlib.Core.Logic.{inr}
 use mathlib.Core.Bool.{true, _&&_}
-use mathlib.Core.List.{List, [], append-nil}
+use mathlib.Core.List.{List}
 use native.Mathlib.Omega.{arith}
 use borrow.Author.Tests.{le-leb, leb-true}
 use lib.Dec.{leb}
@@ -28,7 +28,7 @@ use Rattle.layout.specs.Layout.{bookWords, bookIn, bookLength, bookBytes
 use Rattle.layout.specs.BookWords.{length-book}
 use Rattle.layout.specs.ReadBack.{sound-sized, book-back}
 use Rattle.layout.specs.Laid.{sized-in}
-use Rattle.layout.specs.RunPatches.{patch}
+use Rattle.layout.specs.RunPatches.{patch-whole}
 use Rattle.layout.specs.WordSizes.{book-words-fit}
 use Rattle.layout.specs.Bytes.{wordsOf, bookOf, putBook, laidOut, bytesFit}
 
@@ -98,6 +98,4 @@ module _ (s : List ℕ) (b : Book) (o : SoundParts b) (long : length (b .network
 -- a book written over another
 pub writes-over : (s : List ℕ) (b b′ : Book) → Sized b → Sized b′ → bookBytes ≤ length s → putBook (putBook s b) b′ ≡ putBook s b′
 writes-over s b b′ z z′ room =
-    ap (λ (w : List ℤ). putWords (putWords s 0 w) 0 (bookWords b′)) (sym (append-nil (bookWords b)))
-    ∙ patch s [] (bookWords b) (bookWords b′) [] 0 (length-book b z ∙ sym (length-book b′ z′)) (omega arith) (let l : length (bookWords b) ≡ bookLength = length-book b z in omega arith)
-    ∙ ap (putWords s 0) (append-nil (bookWords b′))
+    let l : length (bookWords b) ≡ bookLength = length-book b z in patch-whole s (bookWords b) (bookWords b′) (l ∙ sym (length-book b′ z′)) (omega arith)

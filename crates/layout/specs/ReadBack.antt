@@ -6,8 +6,7 @@ use mathlib.Core.List.{List, [], _∷_, _++_}
 use native.Mathlib.Nat.{add-zero}
 use native.Mathlib.Decide.{ℕ-discrete, decLt}
 use native.Mathlib.Omega.{arith}
-use borrow.Author.Tests.{eqb-true}
-use lib.Dec.{ltb, eqb}
+use lib.Dec.{ltb}
 use lib.ListN.{length, getD, take, drop}
 use lib.Seq.{ext-getD, take-at, drop-at, take-all}
 use lib.IntN.{ℤ, pos}
@@ -17,11 +16,11 @@ use Rattle.words.specs.Signed.{indexIn, signed, unsigned, eqZ}
 use Rattle.words.specs.SignedLaws.{eqZ-true, unsigned-signed}
 use Rattle.lists.specs.All.{all-at}
 use Rattle.network.specs.Stations.{blankStation, stationAt, kindAt, kindOf, stationIn, countFits, coordinatesFit, unknownsFit, isKnown, isBlank, blankBeyond, networkFits}
-use Rattle.network.specs.Records.{vacant, recordAt, isEmpty}
+use Rattle.network.specs.Records.{vacant, recordAt}
 use Rattle.network.specs.RecordWords.{recordIn, recordLength}
 use Rattle.network.specs.Places.{placesIn, length-places}
 use Rattle.network.specs.Rules.{recordFits}
-use Rattle.network.specs.RuleLaws.{network-few, empty-is, fits-empty}
+use Rattle.network.specs.RuleLaws.{network-few, fits-empty}
 use Rattle.network.specs.declared.Kind.{Kind}
 use Rattle.network.specs.declared.Kind.the-variants.{Known, Free, Height}
 use Rattle.network.specs.declared.Station.{Station}
@@ -32,6 +31,7 @@ use Rattle.book.specs.declared.Reversal.{Reversal}
 use Rattle.book.specs.declared.Book.{Book}
 use Rattle.book.specs.Journal.{journalSize, age, free, isFree, slotBefore, entriesBefore}
 use Rattle.book.specs.Book.{undoable}
+use Rattle.book.specs.JournalLaws.{is-free}
 use Rattle.book.specs.Sound.{Sized, SoundParts, Undoes, undoable-first}
 use Rattle.words.specs.Concat.{concatBelow-at}
 use Rattle.layout.specs.BookWords.{record-in, length-station, toEntries, length-toEntries, length-toMatrix, at-matrix, at-right, place-word, next-word, journal-count-word, slot-word, stations-part}
@@ -68,12 +68,7 @@ in-use-restores net entries (suc n) slot t at s h l e =
     go o earlier (no q) = earlier q
 
 free-restores : (net : Network) (u : Reversal) → isFree u ≡ true → Restores net u
-unfolding isFree
-free-restores net u e =
-    record {
-      inside = let z : u .place ≡ 0 = eqb-true _ _ (and-left (eqb (u .place) 0) (isEmpty (u .prior)) e) in omega arith;
-      fits = ap (recordFits net) (empty-is (u .prior) (and-right (eqb (u .place) 0) (isEmpty (u .prior)) e)) ∙ fits-empty net;
-    }
+free-restores net u e = subst (Restores net) (sym (is-free u e)) (record { inside = omega arith; fits = fits-empty net })
 
 pub entry-restores : (b : Book) → SoundParts b → (k : ℕ) → k < journalSize → Restores (b .network) (getD (b .journal .entries) k free)
 entry-restores b o k h = go (decLt (age (b .journal .next) k) (b .journal .count))

@@ -63,13 +63,3 @@ module _ (s : List ℕ) (b : Book) where
 -- ════ what the code of an edit has at hand: the number, the place's index, and the record
 pub settle-ready : (s : List ℕ) (p : ℤ) (c : Change) (n i : ℕ) (r : Record) → n ≡ bookSays (bookOf s) (call.Edit p c) → i ≡ placeOf p → r ≡ puts c → n ≡ 0 → MayPut (bookOf s) i r
 settle-ready s p c n i r e at is z = edit-may-put (bookOf s) p c i r at is (sym e ∙ z)
-
--- ════ what is written back
-pub edit-done : (s t : List ℕ) (n : ℕ) (b : Book) → n ≡ 0 → t ≡ putBook s b → t ≡ unless n s (putBook s b)
-unfolding unless
-edit-done s t n b e q = rw e q
-
-pub edit-kept : (s : List ℕ) (n : ℕ) (b : Book) → (n ≡ 0 → ⊥) → s ≡ unless n s (putBook s b)
-unfolding unless
-edit-kept s zero b h = absurd (h refl)
-edit-kept s (suc n) b h = refl

@@ -50,6 +50,7 @@ opensRun r =
       matrix = r .matrix;
     }
 
+-- the run as a line finds it, and what was printed on the way
 unfoldable pub runBefore : WholeRun → List ℕ → WholeRun
 runBefore r line = cond (isStationLine line) r (opensRun r)
 

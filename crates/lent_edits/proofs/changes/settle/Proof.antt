@@ -1,5 +1,6 @@
 -- `settle` makes the edit where its number is 0, and else leaves the bytes: the two cases of `unless`. Assumes nothing.
-use Rattle.lent_edits.proofs.Changed.{edit-done, edit-kept}
+use mathlib.Core.Path.{sym, _∙_}
+use Rattle.book.specs.CallLaws.{unless-none, unless-some}
 use borrow.Author.Needs.{needs}
 use Rattle.lent_edits.proofs.changes.settle.Statement.{statement}
 use Rattle.lent_edits.proofs.changes.settle.Tie as tie
@@ -14,10 +15,10 @@ returns : tie.Need-returns
 returns c =
     let e = c .before .before in
     let t = e .before .before in
-    edit-done _ _ (t .before .before .args .n) _ (t .if1 .taken) (e .make-edit .ensures)
+    e .make-edit .ensures ∙ sym (unless-none (t .before .before .args .n) _ _ (t .if1 .taken))
 
 returns-2 : tie.Need-returns-2
-returns-2 c = let s = c .before .before in edit-kept (s .args .s .now) (s .args .n) _ (c .if1 .left)
+returns-2 c = let s = c .before .before in sym (unless-some (s .args .n) (s .args .s .now) _ (c .if1 .left))
 
 pub settle-spec : {M : Type 1} → statement M
 settle-spec = tie.close (tie.spec make-edit-requires same-length returns returns-2)

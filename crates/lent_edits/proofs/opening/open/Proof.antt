@@ -1,9 +1,10 @@
 -- `open` writes the opened book where the number is 0, and else leaves the bytes; that the book reads back is the law of an opening. Assumes nothing.
-use mathlib.Core.Path.{ap, _∙_}
+use mathlib.Core.Path.{sym, ap, _∙_}
 use Rattle.book.specs.declared.Edited.{Edited}
+use Rattle.layout.specs.Bytes.{putBook}
 use Rattle.lent_edits.specs.LentEdits.{bytesLeft}
 use Rattle.lent_edits.specs.LeavesBook.{open-opens}
-use Rattle.lent_edits.proofs.Changed.{edit-done, edit-kept}
+use Rattle.book.specs.CallLaws.{unless-none, unless-some}
 use borrow.Author.Needs.{needs}
 use Rattle.lent_edits.proofs.opening.open.Statement.{statement}
 use Rattle.lent_edits.proofs.opening.open.Tie as tie
@@ -25,7 +26,7 @@ returns c =
     let s = o .before .before in
     let e = o .«open» .ensures .0 in
     open-opens (s .args .s .now) (s .pre) (s .args .list .now) _ _ (ap (λ (x : Edited). x .refusal) e)
-    (edit-done (s .args .s .now) _ (o .«open» .result .refusal) (o .«open» .result .book) (t .if1 .taken) (w .write-book .ensures) ∙ ap (λ (x : Edited). bytesLeft (s .args .s .now) x) e)
+    (w .write-book .ensures ∙ sym (unless-none (o .«open» .result .refusal) (s .args .s .now) _ (t .if1 .taken)) ∙ ap (λ (x : Edited). bytesLeft (s .args .s .now) x) e)
 
 returns-2 : tie.Need-returns-2
 returns-2 c =
@@ -33,7 +34,7 @@ returns-2 c =
     let s = o .before .before in
     let e = o .«open» .ensures .0 in
     open-opens (s .args .s .now) (s .pre) (s .args .list .now) _ _ (ap (λ (x : Edited). x .refusal) e)
-    (edit-kept (s .args .s .now) (o .«open» .result .refusal) (o .«open» .result .book) (c .if1 .left) ∙ ap (λ (x : Edited). bytesLeft (s .args .s .now) x) e)
+    (sym (unless-some (o .«open» .result .refusal) (s .args .s .now) (putBook (s .args .s .now) (o .«open» .result .book)) (c .if1 .left)) ∙ ap (λ (x : Edited). bytesLeft (s .args .s .now) x) e)
 
 pub open-spec : {M : Type 1} → statement M
 open-spec = tie.close (tie.spec open-requires write-book-requires same-length returns returns-2)
