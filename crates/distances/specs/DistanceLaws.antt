@@ -9,12 +9,12 @@ use lib.IntN.{pos, natAbs}
 use lib.Signed.{leZ, ltZ}
 use Rattle.words.specs.SignedLaws.{between-size}
 use Rattle.lists.specs.All.{each}
-use Rattle.network.specs.Rules.{endsFit}
+use Rattle.network.specs.Rules.{endsFit, heightAboveMarkFits}
 use Rattle.network.specs.declared.Network.{Network}
 use Rattle.acceptance.specs.JudgeLaws.{refusal-least, refusal-most}
 use Rattle.acceptance.specs.declared.Answer.{Answer}
 use Rattle.acceptance.specs.declared.Answer.the-variants.{Accepted}
-use Rattle.distances.specs.Distances.{heightFits, distanceInRange, onPair, unlessRefused, distanceNumber, agreementNumber}
+use Rattle.distances.specs.Distances.{distanceInRange, onPair, unlessRefused, distanceNumber, agreementNumber}
 use Rattle.distances.specs.declared.CheckDistance.{CheckDistance}
 use Rattle.distances.specs.declared.DistanceRefusal.{DistanceRefusal}
 use Rattle.distances.specs.declared.DistanceRefusal.the-variants.{Ends, Range, Pair}
@@ -32,7 +32,7 @@ pub in-range : (d : CheckDistance) → distanceInRange d ≡ true → InRange d
 unfolding distanceInRange
 in-range d e =
     let t = each
-    (heightFits (d .instrument) ∷ heightFits (d .target)
+    (heightAboveMarkFits (d .instrument) ∷ heightAboveMarkFits (d .target)
     ∷ (leZ (pos 1) (d .distance) && leZ (d .distance) (pos 1800000000))
     ∷ (leZ (pos 0) (d .tolerance) && leZ (d .tolerance) (pos 100000)) ∷ ltZ (d .tolerance) (d .distance) ∷ []) e in
     record {

@@ -7,7 +7,7 @@ use lib.IntN.{ℤ, pos, negsuc, _+ℤ_, _-ℤ_, _*ℤ_}
 use lib.Signed.{leZ, ltZ}
 use Rattle.words.specs.Signed.{indexIn}
 use Rattle.network.specs.Units.{mostStations}
-use Rattle.network.specs.Rules.{endsFit}
+use Rattle.network.specs.Rules.{endsFit, heightAboveMarkFits}
 use Rattle.network.specs.declared.Network.{Network}
 use Rattle.network.specs.declared.Station.{Station}
 use Rattle.acceptance.specs.Judge.{refusalNumber, refusalUnknown}
@@ -23,13 +23,10 @@ use Rattle.distances.specs.declared.Agreement.{Agreement}
 use Rattle.distances.specs.declared.Agreement.the-variants.{Agrees, Disagrees, Refused}
 
 -- ════ 17: "a value out of range"
--- "Heights are 0 to 300,000, s is 1 to 1,800,000,000, t is 0 to 100,000 and below s."
-abbrev pub heightFits : ℤ → Bool
-heightFits h = leZ (pos 0) h && leZ h (pos 300000)
-
+-- "Heights are 0 to 300,000" (`heightAboveMarkFits`, in crate network), "s is 1 to 1,800,000,000, t is 0 to 100,000 and below s."
 unfoldable pub distanceInRange : CheckDistance → Bool
 distanceInRange d =
-    heightFits (d .instrument) && heightFits (d .target)
+    heightAboveMarkFits (d .instrument) && heightAboveMarkFits (d .target)
     && (leZ (pos 1) (d .distance) && leZ (d .distance) (pos 1800000000))
     && (leZ (pos 0) (d .tolerance) && leZ (d .tolerance) (pos 100000)) && ltZ (d .tolerance) (d .distance)
 

@@ -10,10 +10,10 @@ use lib.IntN.{ℤ, pos, negsuc}
 use lib.Signed.{leZ, ltZ}
 use Rattle.integers.specs.Solvers.{ring, shapes}
 use Rattle.words.specs.Signed.{eqZ}
-use Rattle.network.specs.Rules.{inList, endsFit}
+use Rattle.network.specs.Rules.{inList, endsFit, heightAboveMarkFits}
 use Rattle.book.specs.declared.Book.{Book}
 use Rattle.distances.specs.declared.CheckDistance.{CheckDistance}
-use Rattle.distances.specs.Distances.{heightFits, distanceInRange, squaredDistance, mark, unlessRefused, agreement}
+use Rattle.distances.specs.Distances.{distanceInRange, squaredDistance, mark, unlessRefused, agreement}
 
 abbrev pub reversed : CheckDistance → CheckDistance
 reversed d = record { from = d .to; to = d .from; distance = d .distance; instrument = d .target; target = d .instrument; tolerance = d .tolerance }
@@ -46,7 +46,7 @@ range-reversed : (d : CheckDistance) → distanceInRange (reversed d) ≡ distan
 unfolding distanceInRange
 range-reversed d =
     ap (λ (h : Bool). h && (leZ (pos 1) (d .distance) && leZ (d .distance) (pos 1800000000)) && (leZ (pos 0) (d .tolerance) && leZ (d .tolerance) (pos 100000)) && ltZ (d .tolerance) (d .distance))
-    (and-comm (heightFits (d .target)) (heightFits (d .instrument)))
+    (and-comm (heightAboveMarkFits (d .target)) (heightAboveMarkFits (d .instrument)))
 
 -- ════ every difference changes its sign, and no square does
 squared-reversed : (d : CheckDistance) (from to : ℕ → ℤ) → squaredDistance (reversed d) to from ≡ squaredDistance d from to

@@ -9,6 +9,7 @@ pub use answer::check_distance;
 pub use answer::check_distance_in;
 pub use answer::number;
 pub use answer::unknown;
+use network::Unit;
 
 // A taped slope distance between two stations by their numbers, all lengths in units: the instrument stands over `from`, the target over `to`.
 pub struct CheckDistance {
@@ -25,7 +26,7 @@ impl CheckDistance {
     // The greatest distance, height and tolerance.
     pub const DISTANCE: i64 = 1_800_000_000;
 
-    pub const HEIGHT: i64 = 300_000;
+    pub const HEIGHT: i64 = Unit::HEIGHT_ABOVE_MARK;
 
     pub const TOLERANCE: i64 = 100_000;
 }

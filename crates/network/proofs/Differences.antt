@@ -9,6 +9,7 @@ use Rattle.integers.specs.Code.{ringm, code-shapes}
 use Rattle.lists.specs.Stored.{stored, back}
 use Rattle.network.specs.declared.Record.{Record}
 use Rattle.network.specs.Records.{acts, fromOf, toOf, observed, misclosureAt, misclosureIn}
+use Rattle.network.specs.Ranges.{values-small}
 use Rattle.network.specs.RecordLaws.{Observed, misclosure-small}
 
 pub difference : (o x y : ℤ) → natAbs o ≤ 1000000000 → natAbs x ≤ 500000000 → natAbs y ≤ 500000000 → stored (stored o -ℤ stored (stored x -ℤ stored y)) ≡ o -ℤ (x -ℤ y)
@@ -20,6 +21,6 @@ pub told : (k : List ℤ) (r : Record) (o : Observed k r) (a i j : ℕ) (t : Boo
     → stored y ≡ misclosureIn k r a
 unfolding misclosureIn
 told k r o a i j t v y e p q n m =
-    let s : stored v ≡ getD (observed r) a (pos 0) = ap stored m ∙ back (getD (observed r) a (pos 0)) (o .values a) tt in
+    let s : stored v ≡ getD (observed r) a (pos 0) = ap stored m ∙ back (getD (observed r) a (pos 0)) (values-small r (o .values) a) tt in
     let g : y ≡ misclosureIn k r a = e ∙ rw (p, q, n, s) refl in
     ap stored g ∙ back (misclosureIn k r a) (misclosure-small k r o a) tt

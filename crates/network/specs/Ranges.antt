@@ -1,18 +1,22 @@
 -- What the range tests of a record say, as bounds. Assumes nothing.
-use Prim.Native.Nat.{_≤_}
+use Prim.Native.Nat.{ℕ, _≤_, zero-le}
 use mathlib.Core.Path.{_≡_}
 use mathlib.Core.Bool.{true}
 use mathlib.Core.List.{[], _∷_}
 use borrow.Author.Tests.{leb-true}
-use lib.IntN.{natAbs}
+use lib.ListN.{getD}
+use lib.IntN.{pos, natAbs}
 use Rattle.words.specs.Bools.{and-left, and-right}
 use Rattle.lists.specs.All.{each}
+use Rattle.lists.specs.Sizes.{small-at}
 use Rattle.weights.specs.Rules.{weightFits, weightsInRange}
 use Rattle.weights.specs.Ranges.{Weight, WeightsRange, weight-range, weights-range}
-use Rattle.network.specs.Records.{weightMatrixOf}
-use Rattle.network.specs.Rules.{observedFits, baselineInRange, heightInRange}
+use Rattle.network.specs.Records.{weightMatrixOf, observed}
+use Rattle.network.specs.Rules.{observedFits, baselineInRange, heightInRange, inRange}
 use Rattle.network.specs.declared.Baseline.{Baseline}
 use Rattle.network.specs.declared.Level.{Level}
+use Rattle.network.specs.declared.Record.{Record}
+use Rattle.network.specs.declared.Record.the-variants.{Empty, Baseline as baseline, Height as height}
 
 pub record BaselineRange (b : Baseline) : Type 0 where
   pub east : natAbs (b .east) ≤ 1000000000
@@ -42,3 +46,10 @@ height-range h e =
       up = leb-true (natAbs (h .up)) 1000000000 (and-left (observedFits (h .up)) (weightFits (h .weight)) e);
       weight = weight-range (h .weight) (and-right (observedFits (h .up)) (weightFits (h .weight)) e);
     }
+
+-- what a misclosure is taken from is small
+pub values-small : (r : Record) → inRange r ≡ true → (a : ℕ) → natAbs (getD (observed r) a (pos 0)) ≤ 1000000000
+unfolding inRange observed
+values-small Empty e = small-at 1000000000 (observed Empty) (zero-le, (zero-le, (zero-le, tt)))
+values-small (baseline b) e = let v = baseline-range b e in small-at 1000000000 (observed (baseline b)) (v .east, (v .north, (v .up, tt)))
+values-small (height h) e = small-at 1000000000 (observed (height h)) (zero-le, (zero-le, (height-range h e .up, tt)))

@@ -13,6 +13,8 @@ use Rattle.network.specs.Units.{mostStations, mostComponents, mostCoordi
 use Rattle.network.specs.declared.Record.{Record}
 use Rattle.network.specs.declared.Record.the-variants.{Empty, Baseline as baseline, Height as height}
 use Rattle.lists.specs.Sizes.{small-at}
+use Rattle.network.specs.Rules.{inRange}
+use Rattle.network.specs.Ranges.{values-small}
 use Rattle.network.specs.Records.{observations, acts, fromOf, toOf, observed, misclosureAt, misclosureIn, misclosures}
 
 -- a record observes at most three components
@@ -22,11 +24,11 @@ observations-few Empty = lit≤ tt
 observations-few (baseline b) = lit≤ tt
 observations-few (height h) = lit≤ tt
 
--- a record whose ends are stations and whose observed values are in range, over provisional coordinates in range
+-- a record whose ends are stations and whose values are in range, over provisional coordinates in range
 pub record Observed (coordinate : List ℤ) (r : Record) : Type 0 where
   pub from : fromOf r < mostStations
   pub to : toOf r < mostStations
-  pub values : (a : ℕ) → natAbs (getD (observed r) a (pos 0)) ≤ mostObserved
+  pub values : inRange r ≡ true
   pub provisional : Within mostComponents mostCoordinate coordinate
 
 misclosure-size : (c : List ℤ) (f t a : ℕ) (o : ℤ) → natAbs o ≤ mostObserved → Within mostComponents mostCoordinate c → natAbs (misclosureAt c f t a o) ≤ 2000000000
@@ -42,7 +44,7 @@ unfolding misclosureIn
 misclosure-small c r o a = go (acts a r)
   where
     go : (t : Bool) → natAbs (cond t (misclosureAt c (fromOf r) (toOf r) a (getD (observed r) a (pos 0))) (pos 0)) ≤ 2000000000
-    go true = misclosure-size c (fromOf r) (toOf r) a (getD (observed r) a (pos 0)) (o .values a) (o .provisional)
+    go true = misclosure-size c (fromOf r) (toOf r) a (getD (observed r) a (pos 0)) (values-small r (o .values) a) (o .provisional)
     go false = zero-le
 
 pub misclosures-small : (c : List ℤ) (r : Record) → Observed c r → (a : ℕ) → natAbs (getD (misclosures c r) a (pos 0)) ≤ 2000000000

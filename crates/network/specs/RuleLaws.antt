@@ -22,9 +22,9 @@ use Rattle.weights.specs.Positive.{PositiveMatrix, positive-matrix}
 use Rattle.weights.specs.Determinants.{weight-some}
 use Rattle.network.specs.Ranges.{baseline-range, height-range}
 use Rattle.network.specs.Stations.{coordinates, coordinate, unknownCount, countFits, coordinatesFit, unknownsFit, blankBeyond, networkFits}
-use Rattle.network.specs.Records.{weightMatrixOf, fromOf, toOf, joins, weights, observed, misclosureIn, misclosures, l, observations, actsOf, acts, isEmpty}
+use Rattle.network.specs.Records.{weightMatrixOf, fromOf, toOf, joins, weights, misclosureIn, misclosures, l, observations, actsOf, acts, isEmpty}
 use Rattle.network.specs.RecordLaws.{Observed}
-use Rattle.network.specs.Rules.{inList, endsFit, baselineInRange, heightInRange, misclosureFits, recordNoOver, recordNo, recordFitsOver, recordFits}
+use Rattle.network.specs.Rules.{inList, endsFit, baselineInRange, heightInRange, inRange, misclosureFits, recordNoOver, recordNo, recordFitsOver, recordFits}
 use Rattle.network.specs.declared.Station.{Station}
 use Rattle.network.specs.declared.Network.{Network}
 use Rattle.network.specs.declared.Baseline.{Baseline}
@@ -130,32 +130,19 @@ pub record SoundRecord (stations : List Station) (r : Record) : Type 0 where
   pub from : fromOf r < 32
   pub to : toOf r < 32
   pub apart : (joins r ≡ pos 0) ⊎ (fromOf r ≡ toOf r → ⊥)
-  pub values : (a : ℕ) → natAbs (getD (observed r) a (pos 0)) ≤ 1000000000
+  pub values : inRange r ≡ true
   pub weight : (k : ℕ) → natAbs (getD (weights r) k (pos 0)) ≤ 10000
   pub misclosure : (a : ℕ) → natAbs (l stations r a) ≤ 100000
 
 -- the same of a record whose misclosures are not judged yet
 module _ (count : ℕ) (c : List ℤ) (few : count ≤ 32) (w : Within 96 500000000 c) where
   pub baseline-observed : (b : Baseline) → endsFit count (b .from) (b .to) ≡ true → baselineInRange b ≡ true → Observed c (baseline b)
-  unfolding fromOf toOf observed
-  baseline-observed b e g =
-      let v = baseline-range b g in
-      record {
-        from = from-in-list count (b .from) (b .to) few e;
-        to = to-in-list count (b .from) (b .to) few e;
-        values = small-at 1000000000 (observed (baseline b)) (v .east, (v .north, (v .up, tt)));
-        provisional = w;
-      }
+  unfolding fromOf toOf inRange
+  baseline-observed b e g = record { from = from-in-list count (b .from) (b .to) few e; to = to-in-list count (b .from) (b .to) few e; values = g; provisional = w }
 
   pub height-observed : (h : Level) → endsFit count (h .from) (h .to) ≡ true → heightInRange h ≡ true → Observed c (height h)
-  unfolding fromOf toOf observed
-  height-observed h e g =
-      record {
-        from = from-in-list count (h .from) (h .to) few e;
-        to = to-in-list count (h .from) (h .to) few e;
-        values = small-at 1000000000 (observed (height h)) (zero-le, (zero-le, (height-range h g .up, tt)));
-        provisional = w;
-      }
+  unfolding fromOf toOf inRange
+  height-observed h e g = record { from = from-in-list count (h .from) (h .to) few e; to = to-in-list count (h .from) (h .to) few e; values = g; provisional = w }
 
 misclosures-length : (c : List ℤ) (r : Record) → length (misclosures c r) ≡ 3
 unfolding misclosures
@@ -169,13 +156,13 @@ closes-within c r e =
 
 module _ (net : Network) (few : net .count ≤ 32) where
   sound-empty : SoundRecord (net .stations) Empty
-  unfolding fromOf toOf joins observed weights misclosures misclosureIn acts actsOf observations
+  unfolding fromOf toOf joins inRange weights misclosures misclosureIn acts actsOf observations
   sound-empty =
       record {
         from = lit< tt;
         to = lit< tt;
         apart = inl refl;
-        values = small-at 1000000000 (observed Empty) (zero-le, (zero-le, (zero-le, tt)));
+        values = refl;
         weight = small-at 10000 (weights Empty) (zero-le, (zero-le, (zero-le, (zero-le, (zero-le, (zero-le, (zero-le, (zero-le, (zero-le, tt)))))))));
         misclosure = small-at 100000 (misclosures (coordinates (net .stations)) Empty) (zero-le, (zero-le, (zero-le, tt)));
       }

@@ -9,7 +9,7 @@ use lib.Signed.{leZ}
 use Rattle.words.specs.Signed.{eqZ}
 use Rattle.lists.specs.All.{allBelow}
 use Rattle.weights.specs.Rules.{weightFits, weightsInRange, matrixFits}
-use Rattle.network.specs.Units.{mostObserved, mostMisclosure}
+use Rattle.network.specs.Units.{mostObserved, mostMisclosure, mostHeightAboveMark}
 use Rattle.network.specs.Stations.{coordinates}
 use Rattle.network.specs.Records.{weightMatrixOf, misclosures, isEmpty}
 use Rattle.network.specs.declared.Network.{Network}
@@ -30,12 +30,22 @@ endsFit count from to = inList count from && inList count to && not (eqZ from to
 abbrev pub observedFits : ℤ → Bool
 observedFits v = leb (natAbs v) mostObserved
 
+-- the height of an instrument or a target above its mark
+abbrev pub heightAboveMarkFits : ℤ → Bool
+heightAboveMarkFits h = leZ (pos 0) h && leZ h (pos mostHeightAboveMark)
+
 -- "Diagonal and single weights 1 to 10,000; off-diagonals within ±10,000": `weightFits` and `weightsInRange`, in crate weights
 unfoldable pub baselineInRange : Baseline → Bool
 baselineInRange b = observedFits (b .east) && observedFits (b .north) && observedFits (b .up) && weightsInRange (weightMatrixOf b)
 
 unfoldable pub heightInRange : Level → Bool
 heightInRange h = observedFits (h .up) && weightFits (h .weight)
+
+-- the range test of what a place holds
+unfoldable pub inRange : Record → Bool
+inRange Empty = true
+inRange (baseline b) = baselineInRange b
+inRange (height h) = heightInRange h
 
 -- ════ 5: "A matrix needs all three leading minors positive, and each diagonal entry of its adjugate at most 16 times its determinant":
 -- `matrixFits`, in crate weights

@@ -28,6 +28,10 @@ mostObserved = 1000000000
 abbrev pub mostMisclosure : ℕ
 mostMisclosure = 100000
 
+-- document 02, request 1: "Heights are 0 to 300,000", of an instrument or a target above its mark
+abbrev pub mostHeightAboveMark : ℕ
+mostHeightAboveMark = 300000
+
 -- ════ the scale of weights
 -- the whole number nearest to 1,000² over the square of a standard deviation s in units, and 0 of s = 0
 unfoldable pub weightOf : ℕ → ℕ

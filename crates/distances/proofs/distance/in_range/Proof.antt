@@ -6,7 +6,8 @@ use lib.IntN.{ℤ, pos}
 use lib.Signed.{leZ, ltZ}
 use mir.Syntax.{w64}
 use mir.ValLaws.{toZ-ofZ}
-use Rattle.distances.specs.Distances.{heightFits, distanceInRange}
+use Rattle.network.specs.Rules.{heightAboveMarkFits}
+use Rattle.distances.specs.Distances.{distanceInRange}
 use Rattle.distances.proofs.distance.in_range.Statement.{statement}
 use Rattle.distances.proofs.distance.in_range.Tie as tie
 
@@ -26,11 +27,11 @@ less-requires : tie.Need-less-requires
 less-requires c κs = search needs
 
 -- what each test says, of the value that the struct holds
-instrument-is : (c : tie.After-between) → c .between .result ≡ heightFits (c .before .before .args .d .instrument)
-instrument-is c = c .between .ensures ∙ ap (λ (z : ℤ). heightFits z) (toZ-ofZ w64 (c .before .before .args .d .instrument) (search needs))
+instrument-is : (c : tie.After-between) → c .between .result ≡ heightAboveMarkFits (c .before .before .args .d .instrument)
+instrument-is c = c .between .ensures ∙ ap (λ (z : ℤ). heightAboveMarkFits z) (toZ-ofZ w64 (c .before .before .args .d .instrument) (search needs))
 
-target-is : (c : tie.After-between2) → c .between2 .result ≡ heightFits (c .before .before .before .before .args .d .target)
-target-is c = c .between2 .ensures ∙ ap (λ (z : ℤ). heightFits z) (toZ-ofZ w64 (c .before .before .before .before .args .d .target) (search needs))
+target-is : (c : tie.After-between2) → c .between2 .result ≡ heightAboveMarkFits (c .before .before .before .before .args .d .target)
+target-is c = c .between2 .ensures ∙ ap (λ (z : ℤ). heightAboveMarkFits z) (toZ-ofZ w64 (c .before .before .before .before .args .d .target) (search needs))
 
 distance-is : (c : tie.After-between3) → c .between3 .result
     ≡ (leZ (pos 1) (c .before .before .before .before .before .before .args .d .distance) && leZ (c .before .before .before .before .before .before .args .d .distance) (pos 1800000000))

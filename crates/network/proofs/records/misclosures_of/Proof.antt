@@ -8,6 +8,7 @@ use lib.IntN.{ℤ, pos, natAbs}
 use lib.ListN.{getD}
 use Rattle.lists.specs.Stored.{stored, kept}
 use Rattle.network.specs.Records.{fromOf, toOf, observed, misclosures}
+use Rattle.network.specs.Ranges.{values-small}
 use Rattle.network.proofs.Differences.{told}
 use Rattle.network.proofs.records.misclosures_of.Statement.{statement}
 use Rattle.network.proofs.records.misclosures_of.Tie as tie
@@ -45,7 +46,7 @@ value-is c a = ap (λ (l : List ℤ). getD l a (pos 0)) (c .before .before .befo
 
 value-small : (c : tie.After-acts-in3) (a : ℕ) → natAbs (stored (getD (c .before .before .before .observed-of .result) a (pos 0))) ≤ 1000000000
 value-small c a =
-    kept (getD (c .before .before .before .observed-of .result) a (pos 0)) (subst (λ (z : ℤ). natAbs z ≤ 1000000000) (sym (value-is c a)) (start c .pre .values a)) tt
+    kept (getD (c .before .before .before .observed-of .result) a (pos 0)) (subst (λ (z : ℤ). natAbs z ≤ 1000000000) (sym (value-is c a)) (values-small (start c .args .r) (start c .pre .values) a)) tt
 
 from-low : (c : tie.After-acts-in3) → c .before .before .before .before .before .from-of .result < 32
 from-low c = subst (λ (k : ℕ). k < 32) (sym (from-is c)) (start c .pre .from)
