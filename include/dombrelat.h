@@ -35,9 +35,11 @@ extern "C" {
 
 /* The version of this header and of the library that it belongs to. It goes up where an existing call gives another answer or is gone. 2: dombrelat_check_sheet leaves records between
  * two known stations out of the square sum, the degrees of freedom and so the global verdict; in 1 they counted. 3: dombrelat_enter_baseline and dombrelat_enter_height, which fill a
- * place or overwrite it, stand in place of four calls that added or replaced, and DOMBRELAT_PLACE_EMPTY (7) in place of DOMBRELAT_PLACE_TAKEN. The bytes of a book have a number of
- * their own, that of their layout: it is 1, the book's first word; books of versions 1 and 2 are read as they are. */
-#define DOMBRELAT_VERSION 3
+ * place or overwrite it, stand in place of four calls that added or replaced, and DOMBRELAT_PLACE_EMPTY (7) in place of DOMBRELAT_PLACE_TAKEN. 4: dombrelat_enter_baseline takes two
+ * numbers more, the antenna heights. Compile a host anew with the header of its library: an object made with an earlier header passes no heights, and no linker tells.
+ * The bytes of a book have a number of their own, that of their layout: it is 2, the book's first word. Books of versions 1 to 3 have 1 there and are refused with 25;
+ * docs/BOOK.md says how to take one over. */
+#define DOMBRELAT_VERSION 4
 
 /* The bytes of a book. A longer slice may be lent: bytes beyond stay. The layout is in docs/BOOK.md; a program needs it only to look inside. */
 #define DOMBRELAT_BOOK_BYTES 56224
@@ -56,9 +58,11 @@ extern "C" {
 #define DOMBRELAT_PLACES 256
 #define DOMBRELAT_UNDOS 64
 
-/* The largest numbers of a check distance, in units. */
+/* The greatest height of an antenna, an instrument or a target above its mark, in units; the least is 0. */
+#define DOMBRELAT_HEIGHT_ABOVE_MARK_MAX 300000
+
+/* The largest distance and tolerance of a check distance, in units. */
 #define DOMBRELAT_DISTANCE_MAX 1800000000
-#define DOMBRELAT_HEIGHT_ABOVE_MARK_MAX 300000 /* of the instrument, and of the target */
 #define DOMBRELAT_TOLERANCE_MAX 100000
 
 /* Kinds of station. */
@@ -70,9 +74,9 @@ extern "C" {
 #define DOMBRELAT_BAD_STATIONS 1      /* open: not 1 to 32 whole stations, a kind that is none, a coordinate beyond 500,000,000, or not 1 to 48 unknowns */
 #define DOMBRELAT_BAD_PLACE 2         /* the place is not 1 to 256 */
 #define DOMBRELAT_BAD_ENDS 3          /* from or to is not in the list, or they are equal */
-#define DOMBRELAT_OUT_OF_RANGE 4      /* an observed component beyond 1,000,000,000; a weight not 1 to 10,000, off the diagonal beyond 10,000 */
+#define DOMBRELAT_OUT_OF_RANGE 4      /* an observed component or the reduced U difference beyond 1,000,000,000; an antenna height not 0 to 300,000; a weight not 1 to 10,000, off the diagonal beyond 10,000 */
 #define DOMBRELAT_BAD_MATRIX 5        /* the weight matrix is not positive definite, or gives a component (E, N or U) a variance above 16 squares of 10 mm */
-#define DOMBRELAT_BAD_MISCLOSURE 6    /* observed minus provisional is beyond 100,000 units (1 m) in a component */
+#define DOMBRELAT_BAD_MISCLOSURE 6    /* observed (in U reduced) minus provisional is beyond 100,000 units (1 m) in a component */
 #define DOMBRELAT_PLACE_EMPTY 7       /* strike: the place is empty */
 #define DOMBRELAT_NOTHING_TO_UNDO 8   /* the history is empty */
 #define DOMBRELAT_TOO_LARGE 9         /* a sum beyond 2^62; by the limits of this version it never comes */
@@ -106,10 +110,11 @@ extern "C" {
  * Refusals: 25 (the book bytes are too short), 1 (also where the list's length is not a multiple of 32). */
 int64_t dombrelat_open(const uint8_t *list, size_t list_bytes, uint8_t *book, size_t book_bytes);
 
-/* Enters a baseline at a place (1 to 256), which it fills or overwrites: observed differences, to minus from, and the symmetric weight matrix. A record equal to the one that is there
- * is entered as any other, and is an edit that can be taken back. Refusals: 25, 2, 3, 4, 5, 6. */
+/* Enters a baseline at a place (1 to 256), which it fills or overwrites: observed differences, to minus from, the symmetric weight matrix, and the heights of the two antennas above
+ * their marks, 0 where the differences are from mark to mark. The reduced U difference is up + from_height - to_height: the misclosure is taken from it, and so are refusal 6, the normal
+ * equations, the residuals and the sheet. A record equal to the one that is there is entered as any other, and is an edit that can be taken back. Refusals: 25, 2, 3, 4, 5, 6. */
 int64_t dombrelat_enter_baseline(uint8_t *book, size_t book_bytes, int64_t place, int64_t from, int64_t to, int64_t east, int64_t north, int64_t up,
-                                 int64_t ee, int64_t en, int64_t eu, int64_t nn, int64_t nu, int64_t uu);
+                                 int64_t ee, int64_t en, int64_t eu, int64_t nn, int64_t nu, int64_t uu, int64_t from_height, int64_t to_height);
 
 /* The same with a levelled height difference, to minus from. Refusals: 25, 2, 3, 4, 6. */
 int64_t dombrelat_enter_height(uint8_t *book, size_t book_bytes, int64_t place, int64_t from, int64_t to, int64_t up, int64_t weight);
@@ -154,8 +159,8 @@ int64_t dombrelat_sheet_bytes(const uint8_t *book, size_t book_bytes);
 /* Writes the station list as dombrelat_open took it, 32 bytes a station, and counts the stations. Bytes beyond stay. Refusals: 25, 10 (the list has no room). */
 int64_t dombrelat_stations(const uint8_t *book, size_t book_bytes, uint8_t *list, size_t list_bytes);
 
-/* Writes the 14 words of what a place holds: kind (0 empty, 1 baseline, 2 height difference), from, to, observed E, N, U, weights EE, EN, EU, NN, NU, UU, and two that are 0. A height
- * difference has its difference in U and its weight in UU; what a record does not use is 0. Bytes beyond stay. Refusals: 25, 2, 10 (less than 112 bytes). */
+/* Writes the 14 words of what a place holds: kind (0 empty, 1 baseline, 2 height difference), from, to, observed E, N, U, weights EE, EN, EU, NN, NU, UU, from_height, to_height. A
+ * height difference has its difference in U and its weight in UU; what a record does not use is 0. Bytes beyond stay. Refusals: 25, 2, 10 (less than 112 bytes). */
 int64_t dombrelat_record(const uint8_t *book, size_t book_bytes, int64_t place, uint8_t *record, size_t record_bytes);
 
 #ifdef __cplusplus

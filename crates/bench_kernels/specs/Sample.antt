@@ -1,6 +1,6 @@
 -- A full network to be timed: one known and 16 free stations, 48 unknowns, 256 baselines; its records are by the rules. Assumes nothing.
 use Prim.Native.Nat.{ℕ, _+_, _-_, _*_, _/_, _%_, _<_, _≤_}
-use mathlib.Core.Path.{_≡_, refl, ap, _∙_}
+use mathlib.Core.Path.{_≡_, refl, sym, ap, _∙_, subst}
 use mathlib.Core.Bool.{Bool, true, cond, _&&_}
 use mathlib.Core.List.{List, _∷_, _++_}
 use native.Mathlib.Omega.{arith}
@@ -13,9 +13,10 @@ use Rattle.integers.specs.Tables.{tabulate, getD-tabulate, Within, within-tabul
 use Rattle.words.specs.Bools.{and-left, and-right, and-both}
 use Rattle.lists.specs.All.{allBelow, all-at}
 use Rattle.network.specs.Stations.{networkFits, blankBeyond, coordinatesFit, unknownsFit, isBlank, isKnown, coordinate, coordinateIn, coordinates, unknown, unknownIn, number}
-use Rattle.network.specs.Records.{weightMatrixOf, vacant, observations, actsOf, acts, fromOf, toOf, observed, misclosureAt, misclosureIn, misclosures}
+use Rattle.network.specs.Records.{weightMatrixOf, vacant, observations, actsOf, acts, fromOf, toOf, reducedUp, reduced, misclosureAt, misclosureIn, misclosures}
 use Rattle.weights.specs.Rules.{weightsInRange, matrixFits, minorsPositive, adjugateFits}
-use Rattle.network.specs.Rules.{recordFits, recordNo, recordNoOver, endsFit, baselineInRange, misclosureFits}
+use Rattle.network.specs.Rules.{recordFits, recordNo, recordNoOver, endsFit, upInRange, baselineInRange, misclosureFits}
+use Rattle.network.specs.RecordLaws.{no-heights}
 use Rattle.network.specs.RuleLaws.{accepted-fits}
 use Rattle.network.specs.declared.Kind.{Kind}
 use Rattle.network.specs.declared.Kind.the-variants.{Known, Free}
@@ -49,6 +50,8 @@ sampleBaseline p =
       nn = pos 100;
       nu = pos 10;
       uu = pos 100;
+      hf = pos 0;
+      ht = pos 0;
     }
 
 abbrev pub sampleRecord : ℕ → Record
@@ -79,7 +82,7 @@ abbrev tests : ℕ → Bool
 tests p = endsFit 17 (sampleBaseline p .from) (sampleBaseline p .to) && (baselineInRange (sampleBaseline p) && matrixFits (weightMatrixOf (sampleBaseline p)))
 
 tests-pass : allBelow 256 tests ≡ true
-unfolding allBelow endsFit baselineInRange weightsInRange matrixFits minorsPositive adjugateFits sampleBaseline
+unfolding allBelow endsFit upInRange reducedUp baselineInRange weightsInRange matrixFits minorsPositive adjugateFits sampleBaseline
 tests-pass = refl
 
 at-origin : allBelow 96 (λ q. leb (natAbs (coordinate (sampleNetwork .stations) q)) 0) ≡ true
@@ -100,13 +103,18 @@ module _ (p : ℕ) (h : p < 256) where
       let y = w .bound (f * 3 + a) in
       le-leb _ _ (absle (pos p -ℤ (getD c (t * 3 + a) (pos 0) -ℤ getD c (f * 3 + a) (pos 0))) (search bounds) (omega arith))
 
+  -- both heights are 0
+  up-is : reducedUp (sampleBaseline p) ≡ pos p
+  unfolding sampleBaseline
+  up-is = no-heights (sampleBaseline p) refl refl
+
   closes : misclosureFits (coordinates (sampleNetwork .stations)) (baseline (sampleBaseline p)) ≡ true
-  unfolding misclosureFits allBelow misclosures misclosureIn acts actsOf observations observed sampleBaseline
+  unfolding misclosureFits allBelow misclosures misclosureIn acts actsOf observations reduced sampleBaseline
   closes =
       let c = coordinates (sampleNetwork .stations) in
       let f = fromOf (baseline (sampleBaseline p)) in
       let t = toOf (baseline (sampleBaseline p)) in
-      and-both _ _ (and-both _ _ (small c f t 0 origin) (small c f t 1 origin)) (small c f t 2 origin)
+      and-both _ _ (and-both _ _ (small c f t 0 origin) (small c f t 1 origin)) (subst (λ (z : ℤ). leb (natAbs (misclosureAt c f t 2 z)) 100000 ≡ true) (sym up-is) (small c f t 2 origin))
 
   accepted : recordNo sampleNetwork (baseline (sampleBaseline p)) ≡ 0
   unfolding recordNo recordNoOver sampleNetwork

@@ -77,7 +77,7 @@ fn sample_record(p: usize) -> Record
     let from = f as i64;
     let to = t as i64;
     let v = p as i64;
-    network::baseline_of(from, to, [v, v, v], [100, 10, -10, 100, 10, 100])
+    network::baseline_of(from, to, [v, v, v], [100, 10, -10, 100, 10, 100], [0, 0])
 }
 
 // The places of the sample in words, to be lent.

@@ -1,4 +1,4 @@
--- Calls in rows of 14 words: the call (1 enter, 2 strike, 3 undo), the place, and the 12 words of a record (network, specs/RecordWords.antt).
+-- Calls in rows of 16 words: the call (1 enter, 2 strike, 3 undo), the place, and the 14 words of a record (network, specs/RecordWords.antt).
 -- Words that a call does not use are not looked at. A row whose first word is none of 1 to 3 names no call. Assumes nothing.
 use Prim.Native.Nat.{ℕ, zero, suc, _+_, _*_}
 use mathlib.Core.List.{List}
@@ -7,7 +7,7 @@ use lib.ListN.{getD}
 use Rattle.integers.specs.Tables.{tabulate}
 use Rattle.words.specs.Signed.{indexIn}
 use Rattle.network.specs.declared.Record.{Record}
-use Rattle.network.specs.RecordWords.{recordIn}
+use Rattle.network.specs.RecordWords.{recordLength, recordIn}
 use Rattle.book.specs.declared.Change.the-variants.{Enter, Strike}
 use Rattle.book.specs.declared.Call.{Call}
 use Rattle.book.specs.declared.Call.the-variants.{Edit, Undo}
@@ -38,9 +38,9 @@ rowCalls = 3
 abbrev pub rowIn : List ℤ → ℕ → Row
 rowIn w at = rowOf (indexIn (getD w at (pos 0)) rowCalls) (getD w (at + 1) (pos 0)) (recordIn w (at + 2))
 
--- the words of a row: the call, the place, and the words of a record that give it
+-- the words of a row: the call, the place, and those of a record
 abbrev pub rowLength : ℕ
-rowLength = 14
+rowLength = 2 + recordLength
 
 -- the first n rows
 unfoldable pub rowsIn : List ℤ → ℕ → List Row

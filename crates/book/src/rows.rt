@@ -1,4 +1,4 @@
-// A run of calls: a book opened on a lent station list, and a lent list of calls in rows of 14 words, each answered in a lent list.
+// A run of calls: a book opened on a lent station list, and a lent list of calls in rows of 16 words, each answered in a lent list.
 use super::Answered;
 use super::Book;
 use super::Call;
@@ -14,8 +14,8 @@ ghost use Rattle.book.specs.Book.{sound};
 ghost use Rattle.book.specs.Rows.{rowLength, rowOf, rowIn};
 ghost use Rattle.book.specs.Replay.{Answers, Ran, Replayed};
 
-// The words in a row.
-const ROW_LENGTH: usize = 14;
+// The words in a row: the call, the place, and a record's.
+const ROW_LENGTH: usize = 2 + Record::LENGTH;
 
 // The calls that a row can name.
 const ROW_CALLS: usize = 3;

@@ -23,7 +23,7 @@ level difference = levelBy (pos difference)
 
 -- "B place 1 2 0 0 1000 100 EN 0 100 0 100"
 abbrev pub baselineBy : ℤ → Record
-baselineBy en = baselineOf (pos 1) (pos 2) (pos 0 ∷ pos 0 ∷ pos 1000 ∷ []) (pos 100 ∷ en ∷ pos 0 ∷ pos 100 ∷ pos 0 ∷ pos 100 ∷ [])
+baselineBy en = baselineOf (pos 1) (pos 2) (pos 0 ∷ pos 0 ∷ pos 1000 ∷ []) (pos 100 ∷ en ∷ pos 0 ∷ pos 100 ∷ pos 0 ∷ pos 100 ∷ []) (pos 0 ∷ pos 0 ∷ [])
 
 abbrev pub baselineWith : ℕ → Record
 baselineWith en = baselineBy (pos en)

@@ -46,7 +46,7 @@ fn level(up: i64) -> Record
 fn baseline_with(en: i64) -> Record
     ensures { λ r. ⌜ r ≡ baselineBy en ⌝ }
 {
-    network::baseline_of(1, 2, [0, 0, 1000], [100, en, 0, 100, 0, 100])
+    network::baseline_of(1, 2, [0, 0, 1000], [100, en, 0, 100, 0, 100], [0, 0])
 }
 
 fn enter(place: i64, entry: Record) -> Call

@@ -1,19 +1,19 @@
 -- Laws of commands: numbers that were read into an array of just their count, and the cases of each line. Assumes nothing.
-use mathlib.Core.Path.{_≡_, refl, sym, ap, _∙_}
+use mathlib.Core.Path.{_≡_, refl, sym, ap, ap₂, _∙_}
 use mathlib.Core.Bool.{Bool, true, false, cond}
-use mathlib.Core.List.{List, _∷_, _++_, append-nil}
+use mathlib.Core.List.{List, [], _∷_, _++_}
 use Prim.Native.Nat.{ℕ, zero, suc, _+_, _-_, _≤_, _<_}
 use native.Mathlib.Omega.{arith}
 use native.Mathlib.Decide.{decLe}
 use lib.Dec.{leb, eqb, eqb·suc-suc}
-use lib.ListN.{length, getD, take, drop, drop-of-length-le}
-use lib.Seq.{sets, sets-eq, take-all}
+use lib.ListN.{length, getD, take, drop, replicate, length-replicate, getD-replicate, List·getD-eq-default, List·getD-append}
+use lib.Seq.{sets, sets-eq, take-all, getD-append-add, getD-drop}
 use lib.IntN.{ℤ, pos, negsuc, natAbs}
 use lib.Signed.{ltZ}
 use mir.Syntax.{w64}
 use mir.Val.{SFits, toZ, ofZ}
 use mir.Facts.{toZ-ofZ}
-use borrow.Author.Tests.{eq-eqb, ne-eqb, leb-false, ltb-true, lt-ltb, le-ltb}
+use borrow.Author.Tests.{eq-eqb, eqb-true, ne-eqb, leb-false, ltb-true, lt-ltb, le-ltb}
 use Rattle.words.specs.Bools.{clash}
 use Rattle.words.specs.Signed.{eqZ}
 use Rattle.network.specs.declared.Kind.{Kind}
@@ -32,32 +32,39 @@ use Rattle.commands.specs.declared.Entry.{Entry}
 use Rattle.commands.specs.declared.Entry.the-variants as entry
 use Rattle.commands.specs.declared.Command.{Command}
 use Rattle.commands.specs.declared.Command.the-variants.{Call, Corrections, Matrix, Unreadable}
-use Rattle.commands.specs.Commands.{letter-S, letter-X, letter-M, longestLine, exactly, levelEntry, entryOf, entered, afterR, undoOf, countedAs, correctionsIn, matrixIn, stationWith, stationOfKind, numberedInTurn, stationOf, otherOf, fieldsCommand, letterIn, commandOf, isStationLine, keptCommand, correctionsAfter, matrixAfter, Obeys}
+use Rattle.commands.specs.Commands.{letter-S, letter-X, letter-M, longestLine, exactly, levelEntry, baselineEntry, withoutHeights, withHeights, entryOf, entered, afterR, undoOf, countedAs, correctionsIn, matrixIn, stationWith, stationOfKind, numberedInTurn, stationOf, otherOf, fieldsCommand, letterIn, commandOf, isStationLine, keptCommand, correctionsAfter, matrixAfter, Obeys}
 
--- all of a list is stored over
-sets-all : (out vs : List ℤ) → length vs ≡ length out → sets out 0 vs ≡ vs
-sets-all out vs e =
-    sets-eq vs out 0 (omega arith)
-    ∙ ap (λ (l : List ℤ). vs ++ l) (drop-of-length-le out {i = 0 + length vs} (omega arith))
-    ∙ append-nil vs
+-- what is stored over a list that is 0 beyond it reads as itself
+stored-over : (out vs : List ℤ) → length vs ≤ length out → ((i : ℕ) → length vs ≤ i → getD out i (pos 0) ≡ pos 0) → (i : ℕ) → getD (sets out 0 vs) i (pos 0) ≡ getD vs i (pos 0)
+stored-over out vs room rest i = ap (λ (l : List ℤ). getD l i (pos 0)) (sets-eq vs out 0 (omega arith)) ∙ by (decLe (length vs) i)
+  where
+    by : Dec (length vs ≤ i) → getD (vs ++ drop (0 + length vs) out) i (pos 0) ≡ getD vs i (pos 0)
+    by (yes h) =
+        ap (λ (k : ℕ). getD (vs ++ drop (0 + length vs) out) k (pos 0)) (let e : i ≡ length vs + (i - length vs) = omega arith in e)
+        ∙ getD-append-add vs (drop (0 + length vs) out) (i - length vs) (pos 0)
+        ∙ getD-drop (0 + length vs) out (i - length vs) (pos 0)
+        ∙ rest (0 + length vs + (i - length vs)) (omega arith)
+        ∙ sym (List·getD-eq-default vs (pos 0) h)
+    by (no h) = List·getD-append vs (drop (0 + length vs) out) (pos 0) i (omega arith)
 
-module _ {A : Type 0} (k : ℕ) (other : A) (f : (ℕ → ℤ) → A) (out : List ℤ) (ns : FieldNumbers) (r : Count) (after : List ℤ) (s : Stored out (atMost k ns) r after) where
-  pub exactly-none : r ≡ count.Unreadable → other ≡ exactly k other f ns
+-- at most `most` numbers were read: whether there are just k of them
+module _ {A : Type 0} (most k : ℕ) (other : A) (f : (ℕ → ℤ) → A) (out : List ℤ) (ns : FieldNumbers) (r : Count) (after : List ℤ) (s : Stored out (atMost most ns) r after) where
+  pub exactly-none : k ≤ most → r ≡ count.Unreadable → other ≡ exactly k other f ns
   unfolding exactly atMost countOf
-  exactly-none e = by ns (sym e ∙ s .counts)
+  exactly-none few e = by ns (sym e ∙ s .counts)
     where
-      some : (vs : List ℤ) (t : Bool) → leb (length vs) k ≡ t → count.Unreadable ≡ countOf (cond t (numbers vs) unreadable) → other ≡ cond (eqb (length vs) k) (f (λ i. getD vs i (pos 0))) other
+      some : (vs : List ℤ) (t : Bool) → leb (length vs) most ≡ t → count.Unreadable ≡ countOf (cond t (numbers vs) unreadable) → other ≡ cond (eqb (length vs) k) (f (λ i. getD vs i (pos 0))) other
       some vs true h c = cc
-      some vs false h c = rw (ne-eqb (length vs) k (λ q. omega (arith, leb-false (length vs) k h)))
+      some vs false h c = rw (ne-eqb (length vs) k (λ q. omega (arith, leb-false (length vs) most h)))
 
-      by : (ns : FieldNumbers) → count.Unreadable ≡ countOf (atMost k ns) → other ≡ exactly k other f ns
+      by : (ns : FieldNumbers) → count.Unreadable ≡ countOf (atMost most ns) → other ≡ exactly k other f ns
       by unreadable c = refl
-      by (numbers vs) c = some vs (leb (length vs) k) refl c
+      by (numbers vs) c = some vs (leb (length vs) most) refl c
 
   -- n of them were read: these are after's first
   read-all : (n : ℕ) → r ≡ count.Numbers n → (vs : List ℤ) → ns ≡ numbers vs → (length vs ≡ n) × (after ≡ sets out 0 vs)
   unfolding atMost countOf storedIn
-  read-all n e vs q = by (leb (length vs) k) (sym e ∙ s .counts ∙ ap (λ (x : FieldNumbers). countOf (atMost k x)) q) (s .stores ∙ ap (λ (x : FieldNumbers). storedIn out (atMost k x)) q)
+  read-all n e vs q = by (leb (length vs) most) (sym e ∙ s .counts ∙ ap (λ (x : FieldNumbers). countOf (atMost most x)) q) (s .stores ∙ ap (λ (x : FieldNumbers). storedIn out (atMost most x)) q)
     where
       by : (t : Bool) → count.Numbers n ≡ countOf (cond t (numbers vs) unreadable) → after ≡ storedIn out (cond t (numbers vs) unreadable) → (length vs ≡ n) × (after ≡ sets out 0 vs)
       by true c w = (cc, w)
@@ -71,19 +78,46 @@ module _ {A : Type 0} (k : ℕ) (other : A) (f : (ℕ → ℤ) → A) (out : Lis
       by unreadable all = refl
       by (numbers vs) all = rw (ne-eqb (length vs) k (λ p. q (omega (arith, all vs refl .0))))
 
-  pub exactly-all : (n : ℕ) → r ≡ count.Numbers n → n ≡ k → length out ≡ k → f (λ i. getD after i (pos 0)) ≡ exactly k other f ns
+  -- read into a list that is 0 beyond them
+  pub exactly-front : (n : ℕ) → r ≡ count.Numbers n → n ≡ k → k ≤ length out → ((i : ℕ) → k ≤ i → getD out i (pos 0) ≡ pos 0) → f (λ i. getD after i (pos 0)) ≡ exactly k other f ns
   unfolding exactly atMost countOf
-  exactly-all n e q room = by ns (read-all n e) (sym e ∙ s .counts)
+  exactly-front n e q room rest = by ns (read-all n e) (sym e ∙ s .counts)
     where
       by :
           (ns : FieldNumbers) →
           ((vs : List ℤ) → ns ≡ numbers vs → (length vs ≡ n) × (after ≡ sets out 0 vs)) →
-          count.Numbers n ≡ countOf (atMost k ns) →
+          count.Numbers n ≡ countOf (atMost most ns) →
           f (λ i. getD after i (pos 0)) ≡ exactly k other f ns
       by unreadable all c = cc
       by (numbers vs) all c =
           let l : length vs ≡ k = all vs refl .0 ∙ q in
-          rw (eq-eqb (length vs) k l) (ap (λ (l : List ℤ). f (λ i. getD l i (pos 0))) (all vs refl .1 ∙ sets-all out vs (omega arith)))
+          let same : (i : ℕ) → getD after i (pos 0) ≡ getD vs i (pos 0) =
+          λ i. ap (λ (x : List ℤ). getD x i (pos 0)) (all vs refl .1) ∙ stored-over out vs (omega arith) (λ j h. rest j (omega arith)) i in
+          rw (eq-eqb (length vs) k l) (λ j. f (λ i. same i j))
+
+  -- into one of just their count
+  pub exactly-all : (n : ℕ) → r ≡ count.Numbers n → n ≡ k → length out ≡ k → f (λ i. getD after i (pos 0)) ≡ exactly k other f ns
+  exactly-all n e q room = exactly-front n e q (omega arith) (λ i h. List·getD-eq-default out (pos 0) (omega arith))
+
+-- a list of 0 reads 0 everywhere
+pub zeros : (n i : ℕ) → getD (replicate n (pos 0)) i (pos 0) ≡ pos 0
+zeros n i = by (decLe n i)
+  where
+    by : Dec (n ≤ i) → getD (replicate n (pos 0)) i (pos 0) ≡ pos 0
+    by (yes h) = List·getD-eq-default (replicate n (pos 0)) (pos 0) (omega (arith, length-replicate n (pos 0)))
+    by (no h) = getD-replicate n i (pos 0) (pos 0) (omega arith)
+
+-- of 12 numbers the heights are 0
+pub heights-lacking : (other : Entry) (ns : FieldNumbers) → exactly 12 other withHeights ns ≡ exactly 12 other withoutHeights ns
+unfolding exactly
+heights-lacking other unreadable = refl
+heights-lacking other (numbers vs) = by (eqb (length vs) 12) refl
+  where
+    by : (t : Bool) → eqb (length vs) 12 ≡ t → cond t (withHeights (λ i. getD vs i (pos 0))) other ≡ cond t (withoutHeights (λ i. getD vs i (pos 0))) other
+    by true e =
+        let l : length vs ≡ 12 = eqb-true (length vs) 12 e in
+        ap₂ (λ (h k : ℤ). baselineEntry (h ∷ k ∷ []) (λ i. getD vs i (pos 0))) (List·getD-eq-default vs (pos 0) (omega arith)) (List·getD-eq-default vs (pos 0) (omega arith))
+    by false e = refl
 
 -- ════ a test of a letter
 module _ {letter l : ℕ} (is : letter ≡ l) (k : ℕ) where

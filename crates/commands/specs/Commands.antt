@@ -71,15 +71,25 @@ exactly k other f (numbers vs) = cond (eqb (length vs) k) (f (λ i. getD vs i (p
 abbrev pub levelEntry : (ℕ → ℤ) → Entry
 levelEntry v = entry.Of (v 0) (heightOf (v 1) (v 2) (v 3) (v 4))
 
--- "B: place, from, to, three differences, weights EE EN EU NN NU UU"
-abbrev pub baselineEntry : (ℕ → ℤ) → Entry
-baselineEntry v = entry.Of (v 0) (baselineOf (v 1) (v 2) (v 3 ∷ v 4 ∷ v 5 ∷ []) (v 6 ∷ v 7 ∷ v 8 ∷ v 9 ∷ v 10 ∷ v 11 ∷ []))
+-- "B: place, from, to, three differences, weights EE EN EU NN NU UU", with antenna heights
+abbrev pub baselineEntry : List ℤ → (ℕ → ℤ) → Entry
+baselineEntry heights v = entry.Of (v 0) (baselineOf (v 1) (v 2) (v 3 ∷ v 4 ∷ v 5 ∷ []) (v 6 ∷ v 7 ∷ v 8 ∷ v 9 ∷ v 10 ∷ v 11 ∷ []) heights)
+
+-- document 02, request 4: "The heights end a B line, from first; lines without them mean zero". So a B line has 12 numbers or 14
+abbrev pub withoutHeights : (ℕ → ℤ) → Entry
+withoutHeights = baselineEntry (pos 0 ∷ pos 0 ∷ [])
+
+abbrev pub withHeights : (ℕ → ℤ) → Entry
+withHeights v = baselineEntry (v 12 ∷ v 13 ∷ []) v
+
+abbrev pub baselineLine : FieldNumbers → Entry
+baselineLine ns = exactly 12 (exactly 14 entry.Unreadable withHeights ns) withoutHeights ns
 
 -- the fields after the letter
 unfoldable pub entryOf : ℕ → List (List ℕ) → Entry
 entryOf letter fields =
     cond (eqb letter letter-H) (exactly 5 entry.Unreadable levelEntry (numbersIn fields))
-    (cond (eqb letter letter-B) (exactly 12 entry.Unreadable baselineEntry (numbersIn fields)) entry.Unreadable)
+    (cond (eqb letter letter-B) (baselineLine (numbersIn fields)) entry.Unreadable)
 
 -- H or B enters (document 02, request 3: "One "enter" fills or overwrites")
 unfoldable pub entered : Entry → Command

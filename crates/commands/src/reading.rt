@@ -11,10 +11,10 @@ use text::Number;
 ghost use mathlib.Core.Path.{_≡_};
 ghost use Prim.Native.Nat.{suc, _≤_};
 ghost use lib.IntN.{pos};
-ghost use lib.ListN.{length, drop};
+ghost use lib.ListN.{length, drop, getD};
 ghost use Rattle.words.specs.Signed.{eqZ};
 ghost use Rattle.text.specs.Fields.{firstField, restFields, letterOf, numbersIn, storedIn};
-ghost use Rattle.commands.specs.Commands.{mostCorrections, mostEntries, exactly, levelEntry, baselineEntry, entryOf, entered, afterR, strikeOf, undoOf};
+ghost use Rattle.commands.specs.Commands.{mostCorrections, mostEntries, exactly, levelEntry, withHeights, baselineLine, entryOf, entered, afterR, strikeOf, undoOf};
 ghost use Rattle.commands.specs.Commands.{countedAs, correctionsIn, matrixIn, stationWith, stationOfKind, stationOf, otherOf, letterIn, isStationLine, Obeys};
 ghost use Rattle.commands.specs.declared.Entry.the-variants as entry;
 ghost use Rattle.commands.specs.declared.Command.the-variants as command;
@@ -39,19 +39,29 @@ fn level_entry(line: &[u8], from: usize) -> Entry
     }
 }
 
-// The fields after the letter at `from`: place, from, to, three differences, six weights.
-fn baseline_entry(line: &[u8], from: usize) -> Entry
-    ensures { λ r. ⌜ r ≡ exactly 12 entry.Unreadable baselineEntry (numbersIn (restFields (drop from (now (line .entry))))) ⌝ }
+// The place and the baseline of these numbers.
+fn baseline_for(a: &[i64; 14]) -> Entry
+    ensures { λ r. ⌜ r ≡ withHeights (λ i. getD (now (a .entry)) i (pos 0)) ⌝ }
 {
-    let mut a = [0i64; 12];
-    match text::read_rest(line, from, 12, &mut a) {
+    let of = network::baseline_in(a, 0);
+    Entry::Of(a[0], of)
+}
+
+// The fields after the letter at `from`: place, from, to, three differences, six weights, and with or without them two antenna heights.
+fn baseline_entry(line: &[u8], from: usize) -> Entry
+    ensures { λ r. ⌜ r ≡ baselineLine (numbersIn (restFields (drop from (now (line .entry))))) ⌝ }
+{
+    let mut a = [0i64; 14];
+    match text::read_rest(line, from, 14, &mut a) {
         Count::Unreadable => Entry::Unreadable,
         Count::Numbers(n) => {
-            if n != 12 {
-                return Entry::Unreadable;
+            if n == 12 {
+                return baseline_for(&a);
             }
-            let of = network::baseline_in(&a, 0);
-            Entry::Of(a[0], of)
+            if n == 14 {
+                return baseline_for(&a);
+            }
+            Entry::Unreadable
         }
     }
 }

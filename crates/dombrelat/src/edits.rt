@@ -17,7 +17,7 @@ fn edit_bytes(book: &mut [u8], call: Call) -> i64
     n as i64
 }
 
-// Enters a baseline at a place, be it empty or filled.
+// Enters a baseline at a place, be it empty or filled; hf and ht are the antenna heights at from and at to.
 #[no_mangle]
 pub extern "C" fn dombrelat_enter_baseline(
     book: &mut [u8],
@@ -33,11 +33,19 @@ pub extern "C" fn dombrelat_enter_baseline(
     nn: i64,
     nu: i64,
     uu: i64,
+    hf: i64,
+    ht: i64,
 ) -> i64
-    ensures { λ r. ⌜ r ≡ editCall (now (book .entry)) (Call.Edit place (Change.Enter (baselineOf from to (east ∷ north ∷ up ∷ []) (ee ∷ en ∷ eu ∷ nn ∷ nu ∷ uu ∷ [])))) .answer ⌝ }
-    ensures { λ _. ⌜ now (book .exit) ≡ editCall (now (book .entry)) (Call.Edit place (Change.Enter (baselineOf from to (east ∷ north ∷ up ∷ []) (ee ∷ en ∷ eu ∷ nn ∷ nu ∷ uu ∷ [])))) .bytes ⌝ }
+    ensures { λ r. ⌜ r ≡ editCall (now (book .entry)) (Call.Edit place (Change.Enter (baselineOf from to (east ∷ north ∷ up ∷ []) (ee ∷ en ∷ eu ∷ nn ∷ nu ∷ uu ∷ []) (hf ∷ ht ∷ [])))) .answer ⌝ }
+    ensures { λ _. ⌜ now (book .exit) ≡ editCall (now (book .entry)) (Call.Edit place (Change.Enter (baselineOf from to (east ∷ north ∷ up ∷ []) (ee ∷ en ∷ eu ∷ nn ∷ nu ∷ uu ∷ []) (hf ∷ ht ∷ [])))) .bytes ⌝ }
 {
-    let r = network::baseline_of(from, to, [east, north, up], [ee, en, eu, nn, nu, uu]);
+    let r = network::baseline_of(
+        from,
+        to,
+        [east, north, up],
+        [ee, en, eu, nn, nu, uu],
+        [hf, ht],
+    );
     edit_bytes(book, Call::Edit(place, Change::Enter(r)))
 }
 

@@ -21,7 +21,7 @@ use Rattle.network.specs.StationWords.{stationWords}
 use Rattle.network.specs.RecordWords.{recordWords, recordIn, recordLength}
 use Rattle.network.specs.RecordWordLaws.{length-record, record-moved}
 use Rattle.network.specs.Places.{placesLength, record-in-place}
-use Rattle.layout.specs.Layout.{stationPart, reversalWords, headWords, stationsPart, placesPart, countsPart, entriesPart, bookWords, placesAt, bookIn, reversalLength, placesStart, countsStart, entriesStart, matrixStart, rightStart, bookLength, stationsStart}
+use Rattle.layout.specs.Layout.{stationPart, reversalWords, layoutNumber, headWords, stationsPart, placesPart, countsPart, entriesPart, bookWords, placesAt, bookIn, reversalLength, placesStart, countsStart, entriesStart, matrixStart, rightStart, bookLength, stationsStart}
 
 -- ════ lengths
 pub length-reversal : (u : Reversal) → length (reversalWords u) ≡ reversalLength
@@ -121,7 +121,7 @@ module _ (b : Book) (z : Sized b) where
   behind a c n k e l =
       ap (λ (x : List ℤ). getD x (n + k) (pos 0)) e ∙ ap (λ (m : ℕ). getD (a ++ c) (m + k) (pos 0)) (sym l) ∙ getD-append-add a c k (pos 0)
 
-  pub head-word : word 0 ≡ pos 1
+  pub head-word : word 0 ≡ layoutNumber
   unfolding bookWords
   head-word = refl
 

@@ -23,7 +23,7 @@ use Rattle.lists.specs.Same.{sameEntries}
 use Rattle.book.specs.declared.Reversal.{Reversal}
 use Rattle.book.specs.Journal.{journalSize, free}
 use Rattle.book.specs.Sound.{Sized}
-use Rattle.layout.specs.Layout.{stationPart, reversalWords, bookWords, reversalIn, networkIn, placesAt, bookIn, reversalLength, placesStart, countsStart, entriesStart, matrixStart, rightStart, bookLength, stationsStart}
+use Rattle.layout.specs.Layout.{stationPart, reversalWords, layoutNumber, bookWords, reversalIn, networkIn, placesAt, bookIn, reversalLength, placesStart, countsStart, entriesStart, matrixStart, rightStart, bookLength, stationsStart}
 use Rattle.layout.specs.BookWords.{record-in, head-word, count-word, station-word, place-word, next-word, journal-count-word, slot-word, matrix-word, right-word}
 
 -- the words from index k on are those of the record that they give
@@ -36,7 +36,7 @@ stationLaid w s = allBelow 4 (λ j. eqZ (getD w (stationsStart + s * 4 + j) (pos
 
 unfoldable pub partsLaid : List ℤ → Bool
 partsLaid w =
-    eqZ (getD w 0 (pos 0)) (pos 1)
+    eqZ (getD w 0 (pos 0)) layoutNumber
     && allBelow 32 (stationLaid w)
     && allBelow 256 (λ p. recordLaid w (placesStart + p * recordLength))
     && allBelow journalSize (λ k. recordLaid w (entriesStart + 1 + k * reversalLength))
@@ -133,7 +133,7 @@ module _ (w : List ℤ) (long : length w ≡ bookLength) where
         let stations = allBelow 32 (stationLaid w) in
         let places = allBelow 256 (λ p. recordLaid w (placesStart + p * recordLength)) in
         let entries = allBelow journalSize (λ k. recordLaid w (entriesStart + 1 + k * reversalLength)) in
-        let first = eqZ (getD w 0 (pos 0)) (pos 1) in
+        let first = eqZ (getD w 0 (pos 0)) layoutNumber in
         let three : first && stations && places ≡ true = and-left (first && stations && places) entries e in
         let two : first && stations ≡ true = and-left (first && stations) places three in
         let station : (s j : ℕ) → s < 32 → j < 4 → getD w (stationsStart + s * 4 + j) (pos 0) ≡ new (stationsStart + s * 4 + j) =

@@ -68,9 +68,13 @@ unfoldable pub reversalWords : Reversal → List ℤ
 reversalWords u = signed (u .place) ∷ recordWords (u .prior)
 
 -- ════ a book's words. A count is kept as the word with its bits
--- the layout's number and the station count
+-- the layout's number: 2 since words 12 and 13 of a record are antenna heights (document 02, request 4); in 1 they were 0
+abbrev pub layoutNumber : ℤ
+layoutNumber = pos 2
+
+-- that number and the station count
 abbrev pub headWords : Book → List ℤ
-headWords b = pos 1 ∷ signed (b .network .count) ∷ []
+headWords b = layoutNumber ∷ signed (b .network .count) ∷ []
 
 abbrev pub stationsPart : Book → List ℤ
 stationsPart b = concatBelow 32 (stationPart (b .network))
@@ -87,8 +91,8 @@ entriesPart b = concatBelow journalSize (λ k. reversalWords (getD (b .journal .
 unfoldable pub bookWords : Book → List ℤ
 bookWords b = headWords b ++ (stationsPart b ++ (placesPart b ++ (countsPart b ++ (entriesPart b ++ (b .normals .matrix ++ b .normals .right)))))
 
--- ════ the book that words give, for any words. Those of a kind that is none are read as an empty record or a known station, and the two words that
--- are 0 are not looked at: words that are not a book's are told by writing what was read, in Bytes.antt
+-- ════ the book that words give, for any words. Those of a kind that is none are read as an empty record or a known station, and the words that a
+-- record does not use are not looked at: words that are not a book's are told by writing what was read, in Bytes.antt
 abbrev pub countIn : List ℤ → ℕ → ℕ
 countIn w at = unsigned (getD w at (pos 0))
 

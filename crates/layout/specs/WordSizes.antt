@@ -84,7 +84,7 @@ module _ (net : Network) (e : networkFits net ≡ true) where
       let g = baseline-range b (o .range) in
       let w = small-weights (g .weights) in
       let ends = ends-small (b .from) (b .to) (o .ends) in
-      ((omega arith), (ends .0, (ends .1, (more (g .east) (omega arith), (more (g .north) (omega arith), (more (g .up) (omega arith), (more (w .ee) (omega arith), (more (w .en) (omega arith), (more (w .eu) (omega arith), (more (w .nn) (omega arith), (more (w .nu) (omega arith), (more (w .uu) (omega arith), (zero-le, (zero-le, tt))))))))))))))
+      ((omega arith), (ends .0, (ends .1, (more (g .east) (omega arith), (more (g .north) (omega arith), (more (g .up) (omega arith), (more (w .ee) (omega arith), (more (w .en) (omega arith), (more (w .eu) (omega arith), (more (w .nn) (omega arith), (more (w .nu) (omega arith), (more (w .uu) (omega arith), (more (g .hf) (omega arith), (more (g .ht) (omega arith), tt))))))))))))))
   record-small (height h) f =
       let o = height-fits net h f in
       let g = height-range h (o .range) in
@@ -142,13 +142,13 @@ module _ (b : Book) (o : SoundParts b) where
       let few = network-few (b .network) (o .network) in
       let next = o .journal .next in
       let count = o .journal .count in
-      let one : 1 ≤ L = omega arith in
+      let number : 2 ≤ L = omega arith in
       let tail : Small L (entriesPart b ++ (b .normals .matrix ++ b .normals .right)) =
       small-append (entriesPart b) _ (small-concatBelow journalSize _ (λ k h. reversal-small (b .network) (o .network) (getD (b .journal .entries) k free) (entry-restores b o k h)))
       (small-append (b .normals .matrix) (b .normals .right) matrix-small right-small) in
       let counts : Small L (countsPart b ++ (entriesPart b ++ (b .normals .matrix ++ b .normals .right))) =
       (count-small (b .journal .next) (omega arith), (count-small (b .journal .count) (omega arith), tail)) in (
-        one,
+        number,
         (
           count-small (b .network .count) (omega arith),
           small-append (stationsPart b) _ (small-concatBelow 32 _ (λ s h. station-small (b .network) (o .network) s h))

@@ -76,7 +76,7 @@ fn laid_out(s: &[u8]) -> bool
 {
     let first = reading::word_in(s, 0);
     let prior = Layout::ENTRIES_START + 1;
-    words::same(first, 1)
+    words::same(first, Layout::NUMBER)
         & stations_laid(s)
         & records_laid(s, Layout::PLACES_START, Record::LENGTH, Unit::PLACES)
         & records_laid(s, prior, Layout::REVERSAL_LENGTH, Journal::SIZE)

@@ -7,6 +7,9 @@ use normals::Normals;
 pub struct Layout {}
 
 impl Layout {
+    // The layout's number, the first word of a book.
+    pub const NUMBER: i64 = 2;
+
     // The words of a slot of the journal: the place, and the record to restore.
     pub const REVERSAL_LENGTH: usize = 1 + Record::LENGTH;
 

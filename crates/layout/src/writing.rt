@@ -138,7 +138,7 @@ pub fn write_book(s: &mut [u8], book: Book)
 {
     let net = book.network;
     let count = count_word(net.count);
-    put_pair(s, 0, 1, count);
+    put_pair(s, 0, Layout::NUMBER, count);
     put_stations(s, net);
     let places = book.places;
     put_places(s, places);

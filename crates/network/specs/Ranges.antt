@@ -7,12 +7,13 @@ use borrow.Author.Tests.{leb-true}
 use lib.ListN.{getD}
 use lib.IntN.{pos, natAbs}
 use Rattle.words.specs.Bools.{and-left, and-right}
+use Rattle.words.specs.SignedLaws.{between-size}
 use Rattle.lists.specs.All.{each}
 use Rattle.lists.specs.Sizes.{small-at}
 use Rattle.weights.specs.Rules.{weightFits, weightsInRange}
 use Rattle.weights.specs.Ranges.{Weight, WeightsRange, weight-range, weights-range}
-use Rattle.network.specs.Records.{weightMatrixOf, observed}
-use Rattle.network.specs.Rules.{observedFits, baselineInRange, heightInRange, inRange}
+use Rattle.network.specs.Records.{weightMatrixOf, reducedUp, reduced}
+use Rattle.network.specs.Rules.{observedFits, heightAboveMarkFits, upInRange, baselineInRange, heightInRange, inRange}
 use Rattle.network.specs.declared.Baseline.{Baseline}
 use Rattle.network.specs.declared.Level.{Level}
 use Rattle.network.specs.declared.Record.{Record}
@@ -22,6 +23,9 @@ pub record BaselineRange (b : Baseline) : Type 0 where
   pub east : natAbs (b .east) ≤ 1000000000
   pub north : natAbs (b .north) ≤ 1000000000
   pub up : natAbs (b .up) ≤ 1000000000
+  pub hf : natAbs (b .hf) ≤ 300000
+  pub ht : natAbs (b .ht) ≤ 300000
+  pub reduced : natAbs (reducedUp b) ≤ 1000000000
   pub weights : WeightsRange (weightMatrixOf b)
 
 pub record HeightRange (h : Level) : Type 0 where
@@ -29,13 +33,17 @@ pub record HeightRange (h : Level) : Type 0 where
   pub weight : Weight (h .weight)
 
 pub baseline-range : (b : Baseline) → baselineInRange b ≡ true → BaselineRange b
-unfolding baselineInRange
+unfolding baselineInRange upInRange
 baseline-range b e =
-    let t = each (observedFits (b .east) ∷ observedFits (b .north) ∷ observedFits (b .up) ∷ weightsInRange (weightMatrixOf b) ∷ []) e in
+    let t = each (observedFits (b .east) ∷ observedFits (b .north) ∷ upInRange b ∷ weightsInRange (weightMatrixOf b) ∷ []) e in
+    let u = each (observedFits (b .up) ∷ heightAboveMarkFits (b .hf) ∷ heightAboveMarkFits (b .ht) ∷ observedFits (reducedUp b) ∷ []) (t .1 .1 .0) in
     record {
       east = leb-true (natAbs (b .east)) 1000000000 (t .0);
       north = leb-true (natAbs (b .north)) 1000000000 (t .1 .0);
-      up = leb-true (natAbs (b .up)) 1000000000 (t .1 .1 .0);
+      up = leb-true (natAbs (b .up)) 1000000000 (u .0);
+      hf = between-size 0 300000 (b .hf) (u .1 .0);
+      ht = between-size 0 300000 (b .ht) (u .1 .1 .0);
+      reduced = leb-true (natAbs (reducedUp b)) 1000000000 (u .1 .1 .1 .0);
       weights = weights-range (weightMatrixOf b) (t .1 .1 .1 .0);
     }
 
@@ -48,8 +56,8 @@ height-range h e =
     }
 
 -- what a misclosure is taken from is small
-pub values-small : (r : Record) → inRange r ≡ true → (a : ℕ) → natAbs (getD (observed r) a (pos 0)) ≤ 1000000000
-unfolding inRange observed
-values-small Empty e = small-at 1000000000 (observed Empty) (zero-le, (zero-le, (zero-le, tt)))
-values-small (baseline b) e = let v = baseline-range b e in small-at 1000000000 (observed (baseline b)) (v .east, (v .north, (v .up, tt)))
-values-small (height h) e = small-at 1000000000 (observed (height h)) (zero-le, (zero-le, (height-range h e .up, tt)))
+pub values-small : (r : Record) → inRange r ≡ true → (a : ℕ) → natAbs (getD (reduced r) a (pos 0)) ≤ 1000000000
+unfolding inRange reduced
+values-small Empty e = small-at 1000000000 (reduced Empty) (zero-le, (zero-le, (zero-le, tt)))
+values-small (baseline b) e = let v = baseline-range b e in small-at 1000000000 (reduced (baseline b)) (v .east, (v .north, (v .reduced, tt)))
+values-small (height h) e = small-at 1000000000 (reduced (height h)) (zero-le, (zero-le, (height-range h e .up, tt)))

@@ -2,20 +2,22 @@
 use Prim.Native.Nat.{ℕ, zero, suc, _+_, _*_, _<_, _≤_, zero-le}
 use mathlib.Core.Path.{_≡_, refl}
 use mathlib.Core.Bool.{Bool, true, false, cond}
-use mathlib.Core.List.{List}
+use mathlib.Core.List.{List, [], _∷_}
 use native.Mathlib.Omega.{arith}
 use lib.Dec.{lit≤}
 use lib.ListN.{getD}
-use lib.IntN.{ℤ, pos, natAbs, _-ℤ_}
+use lib.IntN.{ℤ, pos, natAbs, _+ℤ_, _-ℤ_}
 use Rattle.integers.specs.Bounds.{bounds, absle}
+use Rattle.integers.specs.Solvers.{ring, shapes}
 use Rattle.integers.specs.Tables.{Within}
 use Rattle.network.specs.Units.{mostStations, mostComponents, mostCoordinate, mostObserved}
+use Rattle.network.specs.declared.Baseline.{Baseline}
 use Rattle.network.specs.declared.Record.{Record}
 use Rattle.network.specs.declared.Record.the-variants.{Empty, Baseline as baseline, Height as height}
 use Rattle.lists.specs.Sizes.{small-at}
 use Rattle.network.specs.Rules.{inRange}
 use Rattle.network.specs.Ranges.{values-small}
-use Rattle.network.specs.Records.{observations, acts, fromOf, toOf, observed, misclosureAt, misclosureIn, misclosures}
+use Rattle.network.specs.Records.{observations, acts, fromOf, toOf, reducedUp, reduced, misclosureAt, misclosureIn, misclosures}
 
 -- a record observes at most three components
 pub observations-few : (r : Record) → observations r ≤ 3
@@ -23,6 +25,14 @@ unfolding observations
 observations-few Empty = lit≤ tt
 observations-few (baseline b) = lit≤ tt
 observations-few (height h) = lit≤ tt
+
+-- without antenna heights the observed U difference is the reduced one
+add-none : (u : ℤ) → u +ℤ pos 0 -ℤ pos 0 ≡ u
+add-none u = ring (u ∷ []) (search shapes depth 8) tt
+
+pub no-heights : (b : Baseline) → b .hf ≡ pos 0 → b .ht ≡ pos 0 → reducedUp b ≡ b .up
+unfolding reducedUp
+no-heights b f t = rw (f, t) (add-none (b .up))
 
 -- a record whose ends are stations and whose values are in range, over provisional coordinates in range
 pub record Observed (coordinate : List ℤ) (r : Record) : Type 0 where
@@ -43,8 +53,8 @@ pub misclosure-small : (c : List ℤ) (r : Record) → Observed c r → (a : ℕ
 unfolding misclosureIn
 misclosure-small c r o a = go (acts a r)
   where
-    go : (t : Bool) → natAbs (cond t (misclosureAt c (fromOf r) (toOf r) a (getD (observed r) a (pos 0))) (pos 0)) ≤ 2000000000
-    go true = misclosure-size c (fromOf r) (toOf r) a (getD (observed r) a (pos 0)) (values-small r (o .values) a) (o .provisional)
+    go : (t : Bool) → natAbs (cond t (misclosureAt c (fromOf r) (toOf r) a (getD (reduced r) a (pos 0))) (pos 0)) ≤ 2000000000
+    go true = misclosure-size c (fromOf r) (toOf r) a (getD (reduced r) a (pos 0)) (values-small r (o .values) a) (o .provisional)
     go false = zero-le
 
 pub misclosures-small : (c : List ℤ) (r : Record) → Observed c r → (a : ℕ) → natAbs (getD (misclosures c r) a (pos 0)) ≤ 2000000000

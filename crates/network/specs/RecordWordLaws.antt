@@ -40,6 +40,8 @@ record-moved w v at to h =
           nn = h 9 (omega arith) i;
           nu = h 10 (omega arith) i;
           uu = h 11 (omega arith) i;
+          hf = h 12 (omega arith) i;
+          ht = h 13 (omega arith) i;
         })
     go (suc zero) = λ i. height (record { from = h 1 (omega arith) i; to = h 2 (omega arith) i; up = h 5 (omega arith) i; weight = h 11 (omega arith) i })
     go (suc (suc k)) = refl

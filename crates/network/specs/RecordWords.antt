@@ -1,5 +1,5 @@
--- A record in 14 words, both ways: kind (0 empty, 1 baseline, 2 height difference), from, to, observed E, N, U, weights EE, EN, EU, NN, NU, UU, and two that
--- are 0. A height difference has the U and UU words. Assumes nothing.
+-- A record in 14 words, both ways: kind (0 empty, 1 baseline, 2 height difference), from, to, observed E, N, U, weights EE, EN, EU, NN, NU, UU, from-height,
+-- to-height. A height difference has the U and UU words. Assumes nothing.
 use Prim.Native.Nat.{ℕ, zero, suc, _+_}
 use mathlib.Core.List.{List, [], _∷_}
 use lib.ListN.{getD}
@@ -18,7 +18,7 @@ unfoldable pub recordWords : Record → List ℤ
 recordWords Empty =
     pos 0 ∷ pos 0 ∷ pos 0 ∷ pos 0 ∷ pos 0 ∷ pos 0 ∷ pos 0 ∷ pos 0 ∷ pos 0 ∷ pos 0 ∷ pos 0 ∷ pos 0 ∷ pos 0 ∷ pos 0 ∷ []
 recordWords (baseline b) =
-    pos 1 ∷ b .from ∷ b .to ∷ b .east ∷ b .north ∷ b .up ∷ b .ee ∷ b .en ∷ b .eu ∷ b .nn ∷ b .nu ∷ b .uu ∷ pos 0 ∷ pos 0 ∷ []
+    pos 1 ∷ b .from ∷ b .to ∷ b .east ∷ b .north ∷ b .up ∷ b .ee ∷ b .en ∷ b .eu ∷ b .nn ∷ b .nu ∷ b .uu ∷ b .hf ∷ b .ht ∷ []
 recordWords (height h) =
     pos 2 ∷ h .from ∷ h .to ∷ pos 0 ∷ pos 0 ∷ h .up ∷ pos 0 ∷ pos 0 ∷ pos 0 ∷ pos 0 ∷ pos 0 ∷ h .weight ∷ pos 0 ∷ pos 0 ∷ []
 
@@ -28,6 +28,7 @@ recordOf zero w at =
     baselineOf (getD w (at + 1) (pos 0)) (getD w (at + 2) (pos 0))
     (getD w (at + 3) (pos 0) ∷ getD w (at + 4) (pos 0) ∷ getD w (at + 5) (pos 0) ∷ [])
     (getD w (at + 6) (pos 0) ∷ getD w (at + 7) (pos 0) ∷ getD w (at + 8) (pos 0) ∷ getD w (at + 9) (pos 0) ∷ getD w (at + 10) (pos 0) ∷ getD w (at + 11) (pos 0) ∷ [])
+    (getD w (at + 12) (pos 0) ∷ getD w (at + 13) (pos 0) ∷ [])
 recordOf (suc zero) w at = heightOf (getD w (at + 1) (pos 0)) (getD w (at + 2) (pos 0)) (getD w (at + 5) (pos 0)) (getD w (at + 11) (pos 0))
 recordOf (suc (suc k)) w at = Empty
 

@@ -1,11 +1,11 @@
--- Records: what a place holds, with its shape, ends, weights, observed values and misclosures. Assumes nothing.
+-- Records: what a place holds, with its shape, ends, weights, reduced values and misclosures. Assumes nothing.
 use Prim.Native.Nat.{ℕ, zero, suc, _+_, _*_, _≤_}
 use mathlib.Core.Bool.{Bool, true, false, cond}
 use mathlib.Core.List.{List, [], _∷_}
 use native.Mathlib.Omega.{arith}
 use lib.Dec.{eqb}
 use lib.ListN.{getD}
-use lib.IntN.{ℤ, pos, natAbs, _-ℤ_}
+use lib.IntN.{ℤ, pos, natAbs, _+ℤ_, _-ℤ_}
 use Rattle.words.specs.Signed.{indexIn}
 use Rattle.weights.specs.Rules.{matrixRows}
 use Rattle.weights.specs.declared.WeightMatrix.{WeightMatrix}
@@ -25,9 +25,9 @@ abbrev pub recordAt : List Place → ℕ → Record
 recordAt places p = getD places p vacant .entry
 
 -- ════ a record by its numbers
--- a baseline: from, to, the observed differences E, N, U, the weights EE, EN, EU, NN, NU, UU
-abbrev pub baselineOf : ℤ → ℤ → List ℤ → List ℤ → Record
-baselineOf from to o w =
+-- a baseline: from, to, the observed differences E, N, U, the weights EE, EN, EU, NN, NU, UU, the antenna heights, from first
+abbrev pub baselineOf : ℤ → ℤ → List ℤ → List ℤ → List ℤ → Record
+baselineOf from to o w h =
     baseline
     (record {
       from = from;
@@ -41,6 +41,8 @@ baselineOf from to o w =
       nn = getD w 3 (pos 0);
       nu = getD w 4 (pos 0);
       uu = getD w 5 (pos 0);
+      hf = getD h 0 (pos 0);
+      ht = getD h 1 (pos 0);
     })
 
 -- a height difference: from, to, the observed difference, the weight
@@ -100,19 +102,23 @@ weights Empty = pos 0 ∷ pos 0 ∷ pos 0 ∷ pos 0 ∷ pos 0 ∷ pos 0 ∷ pos 
 weights (baseline b) = matrixRows (weightMatrixOf b)
 weights (height h) = pos 0 ∷ pos 0 ∷ pos 0 ∷ pos 0 ∷ pos 0 ∷ pos 0 ∷ pos 0 ∷ pos 0 ∷ h .weight ∷ []
 
--- ════ its observed differences, to minus from, in E, N, U
-unfoldable pub observed : Record → List ℤ
-observed Empty = pos 0 ∷ pos 0 ∷ pos 0 ∷ []
-observed (baseline b) = b .east ∷ b .north ∷ b .up ∷ []
-observed (height h) = pos 0 ∷ pos 0 ∷ h .up ∷ []
+-- ════ its reduced differences, to minus from, in E, N, U: those between the marks, as observed but for the U of a baseline, which comes antenna to antenna
+-- document 02, request 4: "the reduced U difference is the observed one plus the from-height minus the to-height"
+unfoldable pub reducedUp : Baseline → ℤ
+reducedUp b = b .up +ℤ b .hf -ℤ b .ht
 
--- "Misclosure = observed minus the provisional difference": c holds the provisional coordinates, a is the component
+unfoldable pub reduced : Record → List ℤ
+reduced Empty = pos 0 ∷ pos 0 ∷ pos 0 ∷ []
+reduced (baseline b) = b .east ∷ b .north ∷ reducedUp b ∷ []
+reduced (height h) = pos 0 ∷ pos 0 ∷ h .up ∷ []
+
+-- "Misclosure = observed minus the provisional difference", "taken from the reduced value": c holds the provisional coordinates, a is the component
 unfoldable pub misclosureAt : List ℤ → ℕ → ℕ → ℕ → ℤ → ℤ
 misclosureAt c f t a o = o -ℤ (getD c (t * 3 + a) (pos 0) -ℤ getD c (f * 3 + a) (pos 0))
 
 -- the misclosure of a record in component a, 0 in one that it does not observe
 unfoldable pub misclosureIn : List ℤ → Record → ℕ → ℤ
-misclosureIn c r a = cond (acts a r) (misclosureAt c (fromOf r) (toOf r) a (getD (observed r) a (pos 0))) (pos 0)
+misclosureIn c r a = cond (acts a r) (misclosureAt c (fromOf r) (toOf r) a (getD (reduced r) a (pos 0))) (pos 0)
 
 -- in E, N, U
 unfoldable pub misclosures : List ℤ → Record → List ℤ

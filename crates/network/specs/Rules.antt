@@ -11,7 +11,7 @@ use Rattle.lists.specs.All.{allBelow}
 use Rattle.weights.specs.Rules.{weightFits, weightsInRange, matrixFits}
 use Rattle.network.specs.Units.{mostObserved, mostMisclosure, mostHeightAboveMark}
 use Rattle.network.specs.Stations.{coordinates}
-use Rattle.network.specs.Records.{weightMatrixOf, misclosures, isEmpty}
+use Rattle.network.specs.Records.{weightMatrixOf, reducedUp, misclosures, isEmpty}
 use Rattle.network.specs.declared.Network.{Network}
 use Rattle.network.specs.declared.Baseline.{Baseline}
 use Rattle.network.specs.declared.Level.{Level}
@@ -30,13 +30,17 @@ endsFit count from to = inList count from && inList count to && not (eqZ from to
 abbrev pub observedFits : ℤ → Bool
 observedFits v = leb (natAbs v) mostObserved
 
--- the height of an instrument or a target above its mark
+-- the height of an instrument, a target or an antenna above its mark
 abbrev pub heightAboveMarkFits : ℤ → Bool
 heightAboveMarkFits h = leZ (pos 0) h && leZ h (pos mostHeightAboveMark)
 
+-- document 02, request 4: "The observed U difference and the reduced one must each lie within ±1,000,000,000"; "4 covers the heights and the reduced value"
+unfoldable pub upInRange : Baseline → Bool
+upInRange b = observedFits (b .up) && heightAboveMarkFits (b .hf) && heightAboveMarkFits (b .ht) && observedFits (reducedUp b)
+
 -- "Diagonal and single weights 1 to 10,000; off-diagonals within ±10,000": `weightFits` and `weightsInRange`, in crate weights
 unfoldable pub baselineInRange : Baseline → Bool
-baselineInRange b = observedFits (b .east) && observedFits (b .north) && observedFits (b .up) && weightsInRange (weightMatrixOf b)
+baselineInRange b = observedFits (b .east) && observedFits (b .north) && upInRange b && weightsInRange (weightMatrixOf b)
 
 unfoldable pub heightInRange : Level → Bool
 heightInRange h = observedFits (h .up) && weightFits (h .weight)

@@ -28,7 +28,7 @@ mostObserved = 1000000000
 abbrev pub mostMisclosure : ℕ
 mostMisclosure = 100000
 
--- document 02, request 1: "Heights are 0 to 300,000", of an instrument or a target above its mark
+-- document 02, request 1: "Heights are 0 to 300,000", of an instrument or a target above its mark; request 4: "A baseline carries a height at each end, 0 to 300,000"
 abbrev pub mostHeightAboveMark : ℕ
 mostHeightAboveMark = 300000
 

@@ -5,9 +5,15 @@ use super::Record;
 ghost use mathlib.Core.Path.{_≡_};
 ghost use Rattle.network.specs.Records.{baselineOf, heightOf};
 
-// A baseline: the observed differences E, N, U, and the weights EE, EN, EU, NN, NU, UU.
-pub fn baseline_of(from: i64, to: i64, observed: [i64; 3], weights: [i64; 6]) -> Record
-    ensures { λ r. ⌜ r ≡ baselineOf from to observed weights ⌝ }
+// A baseline: the observed differences E, N, U, the weights EE, EN, EU, NN, NU, UU, and the antenna heights, from first.
+pub fn baseline_of(
+    from: i64,
+    to: i64,
+    observed: [i64; 3],
+    weights: [i64; 6],
+    heights: [i64; 2],
+) -> Record
+    ensures { λ r. ⌜ r ≡ baselineOf from to observed weights heights ⌝ }
 {
     let east = observed[0];
     let north = observed[1];
@@ -18,6 +24,8 @@ pub fn baseline_of(from: i64, to: i64, observed: [i64; 3], weights: [i64; 6]) ->
     let nn = weights[3];
     let nu = weights[4];
     let uu = weights[5];
+    let hf = heights[0];
+    let ht = heights[1];
     Record::Baseline(Baseline {
         from,
         to,
@@ -30,6 +38,8 @@ pub fn baseline_of(from: i64, to: i64, observed: [i64; 3], weights: [i64; 6]) ->
         nn,
         nu,
         uu,
+        hf,
+        ht,
     })
 }
 

@@ -68,7 +68,7 @@ pub struct Network {
     pub stations: [Station; Unit::STATIONS],
 }
 
-// A GNSS baseline: stations by number, observed differences (to minus from), and its symmetric 3×3 weight matrix.
+// A GNSS baseline, antenna to antenna: stations by number, observed differences (to minus from), its symmetric 3×3 weight matrix, and the heights of the antennas above their marks.
 pub struct Baseline {
     pub from: i64,
     pub to: i64,
@@ -81,6 +81,9 @@ pub struct Baseline {
     pub nn: i64,
     pub nu: i64,
     pub uu: i64,
+    // The heights of the antennas, from first.
+    pub hf: i64,
+    pub ht: i64,
 }
 
 // A levelled height difference.

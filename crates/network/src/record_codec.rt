@@ -1,5 +1,5 @@
-// A record in 14 words: kind (0 empty, 1 baseline, 2 height difference), from, to, observed E, N, U, weights EE, EN, EU, NN, NU, UU, and two that are 0.
-// The first 12 give the record: words of any other kind are read as Empty, and the last two are not looked at.
+// A record in 14 words: kind (0 empty, 1 baseline, 2 height difference), from, to, observed E, N, U, weights EE, EN, EU, NN, NU, UU, from-height, to-height.
+// Words of any other kind are read as Empty, and those that a record does not use are not looked at.
 use super::Baseline;
 use super::Level;
 use super::Record;
@@ -8,7 +8,7 @@ use super::constructors::height_of;
 ghost use mathlib.Core.Path.{_≡_};
 ghost use Prim.Native.Nat.{_+_, _≤_};
 ghost use lib.ListN.{length};
-ghost use Rattle.network.specs.RecordWords.{recordOf, recordIn, recordWords};
+ghost use Rattle.network.specs.RecordWords.{recordLength, recordOf, recordIn, recordWords};
 ghost use Rattle.network.specs.declared.Record.the-variants.{Baseline as baseline, Height as height};
 
 impl Record {
@@ -18,7 +18,7 @@ impl Record {
 
 // The baseline whose numbers, from and to first, follow index at.
 pub fn baseline_in(w: &[i64], at: usize) -> Record
-    requires { ⌜ at + 12 ≤ length (now w) ⌝ }
+    requires { ⌜ at + recordLength ≤ length (now w) ⌝ }
     ensures { λ r. ⌜ r ≡ recordOf 0 (now (w .entry)) at ⌝ }
 {
     let from = w[at + 1];
@@ -32,11 +32,19 @@ pub fn baseline_in(w: &[i64], at: usize) -> Record
     let nn = w[at + 9];
     let nu = w[at + 10];
     let uu = w[at + 11];
-    baseline_of(from, to, [east, north, up], [ee, en, eu, nn, nu, uu])
+    let hf = w[at + 12];
+    let ht = w[at + 13];
+    baseline_of(
+        from,
+        to,
+        [east, north, up],
+        [ee, en, eu, nn, nu, uu],
+        [hf, ht],
+    )
 }
 
 fn height_in(w: &[i64], at: usize) -> Record
-    requires { ⌜ at + 12 ≤ length (now w) ⌝ }
+    requires { ⌜ at + recordLength ≤ length (now w) ⌝ }
     ensures { λ r. ⌜ r ≡ recordOf 1 (now (w .entry)) at ⌝ }
 {
     let from = w[at + 1];
@@ -48,7 +56,7 @@ fn height_in(w: &[i64], at: usize) -> Record
 
 // The record whose first word is at index at.
 pub fn record_in(w: &[i64], at: usize) -> Record
-    requires { ⌜ at + 12 ≤ length (now w) ⌝ }
+    requires { ⌜ at + recordLength ≤ length (now w) ⌝ }
     ensures { λ r. ⌜ r ≡ recordIn (now (w .entry)) at ⌝ }
 {
     let kind = words::index_in(w[at], 2);
@@ -79,8 +87,8 @@ fn baseline_words(b: Baseline) -> [i64; Record::LENGTH]
         b.nn,
         b.nu,
         b.uu,
-        0,
-        0,
+        b.hf,
+        b.ht,
     ]
 }
 

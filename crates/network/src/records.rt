@@ -1,13 +1,15 @@
 // A record's shape, ends, weights and misclosures: what its observation equations are made of.
+use super::Baseline;
 use super::Record;
 use super::Unit;
 ghost use mathlib.Core.Path.{_≡_};
-ghost use mathlib.Core.Bool.{cond};
+ghost use mathlib.Core.Bool.{true, cond};
 ghost use Prim.Native.Nat.{_≤_, _<_};
 ghost use lib.IntN.{pos, natAbs};
 ghost use Rattle.integers.specs.Tables.{Within};
-ghost use Rattle.network.specs.Units.{mostStations, mostComponents, mostCoordinate, mostObserved};
-ghost use Rattle.network.specs.Records.{observations, acts, isEmpty, fromOf, toOf, joins, weights, observed, misclosureAt, misclosures};
+ghost use Rattle.network.specs.Units.{mostStations, mostComponents, mostCoordinate, mostObserved, mostHeightAboveMark};
+ghost use Rattle.network.specs.Records.{observations, acts, isEmpty, fromOf, toOf, joins, weights, reducedUp, reduced, misclosureAt, misclosures};
+ghost use Rattle.network.specs.Rules.{inRange};
 ghost use Rattle.network.specs.RecordLaws.{Observed};
 
 // How many components a record observes.
@@ -82,45 +84,54 @@ pub fn weights_of(r: Record) -> [i64; 9]
     }
 }
 
-// The observed differences in E, N, U.
-fn observed_of(r: Record) -> [i64; 3]
-    ensures { λ s. ⌜ s ≡ observed r ⌝ }
+// The U difference of a baseline from mark to mark.
+pub fn reduced_up(b: Baseline) -> i64
+    requires { ⌜ (natAbs (b .up) ≤ mostObserved) × (natAbs (b .hf) ≤ mostHeightAboveMark) × (natAbs (b .ht) ≤ mostHeightAboveMark) ⌝ }
+    ensures { λ u. ⌜ u ≡ reducedUp b ⌝ }
+{
+    b.up + b.hf - b.ht
+}
+
+// The differences from mark to mark in E, N, U.
+fn reduced_of(r: Record) -> [i64; 3]
+    requires { ⌜ inRange r ≡ true ⌝ }
+    ensures { λ s. ⌜ s ≡ reduced r ⌝ }
 {
     match r {
         Record::Empty => [0, 0, 0],
-        Record::Baseline(b) => [b.east, b.north, b.up],
+        Record::Baseline(b) => [b.east, b.north, reduced_up(b)],
         Record::Height(h) => [0, 0, h.up],
     }
 }
 
-// Observed minus the provisional difference in component a between the stations f and t; 0 of a record that does not act there.
+// Reduced minus the provisional difference in component a between the stations f and t; 0 of a record that does not act there.
 fn misclosure(
     coordinate: &[i64; Unit::COMPONENTS],
     f: usize,
     t: usize,
     a: usize,
     acts: bool,
-    observed: i64,
+    reduced: i64,
 ) -> i64
-    requires { ⌜ (f < mostStations) × (t < mostStations) × (a < 3) × (natAbs observed ≤ mostObserved) × Within mostComponents mostCoordinate (now coordinate) ⌝ }
-    ensures { λ r. ⌜ r ≡ cond acts (misclosureAt (now (coordinate .entry)) f t a observed) (pos 0) ⌝ }
+    requires { ⌜ (f < mostStations) × (t < mostStations) × (a < 3) × (natAbs reduced ≤ mostObserved) × Within mostComponents mostCoordinate (now coordinate) ⌝ }
+    ensures { λ r. ⌜ r ≡ cond acts (misclosureAt (now (coordinate .entry)) f t a reduced) (pos 0) ⌝ }
 {
     if !acts {
         return 0;
     }
     let i = f * 3 + a;
     let j = t * 3 + a;
-    observed - (coordinate[j] - coordinate[i])
+    reduced - (coordinate[j] - coordinate[i])
 }
 
-// Observed minus the provisional differences, in E, N, U; 0 where the record observes nothing.
+// Reduced minus the provisional differences, in E, N, U; 0 where the record observes nothing.
 pub fn misclosures_of(coordinate: &[i64; Unit::COMPONENTS], r: Record) -> [i64; 3]
     requires { ⌜ Observed (now coordinate) r ⌝ }
     ensures { λ s. ⌜ s ≡ misclosures (now (coordinate .entry)) r ⌝ }
 {
     let f = from_of(r);
     let t = to_of(r);
-    let o = observed_of(r);
+    let o = reduced_of(r);
     let e = acts_in(r, 0);
     let n = acts_in(r, 1);
     let u = acts_in(r, 2);

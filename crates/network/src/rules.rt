@@ -6,6 +6,7 @@ use super::Record;
 use super::Unit;
 use super::records::is_empty;
 use super::records::misclosures_of;
+use super::records::reduced_up;
 use super::stations::coordinates_of;
 use weights::WeightMatrix;
 ghost use mathlib.Core.Path.{_≡_};
@@ -15,7 +16,7 @@ ghost use Rattle.integers.specs.Tables.{Within};
 ghost use Rattle.network.specs.Units.{mostStations, mostComponents, mostCoordinate};
 ghost use Rattle.network.specs.Stations.{coordinatesFit};
 ghost use Rattle.network.specs.Records.{weightMatrixOf};
-ghost use Rattle.network.specs.Rules.{inList, endsFit, baselineInRange, heightInRange, misclosureFits, recordNoOver, recordNo, recordFitsOver, recordFits};
+ghost use Rattle.network.specs.Rules.{inList, endsFit, upInRange, baselineInRange, heightInRange, misclosureFits, recordNoOver, recordNo, recordFitsOver, recordFits};
 ghost use Rattle.network.specs.RecordLaws.{Observed};
 
 // v is the number of a station.
@@ -46,12 +47,25 @@ pub fn weight_matrix_of(b: Baseline) -> WeightMatrix
     }
 }
 
+// The observed U difference, the antenna heights and the reduced U difference, which is formed only where the others are in range.
+fn up_in_range(b: Baseline) -> bool
+    ensures { λ t. ⌜ t ≡ upInRange b ⌝ }
+{
+    let observed = words::within(b.up, Unit::OBSERVED)
+        & words::between(b.hf, 0, Unit::HEIGHT_ABOVE_MARK)
+        & words::between(b.ht, 0, Unit::HEIGHT_ABOVE_MARK);
+    if !observed {
+        return false;
+    }
+    words::within(reduced_up(b), Unit::OBSERVED)
+}
+
 fn baseline_in_range(b: Baseline) -> bool
     ensures { λ t. ⌜ t ≡ baselineInRange b ⌝ }
 {
     words::within(b.east, Unit::OBSERVED)
         & words::within(b.north, Unit::OBSERVED)
-        & words::within(b.up, Unit::OBSERVED)
+        & up_in_range(b)
         & weights::weights_in_range(weight_matrix_of(b))
 }
 

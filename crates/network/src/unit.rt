@@ -29,7 +29,7 @@ impl Unit {
     pub const OBSERVED: u64 = 1_000_000_000;
 
     pub const MISCLOSURE: u64 = 100_000;
-    // The height of an instrument or a target above its mark.
+    // The height of an instrument, a target or an antenna above its mark.
     pub const HEIGHT_ABOVE_MARK: i64 = 300_000;
     // The largest weight; the size of an off-diagonal one.
     pub const WEIGHT: i64 = WeightMatrix::WEIGHT;

@@ -99,6 +99,7 @@ fn baseline(from: i64, to: i64, difference: i64, weight: i64, between: i64) -> P
         to,
         [difference, difference, difference],
         [weight, between, between, weight, between, weight],
+        [0, 0],
     );
     Place { entry: b }
 }

@@ -106,7 +106,9 @@ fn baseline(s: u64) -> Record {
     let nn = above(s / 110, 300, 80);
     let nu = around(s / 130, 80, 40);
     let uu = above(s / 170, 400, 70);
-    network::baseline_of(from, to, [east, north, up], [ee, en, eu, nn, nu, uu])
+    let hf = around(s / 190, 6000, 200);
+    let ht = above(s / 230, 6000, 0);
+    network::baseline_of(from, to, [east, north, up], [ee, en, eu, nn, nu, uu], [hf, ht])
 }
 
 pub(crate) fn entry(s: u64) -> Record {

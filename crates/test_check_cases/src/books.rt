@@ -53,6 +53,7 @@ pub(crate) fn baseline(
         to,
         [east, north, up],
         [weight, EN, 0, weight, 0, weight],
+        [0, 0],
     );
     entered(book, place, b)
 }

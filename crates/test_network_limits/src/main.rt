@@ -1,6 +1,8 @@
 // Prints the refusal number at each limit of refusals 1 and 3 to 6: at it, one short of it and one beyond it, of both signs, and the extremes of 64 bits; then the weights of standard
 // deviations, about the largest and the smallest weight.
-// A line gives the case and then the number; document 01 decides what stands in `stdout`.
+// A line gives the case and then the number; documents 01 and 02 decide what stands in `stdout`.
+mod antennas;
+
 use network::Network;
 use network::Record;
 use network::Unit;
@@ -209,7 +211,7 @@ fn baseline(
     print_field(nn);
     print_field(nu);
     print_field(uu);
-    let b = network::baseline_of(from, to, [east, north, up], [ee, en, eu, nn, nu, uu]);
+    let b = network::baseline_of(from, to, [east, north, up], [ee, en, eu, nn, nu, uu], [0, 0]);
     print_answer(judged(b));
 }
 
@@ -567,6 +569,7 @@ fn main() {
     baseline_adjugates();
     baseline_misclosures();
     baseline_orders();
+    antennas::run();
     height_ends();
     height_observed();
     height_weights();

@@ -40,7 +40,7 @@ returns c =
     let t = toZ-pos w64 ((p % 17 + 1 + p / 17) % 17 + 1) (omega arith) in
     let v = toZ-pos w64 p (omega arith) in
     c .baseline-of .ensures
-    ∙ (λ i. baseline (record { from = f i; to = t i; east = v i; north = v i; up = v i; ee = pos 100; en = pos 10; eu = negsuc 9; nn = pos 100; nu = pos 10; uu = pos 100 }))
+    ∙ (λ i. baseline (record { from = f i; to = t i; east = v i; north = v i; up = v i; ee = pos 100; en = pos 10; eu = negsuc 9; nn = pos 100; nu = pos 10; uu = pos 100; hf = pos 0; ht = pos 0 }))
 
 pub sample-record-spec : {M : Type 1} → statement M
 sample-record-spec = tie.close (tie.spec add-f add-t add-t-2 cast-from cast-to cast-v baseline-of-requires returns)

@@ -1,14 +1,11 @@
--- `baseline_entry`: the numbers after the place are a baseline's words after its kind. Assumes nothing.
-use mir.Syntax.{w64}
-use mir.Facts.{toZ-ofZ}
-use lib.ListN.{getD}
-use lib.IntN.{pos}
+-- `baseline_entry`: by how many numbers there are. Of 12 the two heights are read as the 0 that the array had (`heights-lacking`). Assumes nothing.
 use mathlib.Core.Path.{refl, _∙_}
-use borrow.Author.Needs.{needs, sfits-of}
-use Rattle.network.specs.RecordWords.{recordOf}
-use Rattle.commands.specs.CommandLaws.{exactly-none, exactly-other, exactly-all}
-use Rattle.commands.specs.Commands.{baselineEntry}
-use Rattle.commands.specs.declared.Entry.the-variants as entry
+use native.Mathlib.Omega.{arith}
+use native.Mathlib.Nat.{le-refl}
+use lib.Dec.{lit≤}
+use borrow.Author.Needs.{needs}
+use Rattle.commands.specs.CommandLaws.{exactly-none, exactly-other, exactly-all, exactly-front, zeros, heights-lacking}
+use Rattle.commands.specs.Commands.{withHeights, withoutHeights}
 use Rattle.commands.proofs.reading.baseline_entry.Statement.{statement}
 use Rattle.commands.proofs.reading.baseline_entry.Tie as tie
 
@@ -24,33 +21,42 @@ enum-told c = search needs
 enum-known-n : tie.Need-enum-known-n
 enum-known-n c = search needs
 
+baseline-for-requires : tie.Need-baseline-for-requires
+baseline-for-requires c κs = search needs
+
 returns : tie.Need-returns
 returns c =
-    let n = c .before .before in
-    let r = n .before .before .before in
-    exactly-other _ _ baselineEntry _ _ _ _ (r .read-rest .ensures) _ (n .n .given .1) (c .if1 .taken)
-
-slice-aggregate-baseline-in : tie.Need-slice-aggregate-baseline-in
-slice-aggregate-baseline-in c = search needs
-
-baseline-in-requires : tie.Need-baseline-in-requires
-baseline-in-requires c κs = search needs
-
-array-copy-out-t15 : tie.Need-array-copy-out-t15
-array-copy-out-t15 c = search needs
-
-returns-2 : tie.Need-returns-2
-returns-2 c = let r = c .before .before .before in exactly-none _ _ baselineEntry _ _ _ _ (r .read-rest .ensures) (c .enum-told .given .1)
-
-returns-3 : tie.Need-returns-3
-unfolding recordOf
-returns-3 c =
-    let t = c .before .before .before in
+    let t = c .before .before in
     let n = t .before .before in
     let r = n .before .before .before in
-    let a = r .read-rest .last .1 .1 .1 .0 in
-    (λ i. entry.Of (toZ-ofZ {w = w64} {z = getD a 0 (pos 0)} (sfits-of (c .t15 .given)) i) (c .before .baseline-in .ensures i))
-    ∙ exactly-all _ _ baselineEntry _ _ _ _ (r .read-rest .ensures) _ (n .n .given .1) (t .if1 .left) refl
+    c .baseline-for .ensures
+    ∙ exactly-front 14 12 _ withHeights _ _ _ _ (r .read-rest .ensures) _ (n .n .given .1) (t .if1 .taken) (lit≤ tt) (λ i h. zeros 14 i)
+    ∙ heights-lacking _ _
+
+baseline-for-requires-2 : tie.Need-baseline-for-requires-2
+baseline-for-requires-2 c κs = search needs
+
+returns-2 : tie.Need-returns-2
+returns-2 c =
+    let t = c .before .before in
+    let n = t .before .before .before in
+    let r = n .before .before .before in
+    c .baseline-for2 .ensures
+    ∙ exactly-all 14 14 _ withHeights _ _ _ _ (r .read-rest .ensures) _ (n .n .given .1) (t .if2 .taken) refl
+    ∙ exactly-other 14 12 _ withoutHeights _ _ _ _ (r .read-rest .ensures) _ (n .n .given .1) (t .before .if1 .left)
+
+returns-3 : tie.Need-returns-3
+returns-3 c =
+    let r = c .before .before .before in
+    exactly-none 14 14 _ withHeights _ _ _ _ (r .read-rest .ensures) (le-refl 14) (c .enum-told .given .1)
+    ∙ exactly-none 14 12 _ withoutHeights _ _ _ _ (r .read-rest .ensures) (lit≤ tt) (c .enum-told .given .1)
+
+returns-4 : tie.Need-returns-4
+returns-4 c =
+    let n = c .before .before .before in
+    let r = n .before .before .before in
+    exactly-other 14 14 _ withHeights _ _ _ _ (r .read-rest .ensures) _ (n .n .given .1) (c .if2 .left)
+    ∙ exactly-other 14 12 _ withoutHeights _ _ _ _ (r .read-rest .ensures) _ (n .n .given .1) (c .before .if1 .left)
 
 pub baseline-entry-spec : {M : Type 1} → statement M
 baseline-entry-spec =
@@ -60,9 +66,9 @@ baseline-entry-spec =
     read-rest-requires
     enum-told
     enum-known-n
+    baseline-for-requires
     returns
-    slice-aggregate-baseline-in
-    baseline-in-requires
-    array-copy-out-t15
+    baseline-for-requires-2
     returns-2
-    returns-3)
+    returns-3
+    returns-4)

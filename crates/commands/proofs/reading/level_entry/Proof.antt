@@ -5,6 +5,7 @@ use lib.IntN.{pos}
 use mathlib.Core.Path.{refl, ap, _∙_}
 use mir.Syntax.{w64}
 use mir.Val.{toZ, ofZ}
+use native.Mathlib.Nat.{le-refl}
 use borrow.Author.Needs.{needs}
 use Rattle.network.specs.declared.Record.{Record}
 use Rattle.commands.specs.CommandLaws.{exactly-none, exactly-other, exactly-all, level-bits}
@@ -29,7 +30,7 @@ returns : tie.Need-returns
 returns c =
     let n = c .before .before in
     let r = n .before .before .before in
-    exactly-other _ _ levelEntry _ _ _ _ (r .read-rest .ensures) _ (n .n .given .1) (c .if1 .taken)
+    exactly-other _ _ _ levelEntry _ _ _ _ (r .read-rest .ensures) _ (n .n .given .1) (c .if1 .taken)
 
 array-copy-out-height-of : tie.Need-array-copy-out-height-of
 array-copy-out-height-of c = search needs
@@ -50,7 +51,7 @@ array-copy-out-t13 : tie.Need-array-copy-out-t13
 array-copy-out-t13 c = search needs
 
 returns-2 : tie.Need-returns-2
-returns-2 c = let r = c .before .before .before in exactly-none _ _ levelEntry _ _ _ _ (r .read-rest .ensures) (c .enum-told .given .1)
+returns-2 c = let r = c .before .before .before in exactly-none _ _ _ levelEntry _ _ _ _ (r .read-rest .ensures) (le-refl _) (c .enum-told .given .1)
 
 returns-3 : tie.Need-returns-3
 returns-3 c =
@@ -59,7 +60,7 @@ returns-3 c =
     let r = n .before .before .before in
     ap (λ (x : Record). entry.Of (toZ w64 (ofZ w64 (getD (r .read-rest .last .1 .1 .1 .0) 0 (pos 0)))) x) (c .before .height-of .ensures)
     ∙ level-bits (λ (i : ℕ). getD (r .read-rest .last .1 .1 .1 .0) i (pos 0)) (search needs) (search needs) (search needs) (search needs) (search needs)
-    ∙ exactly-all _ _ levelEntry _ _ _ _ (r .read-rest .ensures) _ (n .n .given .1) (t .if1 .left) refl
+    ∙ exactly-all _ _ _ levelEntry _ _ _ _ (r .read-rest .ensures) _ (n .n .given .1) (t .if1 .left) refl
 
 pub level-entry-spec : {M : Type 1} → statement M
 level-entry-spec =

@@ -5,6 +5,7 @@ use lib.ListN.{getD}
 use lib.IntN.{pos}
 use Prim.Native.Nat.{ℕ}
 use mathlib.Core.Path.{refl, _∙_}
+use native.Mathlib.Nat.{le-refl}
 use borrow.Author.Needs.{needs}
 use Rattle.commands.proofs.reading.station_with.Statement.{statement}
 use Rattle.commands.proofs.reading.station_with.Tie as tie
@@ -25,7 +26,7 @@ returns : tie.Need-returns
 returns c =
     let n = c .before .before in
     let r = n .before .before .before in
-    exactly-other _ _ (stationWith _) _ _ _ _ (r .read-rest .ensures) _ (n .n .given .1) (c .if1 .taken)
+    exactly-other _ _ _ (stationWith _) _ _ _ _ (r .read-rest .ensures) _ (n .n .given .1) (c .if1 .taken)
 
 array-copy-out-t14 : tie.Need-array-copy-out-t14
 array-copy-out-t14 c = search needs
@@ -37,7 +38,7 @@ array-copy-out-t20 : tie.Need-array-copy-out-t20
 array-copy-out-t20 c = search needs
 
 returns-2 : tie.Need-returns-2
-returns-2 c = let r = c .before .before .before in exactly-none _ _ (stationWith _) _ _ _ _ (r .read-rest .ensures) (c .enum-told .given .1)
+returns-2 c = let r = c .before .before .before in exactly-none _ _ _ (stationWith _) _ _ _ _ (r .read-rest .ensures) (le-refl _) (c .enum-told .given .1)
 
 returns-3 : tie.Need-returns-3
 returns-3 c =
@@ -45,7 +46,7 @@ returns-3 c =
     let n = t .before .before in
     let r = n .before .before .before in
     station-bits _ (λ (i : ℕ). getD (r .read-rest .last .1 .1 .1 .0) i (pos 0)) (search needs) (search needs) (search needs)
-    ∙ exactly-all _ _ (stationWith _) _ _ _ _ (r .read-rest .ensures) _ (n .n .given .1) (t .if1 .left) refl
+    ∙ exactly-all _ _ _ (stationWith _) _ _ _ _ (r .read-rest .ensures) _ (n .n .given .1) (t .if1 .left) refl
 
 pub station-with-spec : {M : Type 1} → statement M
 station-with-spec =

@@ -8,6 +8,7 @@ use mir.Facts.{toZ-ofZ}
 use mir.Syntax.{w64}
 use lib.IntN.{ℤ}
 use mathlib.Core.Path.{refl, ap, _∙_}
+use native.Mathlib.Nat.{le-refl}
 use borrow.Author.Needs.{needs}
 use Rattle.commands.proofs.reading.strike_line.Statement.{statement}
 use Rattle.commands.proofs.reading.strike_line.Tie as tie
@@ -28,13 +29,13 @@ returns : tie.Need-returns
 returns c =
     let n = c .before .before in
     let r = n .before .before .before in
-    exactly-other _ _ strikeOf _ _ _ _ (r .read-rest .ensures) _ (n .n .given .1) (c .if1 .taken)
+    exactly-other _ _ _ strikeOf _ _ _ _ (r .read-rest .ensures) _ (n .n .given .1) (c .if1 .taken)
 
 array-copy-out-t11 : tie.Need-array-copy-out-t11
 array-copy-out-t11 c = search needs
 
 returns-2 : tie.Need-returns-2
-returns-2 c = let r = c .before .before .before in exactly-none _ _ strikeOf _ _ _ _ (r .read-rest .ensures) (c .enum-told .given .1)
+returns-2 c = let r = c .before .before .before in exactly-none _ _ _ strikeOf _ _ _ _ (r .read-rest .ensures) (le-refl _) (c .enum-told .given .1)
 
 returns-3 : tie.Need-returns-3
 returns-3 c =
@@ -42,7 +43,7 @@ returns-3 c =
     let n = t .before .before in
     let r = n .before .before .before in
     ap (λ (v : ℤ). Call (Edit v Strike)) (toZ-ofZ {w = w64} (search needs))
-    ∙ exactly-all _ _ strikeOf _ _ _ _ (r .read-rest .ensures) _ (n .n .given .1) (t .if1 .left) refl
+    ∙ exactly-all _ _ _ strikeOf _ _ _ _ (r .read-rest .ensures) _ (n .n .given .1) (t .if1 .left) refl
 
 pub strike-line-spec : {M : Type 1} → statement M
 strike-line-spec =

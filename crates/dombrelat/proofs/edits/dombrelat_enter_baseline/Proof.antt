@@ -25,10 +25,11 @@ returns c =
     let s = c .before .before .before .before .before .before in
     let p = c .before .before .edit-bytes in
     let r = c .before .before .before .before .baseline-of in
-    let made : r .result ≡ baselineOf (s .args .from) (s .args .to) (s .args .east ∷ s .args .north ∷ s .args .up ∷ []) (s .args .ee ∷ s .args .en ∷ s .args .eu ∷ s .args .nn ∷ s .args .nu ∷ s .args .uu ∷ []) =
+    let made : r .result ≡ baselineOf (s .args .from) (s .args .to) (s .args .east ∷ s .args .north ∷ s .args .up ∷ []) (s .args .ee ∷ s .args .en ∷ s .args .eu ∷ s .args .nn ∷ s .args .nu ∷ s .args .uu ∷ []) (s .args .hf ∷ s .args .ht ∷ []) =
     r .ensures ∙ (λ i. baselineOf (toZ-ofZ {w = w64} (s .fits .from) i) (toZ-ofZ {w = w64} (s .fits .to) i)
     (toZ-ofZ {w = w64} (s .fits .east) i ∷ toZ-ofZ {w = w64} (s .fits .north) i ∷ toZ-ofZ {w = w64} (s .fits .up) i ∷ [])
-    (toZ-ofZ {w = w64} (s .fits .ee) i ∷ toZ-ofZ {w = w64} (s .fits .en) i ∷ toZ-ofZ {w = w64} (s .fits .eu) i ∷ toZ-ofZ {w = w64} (s .fits .nn) i ∷ toZ-ofZ {w = w64} (s .fits .nu) i ∷ toZ-ofZ {w = w64} (s .fits .uu) i ∷ [])) in
+    (toZ-ofZ {w = w64} (s .fits .ee) i ∷ toZ-ofZ {w = w64} (s .fits .en) i ∷ toZ-ofZ {w = w64} (s .fits .eu) i ∷ toZ-ofZ {w = w64} (s .fits .nn) i ∷ toZ-ofZ {w = w64} (s .fits .nu) i ∷ toZ-ofZ {w = w64} (s .fits .uu) i ∷ [])
+    (toZ-ofZ {w = w64} (s .fits .hf) i ∷ toZ-ofZ {w = w64} (s .fits .ht) i ∷ [])) in
     let w = answers-as (s .args .book .now) _ _ (λ i. Edit (toZ-ofZ {w = w64} (s .fits .place) i) (Enter (made i))) _ _ (p .ensures) in
     (toZ-ofZ {w = w64} {z = p .result} (sfits-of (p .ok)) ∙ w .0, w .1)
 

@@ -10,7 +10,7 @@ use Rattle.words.specs.Words.{Bytes}
 use Rattle.words.specs.RunLaws.{length-words, words-fit}
 use Rattle.layout.specs.Laid.{partsLaid, laid-parts}
 use Rattle.layout.specs.Bytes.{wordsOf}
-use Rattle.layout.specs.Layout.{bookLength}
+use Rattle.layout.specs.Layout.{layoutNumber, bookLength}
 use borrow.Author.Needs.{needs, sfits-of}
 use Rattle.layout.proofs.laid.laid_out.Statement.{statement}
 use Rattle.layout.proofs.laid.laid_out.Tie as tie
@@ -42,7 +42,7 @@ returns c =
     let w = e .before in
     let s = w .before .before .args .s .now in
     let bytes : Bytes s = λ i. let h = w .before .shared-slice-known .given i in omega arith in
-    (λ i. (e .same .ensures ∙ ap (λ (z : ℤ). eqZ z (pos 1)) (toZ-ofZ {w = w64} {z = w .word-in .result} (sfits-of (w .word-in .ok)) ∙ w .word-in .ensures)) i
+    (λ i. (e .same .ensures ∙ ap (λ (z : ℤ). eqZ z layoutNumber) (toZ-ofZ {w = w64} {z = w .word-in .result} (sfits-of (w .word-in .ok)) ∙ w .word-in .ensures)) i
     && t .stations-laid .ensures i && r .records-laid .ensures i && c .records-laid2 .ensures i)
     ∙ sym (laid-parts (wordsOf s) (length-words s 0 bookLength) (λ i. words-fit s 0 bookLength i bytes))
 

@@ -12,7 +12,7 @@ use Rattle.layout.proofs.Whole.{joined}
 use borrow.Author.Needs.{needs, sfits-of}
 use Rattle.layout.proofs.writing.write_book.Statement.{statement}
 use Rattle.layout.proofs.writing.write_book.Tie as tie
-use Rattle.layout.specs.Layout.{bookBytes}
+use Rattle.layout.specs.Layout.{layoutNumber, bookBytes}
 
 -- the arrays' lengths
 sized : (s : tie.Start) → Sized (s .args .book)
@@ -67,7 +67,7 @@ returns c =
     let s = w .before .before .before in
     let b = s .args .book in
     joined b (sized s) (s .args .s .now) _ _ _ _ _ _
-    (h .put-pair .ensures ∙ (λ i. putWords (s .args .s .now) 0 (pos 1 ∷ (toZ-ofZ {w = w64} {z = w .count-word .result} (sfits-of (w .count-word .ok)) ∙ w .count-word .ensures) i ∷ [])))
+    (h .put-pair .ensures ∙ (λ i. putWords (s .args .s .now) 0 (layoutNumber ∷ (toZ-ofZ {w = w64} {z = w .count-word .result} (sfits-of (w .count-word .ok)) ∙ w .count-word .ensures) i ∷ [])))
     (t .put-stations .ensures) (p .put-places .ensures) (k .put-counts .ensures) (e .put-entries .ensures) (n .put-normals .ensures)
 
 pub write-book-spec : {M : Type 1} → statement M

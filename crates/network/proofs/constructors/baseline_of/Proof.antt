@@ -35,22 +35,30 @@ array-copy-out-nu c = search needs
 array-copy-out-uu : tie.Need-array-copy-out-uu
 array-copy-out-uu c = search needs
 
+array-copy-out-hf : tie.Need-array-copy-out-hf
+array-copy-out-hf c = search needs
+
+array-copy-out-ht : tie.Need-array-copy-out-ht
+array-copy-out-ht c = search needs
+
 returns : tie.Need-returns
 returns c =
-    let s = c .before .before .before .before .before .before .before .before .before in
+    let s = c .before .before .before .before .before .before .before .before .before .before .before in
     λ i. baseline
     (record {
       from = toZ-ofZ {w = w64} {z = s .args .from} (search needs) i;
       to = toZ-ofZ {w = w64} {z = s .args .to} (search needs) i;
-      east = toZ-ofZ {w = w64} {z = getD (s .args .t3) 0 (pos 0)} (sfits-of (c .before .before .before .before .before .before .before .before .east .given)) i;
-      north = toZ-ofZ {w = w64} {z = getD (s .args .t3) 1 (pos 0)} (sfits-of (c .before .before .before .before .before .before .before .north .given)) i;
-      up = toZ-ofZ {w = w64} {z = getD (s .args .t3) 2 (pos 0)} (sfits-of (c .before .before .before .before .before .before .up .given)) i;
-      ee = toZ-ofZ {w = w64} {z = getD (s .args .t4) 0 (pos 0)} (sfits-of (c .before .before .before .before .before .ee .given)) i;
-      en = toZ-ofZ {w = w64} {z = getD (s .args .t4) 1 (pos 0)} (sfits-of (c .before .before .before .before .en .given)) i;
-      eu = toZ-ofZ {w = w64} {z = getD (s .args .t4) 2 (pos 0)} (sfits-of (c .before .before .before .eu .given)) i;
-      nn = toZ-ofZ {w = w64} {z = getD (s .args .t4) 3 (pos 0)} (sfits-of (c .before .before .nn .given)) i;
-      nu = toZ-ofZ {w = w64} {z = getD (s .args .t4) 4 (pos 0)} (sfits-of (c .before .nu .given)) i;
-      uu = toZ-ofZ {w = w64} {z = getD (s .args .t4) 5 (pos 0)} (sfits-of (c .uu .given)) i;
+      east = toZ-ofZ {w = w64} {z = getD (s .args .t3) 0 (pos 0)} (sfits-of (c .before .before .before .before .before .before .before .before .before .before .east .given)) i;
+      north = toZ-ofZ {w = w64} {z = getD (s .args .t3) 1 (pos 0)} (sfits-of (c .before .before .before .before .before .before .before .before .before .north .given)) i;
+      up = toZ-ofZ {w = w64} {z = getD (s .args .t3) 2 (pos 0)} (sfits-of (c .before .before .before .before .before .before .before .before .up .given)) i;
+      ee = toZ-ofZ {w = w64} {z = getD (s .args .t4) 0 (pos 0)} (sfits-of (c .before .before .before .before .before .before .before .ee .given)) i;
+      en = toZ-ofZ {w = w64} {z = getD (s .args .t4) 1 (pos 0)} (sfits-of (c .before .before .before .before .before .before .en .given)) i;
+      eu = toZ-ofZ {w = w64} {z = getD (s .args .t4) 2 (pos 0)} (sfits-of (c .before .before .before .before .before .eu .given)) i;
+      nn = toZ-ofZ {w = w64} {z = getD (s .args .t4) 3 (pos 0)} (sfits-of (c .before .before .before .before .nn .given)) i;
+      nu = toZ-ofZ {w = w64} {z = getD (s .args .t4) 4 (pos 0)} (sfits-of (c .before .before .before .nu .given)) i;
+      uu = toZ-ofZ {w = w64} {z = getD (s .args .t4) 5 (pos 0)} (sfits-of (c .before .before .uu .given)) i;
+      hf = toZ-ofZ {w = w64} {z = getD (s .args .t5) 0 (pos 0)} (sfits-of (c .before .hf .given)) i;
+      ht = toZ-ofZ {w = w64} {z = getD (s .args .t5) 1 (pos 0)} (sfits-of (c .ht .given)) i;
     })
 
 pub baseline-of-spec : {M : Type 1} → statement M
@@ -66,4 +74,6 @@ baseline-of-spec =
     array-copy-out-nn
     array-copy-out-nu
     array-copy-out-uu
+    array-copy-out-hf
+    array-copy-out-ht
     returns)

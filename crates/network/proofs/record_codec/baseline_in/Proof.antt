@@ -111,28 +111,48 @@ mul-uu c = search needs
 shared-slice-copy-out-uu : tie.Need-shared-slice-copy-out-uu
 shared-slice-copy-out-uu c = search needs
 
+add-hf : tie.Need-add-hf
+add-hf c = search needs
+
+mul-hf : tie.Need-mul-hf
+mul-hf c = search needs
+
+shared-slice-copy-out-hf : tie.Need-shared-slice-copy-out-hf
+shared-slice-copy-out-hf c = search needs
+
+add-ht : tie.Need-add-ht
+add-ht c = search needs
+
+mul-ht : tie.Need-mul-ht
+mul-ht c = search needs
+
+shared-slice-copy-out-ht : tie.Need-shared-slice-copy-out-ht
+shared-slice-copy-out-ht c = search needs
+
 baseline-of-requires : tie.Need-baseline-of-requires
 baseline-of-requires c κs = search needs
 
 returns : tie.Need-returns
 unfolding recordOf
 returns c =
-    let w = now (c .before .before .before .before .before .before .before .before .before .before .before .before .args .w) in
-    let at = c .before .before .before .before .before .before .before .before .before .before .before .before .args .at in
+    let w = now (c .before .before .before .before .before .before .before .before .before .before .before .before .before .before .args .w) in
+    let at = c .before .before .before .before .before .before .before .before .before .before .before .before .before .before .args .at in
     c .baseline-of .ensures
     ∙ (λ i. baseline
     (record {
-      from = toZ-ofZ {w = w64} {z = getD w (at + 1) (pos 0)} (sfits-of (c .before .before .before .before .before .before .before .before .before .before .before .from .given)) i;
-      to = toZ-ofZ {w = w64} {z = getD w (at + 2) (pos 0)} (sfits-of (c .before .before .before .before .before .before .before .before .before .before .to .given)) i;
-      east = toZ-ofZ {w = w64} {z = getD w (at + 3) (pos 0)} (sfits-of (c .before .before .before .before .before .before .before .before .before .east .given)) i;
-      north = toZ-ofZ {w = w64} {z = getD w (at + 4) (pos 0)} (sfits-of (c .before .before .before .before .before .before .before .before .north .given)) i;
-      up = toZ-ofZ {w = w64} {z = getD w (at + 5) (pos 0)} (sfits-of (c .before .before .before .before .before .before .before .up .given)) i;
-      ee = toZ-ofZ {w = w64} {z = getD w (at + 6) (pos 0)} (sfits-of (c .before .before .before .before .before .before .ee .given)) i;
-      en = toZ-ofZ {w = w64} {z = getD w (at + 7) (pos 0)} (sfits-of (c .before .before .before .before .before .en .given)) i;
-      eu = toZ-ofZ {w = w64} {z = getD w (at + 8) (pos 0)} (sfits-of (c .before .before .before .before .eu .given)) i;
-      nn = toZ-ofZ {w = w64} {z = getD w (at + 9) (pos 0)} (sfits-of (c .before .before .before .nn .given)) i;
-      nu = toZ-ofZ {w = w64} {z = getD w (at + 10) (pos 0)} (sfits-of (c .before .before .nu .given)) i;
-      uu = toZ-ofZ {w = w64} {z = getD w (at + 11) (pos 0)} (sfits-of (c .before .uu .given)) i;
+      from = toZ-ofZ {w = w64} {z = getD w (at + 1) (pos 0)} (sfits-of (c .before .before .before .before .before .before .before .before .before .before .before .before .before .from .given)) i;
+      to = toZ-ofZ {w = w64} {z = getD w (at + 2) (pos 0)} (sfits-of (c .before .before .before .before .before .before .before .before .before .before .before .before .to .given)) i;
+      east = toZ-ofZ {w = w64} {z = getD w (at + 3) (pos 0)} (sfits-of (c .before .before .before .before .before .before .before .before .before .before .before .east .given)) i;
+      north = toZ-ofZ {w = w64} {z = getD w (at + 4) (pos 0)} (sfits-of (c .before .before .before .before .before .before .before .before .before .before .north .given)) i;
+      up = toZ-ofZ {w = w64} {z = getD w (at + 5) (pos 0)} (sfits-of (c .before .before .before .before .before .before .before .before .before .up .given)) i;
+      ee = toZ-ofZ {w = w64} {z = getD w (at + 6) (pos 0)} (sfits-of (c .before .before .before .before .before .before .before .before .ee .given)) i;
+      en = toZ-ofZ {w = w64} {z = getD w (at + 7) (pos 0)} (sfits-of (c .before .before .before .before .before .before .before .en .given)) i;
+      eu = toZ-ofZ {w = w64} {z = getD w (at + 8) (pos 0)} (sfits-of (c .before .before .before .before .before .before .eu .given)) i;
+      nn = toZ-ofZ {w = w64} {z = getD w (at + 9) (pos 0)} (sfits-of (c .before .before .before .before .before .nn .given)) i;
+      nu = toZ-ofZ {w = w64} {z = getD w (at + 10) (pos 0)} (sfits-of (c .before .before .before .before .nu .given)) i;
+      uu = toZ-ofZ {w = w64} {z = getD w (at + 11) (pos 0)} (sfits-of (c .before .before .before .uu .given)) i;
+      hf = toZ-ofZ {w = w64} {z = getD w (at + 12) (pos 0)} (sfits-of (c .before .before .hf .given)) i;
+      ht = toZ-ofZ {w = w64} {z = getD w (at + 13) (pos 0)} (sfits-of (c .before .ht .given)) i;
     }))
 
 pub baseline-in-spec : {M : Type 1} → statement M
@@ -172,5 +192,11 @@ baseline-in-spec =
     add-uu
     mul-uu
     shared-slice-copy-out-uu
+    add-hf
+    mul-hf
+    shared-slice-copy-out-hf
+    add-ht
+    mul-ht
+    shared-slice-copy-out-ht
     baseline-of-requires
     returns)

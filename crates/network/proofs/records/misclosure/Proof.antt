@@ -7,7 +7,7 @@ use lib.ListN.{getD}
 use lib.IntN.{pos}
 use Rattle.integers.specs.Code.{fit, code-bounds}
 use Rattle.network.specs.Stations.{coordinate}
-use Rattle.network.specs.Records.{observed, misclosureAt}
+use Rattle.network.specs.Records.{misclosureAt}
 use Rattle.network.proofs.Differences.{difference}
 use Rattle.network.proofs.records.misclosure.Statement.{statement}
 use Rattle.network.proofs.records.misclosure.Tie as tie
@@ -54,7 +54,7 @@ unfolding misclosureAt
 returns-2 c =
     let s = c .before .before .before in let o = s .pre .3 in let x = s .pre .4 .bound (s .args .f * 3 + s .args .a) in let y = s .pre .4 .bound (s .args .t * 3 + s .args .a) in
     rw (not-false (s .args .acts) (c .before .before .if1 .left))
-    (difference (s .args .observed) (getD (s .args .coordinate .now) (s .args .t * 3 + s .args .a) (pos 0)) (getD (s .args .coordinate .now) (s .args .f * 3 + s .args .a) (pos 0)) o y x)
+    (difference (s .args .reduced) (getD (s .args .coordinate .now) (s .args .t * 3 + s .args .a) (pos 0)) (getD (s .args .coordinate .now) (s .args .f * 3 + s .args .a) (pos 0)) o y x)
 
 pub misclosure-spec : {M : Type 1} → statement M
 misclosure-spec =

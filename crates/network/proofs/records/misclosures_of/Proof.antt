@@ -1,4 +1,4 @@
--- `misclosures_of`: each misclosure is `misclosureIn` of the record's ends and observed value in its component. Assumes nothing.
+-- `misclosures_of`: each misclosure is `misclosureIn` of the record's ends and reduced value in its component. Assumes nothing.
 use borrow.Author.Needs.{needs}
 use Prim.Native.Nat.{ℕ, _<_, _≤_}
 use mathlib.Core.Path.{_≡_, refl, sym, ap, ap₂, subst}
@@ -7,7 +7,7 @@ use lib.Dec.{lit<}
 use lib.IntN.{ℤ, pos, natAbs}
 use lib.ListN.{getD}
 use Rattle.lists.specs.Stored.{stored, kept}
-use Rattle.network.specs.Records.{fromOf, toOf, observed, misclosures}
+use Rattle.network.specs.Records.{fromOf, toOf, reduced, misclosures}
 use Rattle.network.specs.Ranges.{values-small}
 use Rattle.network.proofs.Differences.{told}
 use Rattle.network.proofs.records.misclosures_of.Statement.{statement}
@@ -22,8 +22,8 @@ from-of-requires c κs = search needs
 to-of-requires : tie.Need-to-of-requires
 to-of-requires c κs = search needs
 
-observed-of-requires : tie.Need-observed-of-requires
-observed-of-requires c κs = search needs
+reduced-of-requires : tie.Need-reduced-of-requires
+reduced-of-requires c κs = search needs
 
 acts-in-requires : tie.Need-acts-in-requires
 acts-in-requires c κs = search needs
@@ -34,19 +34,19 @@ acts-in-requires-2 c κs = search needs
 acts-in-requires-3 : tie.Need-acts-in-requires-3
 acts-in-requires-3 c κs = search needs
 
--- what the calls before gave: the ends, and the observed values
+-- what the calls before gave: the ends, and the reduced values
 from-is : (c : tie.After-acts-in3) → c .before .before .before .before .before .from-of .result ≡ fromOf (start c .args .r)
 from-is c = c .before .before .before .before .before .from-of .ensures
 
 to-is : (c : tie.After-acts-in3) → c .before .before .before .before .to-of .result ≡ toOf (start c .args .r)
 to-is c = c .before .before .before .before .to-of .ensures
 
-value-is : (c : tie.After-acts-in3) (a : ℕ) → getD (c .before .before .before .observed-of .result) a (pos 0) ≡ getD (observed (start c .args .r)) a (pos 0)
-value-is c a = ap (λ (l : List ℤ). getD l a (pos 0)) (c .before .before .before .observed-of .ensures)
+value-is : (c : tie.After-acts-in3) (a : ℕ) → getD (c .before .before .before .reduced-of .result) a (pos 0) ≡ getD (reduced (start c .args .r)) a (pos 0)
+value-is c a = ap (λ (l : List ℤ). getD l a (pos 0)) (c .before .before .before .reduced-of .ensures)
 
-value-small : (c : tie.After-acts-in3) (a : ℕ) → natAbs (stored (getD (c .before .before .before .observed-of .result) a (pos 0))) ≤ 1000000000
+value-small : (c : tie.After-acts-in3) (a : ℕ) → natAbs (stored (getD (c .before .before .before .reduced-of .result) a (pos 0))) ≤ 1000000000
 value-small c a =
-    kept (getD (c .before .before .before .observed-of .result) a (pos 0)) (subst (λ (z : ℤ). natAbs z ≤ 1000000000) (sym (value-is c a)) (values-small (start c .args .r) (start c .pre .values) a)) tt
+    kept (getD (c .before .before .before .reduced-of .result) a (pos 0)) (subst (λ (z : ℤ). natAbs z ≤ 1000000000) (sym (value-is c a)) (values-small (start c .args .r) (start c .pre .values) a)) tt
 
 from-low : (c : tie.After-acts-in3) → c .before .before .before .before .before .from-of .result < 32
 from-low c = subst (λ (k : ℕ). k < 32) (sym (from-is c)) (start c .pre .from)
@@ -95,7 +95,7 @@ misclosures-of-spec =
     (tie.spec
     from-of-requires
     to-of-requires
-    observed-of-requires
+    reduced-of-requires
     acts-in-requires
     acts-in-requires-2
     acts-in-requires-3

@@ -1,4 +1,4 @@
--- Each observed value is read back from its bits, so each test is that of the definition; the weights are judged as the matrix that they make. Assumes nothing.
+-- Each observed value is read back from its bits, so each test is that of the definition; U is judged with the heights, and the weights are judged as the matrix that they make. Assumes nothing.
 use borrow.Author.Needs.{needs}
 use mathlib.Core.Path.{_≡_, ap, ap₂, _∙_}
 use mathlib.Core.Bool.{_&&_}
@@ -17,8 +17,8 @@ within-requires c κs = search needs
 within-requires-2 : tie.Need-within-requires-2
 within-requires-2 c κs = search needs
 
-within-requires-3 : tie.Need-within-requires-3
-within-requires-3 c κs = search needs
+up-in-range-requires : tie.Need-up-in-range-requires
+up-in-range-requires c κs = search needs
 
 weight-matrix-of-requires : tie.Need-weight-matrix-of-requires
 weight-matrix-of-requires c κs = search needs
@@ -32,17 +32,14 @@ east-is c = c .within .ensures ∙ ap (λ (z : ℤ). observedFits z) (toZ-ofZ w6
 north-is : (c : tie.After-within2) → c .within2 .result ≡ observedFits (c .before .before .before .before .args .b .north)
 north-is c = c .within2 .ensures ∙ ap (λ (z : ℤ). observedFits z) (toZ-ofZ w64 (c .before .before .before .before .args .b .north) (search needs))
 
-up-is : (c : tie.After-within3) → c .within3 .result ≡ observedFits (c .before .before .before .before .before .before .args .b .up)
-up-is c = c .within3 .ensures ∙ ap (λ (z : ℤ). observedFits z) (toZ-ofZ w64 (c .before .before .before .before .before .before .args .b .up) (search needs))
-
-weights-are : (c : tie.After-weights-in-range) → c .weights-in-range .result ≡ weightsInRange (weightMatrixOf (c .before .before .before .before .before .before .before .before .args .b))
+weights-are : (c : tie.After-weights-in-range) → c .weights-in-range .result ≡ weightsInRange (weightMatrixOf (c .before .before .before .before .before .before .before .args .b))
 weights-are c = c .weights-in-range .ensures ∙ ap weightsInRange (c .before .weight-matrix-of .ensures)
 
 returns : tie.Need-returns
 unfolding baselineInRange
 returns c =
     let o = c .before .before in
-    ap₂ _&&_ (ap₂ _&&_ (ap₂ _&&_ (east-is (o .before .before .before .before)) (north-is (o .before .before))) (up-is o)) (weights-are c)
+    ap₂ _&&_ (ap₂ _&&_ (ap₂ _&&_ (east-is (o .before .before .before)) (north-is (o .before))) (o .up-in-range .ensures)) (weights-are c)
 
 pub baseline-in-range-spec : {M : Type 1} → statement M
-baseline-in-range-spec = tie.close (tie.spec within-requires within-requires-2 within-requires-3 weight-matrix-of-requires weights-in-range-requires returns)
+baseline-in-range-spec = tie.close (tie.spec within-requires within-requires-2 up-in-range-requires weight-matrix-of-requires weights-in-range-requires returns)
