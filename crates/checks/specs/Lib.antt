@@ -6,3 +6,5 @@ pub mod ExactVariance
 pub mod Demand2
 pub mod Demand2Holds
 pub mod SameSolutions
+pub mod AtMarks
+pub mod EnterAtMarks

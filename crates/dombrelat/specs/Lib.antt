@@ -13,3 +13,4 @@ pub mod Demand3Holds
 pub mod EditUndo
 pub mod ReadingLaws
 pub mod DistanceLaws
+pub mod AtMarks

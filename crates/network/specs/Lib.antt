@@ -13,3 +13,4 @@ pub mod StationWords
 pub mod Rules
 pub mod Ranges
 pub mod RuleLaws
+pub mod AtMarks

@@ -19,3 +19,4 @@ pub mod EquationSizes
 pub mod ShareTerms
 pub mod Shares
 pub mod FirstPlaces
+pub mod AtMarks

@@ -9,3 +9,4 @@ pub mod Held
 pub mod NotActing
 pub mod CheckOnly
 pub mod NeverLoose
+pub mod AtMarks

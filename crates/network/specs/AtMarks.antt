@@ -1,0 +1,127 @@
+-- A record taken to the marks: of a baseline the one with heights 0 whose observed U difference is the reduced one. It joins, weighs and closes as the record itself, and is by the
+-- rules where that is. Assumes nothing.
+use Prim.Native.Nat.{ℕ}
+use mathlib.Core.Path.{_≡_, refl, ap}
+use mathlib.Core.Bool.{true}
+use mathlib.Core.List.{List, [], _∷_}
+use lib.IntN.{ℤ, pos}
+use Rattle.words.specs.Bools.{and-both}
+use Rattle.weights.specs.Rules.{weightsInRange}
+use Rattle.lists.specs.All.{each}
+use Rattle.network.specs.Stations.{coordinates}
+use Rattle.network.specs.Records.{weightMatrixOf, observations, acts, fromOf, toOf, joins, weights, reducedUp, reduced, misclosureIn, misclosures}
+use Rattle.network.specs.RecordLaws.{no-heights}
+use Rattle.network.specs.Rules.{observedFits, heightAboveMarkFits, upInRange, baselineInRange, misclosureFits, recordNoOver, recordNo, recordFits}
+use Rattle.network.specs.RuleLaws.{accepted-fits, baseline-fits}
+use Rattle.network.specs.declared.Network.{Network}
+use Rattle.network.specs.declared.Baseline.{Baseline}
+use Rattle.network.specs.declared.Record.{Record}
+use Rattle.network.specs.declared.Record.the-variants.{Empty, Baseline as baseline, Height as height}
+
+-- the baseline with heights 0 and the U difference u
+abbrev withUp : Baseline → ℤ → Baseline
+withUp b u =
+    record {
+      from = b .from;
+      to = b .to;
+      east = b .east;
+      north = b .north;
+      up = u;
+      ee = b .ee;
+      en = b .en;
+      eu = b .eu;
+      nn = b .nn;
+      nu = b .nu;
+      uu = b .uu;
+      hf = pos 0;
+      ht = pos 0;
+    }
+
+abbrev baselineAtMarks : Baseline → Baseline
+baselineAtMarks b = withUp b (reducedUp b)
+
+unfoldable pub atMarks : Record → Record
+atMarks Empty = Empty
+atMarks (baseline b) = baseline (baselineAtMarks b)
+atMarks (height h) = height h
+
+-- what is at the marks stays
+pub marks-again : (r : Record) → atMarks (atMarks r) ≡ atMarks r
+unfolding atMarks
+marks-again Empty = refl
+marks-again (baseline b) = ap (λ (u : ℤ). baseline (withUp b u)) (no-heights (baselineAtMarks b) refl refl)
+marks-again (height h) = refl
+
+-- ════ what a record says of the network
+pub marks-observations : (r : Record) → observations (atMarks r) ≡ observations r
+unfolding atMarks observations
+marks-observations Empty = refl
+marks-observations (baseline b) = refl
+marks-observations (height h) = refl
+
+pub marks-from : (r : Record) → fromOf (atMarks r) ≡ fromOf r
+unfolding atMarks fromOf
+marks-from Empty = refl
+marks-from (baseline b) = refl
+marks-from (height h) = refl
+
+pub marks-to : (r : Record) → toOf (atMarks r) ≡ toOf r
+unfolding atMarks toOf
+marks-to Empty = refl
+marks-to (baseline b) = refl
+marks-to (height h) = refl
+
+pub marks-joins : (r : Record) → joins (atMarks r) ≡ joins r
+unfolding atMarks joins
+marks-joins Empty = refl
+marks-joins (baseline b) = refl
+marks-joins (height h) = refl
+
+pub marks-weights : (r : Record) → weights (atMarks r) ≡ weights r
+unfolding atMarks weights
+marks-weights Empty = refl
+marks-weights (baseline b) = refl
+marks-weights (height h) = refl
+
+pub marks-reduced : (r : Record) → reduced (atMarks r) ≡ reduced r
+unfolding atMarks reduced
+marks-reduced Empty = refl
+marks-reduced (baseline b) = ap (λ (u : ℤ). b .east ∷ b .north ∷ u ∷ []) (no-heights (baselineAtMarks b) refl refl)
+marks-reduced (height h) = refl
+
+pub marks-acts : (a : ℕ) (r : Record) → acts a (atMarks r) ≡ acts a r
+unfolding acts
+marks-acts a r = rw (marks-observations r) refl
+
+pub marks-misclosures : (c : List ℤ) (r : Record) → misclosures c (atMarks r) ≡ misclosures c r
+unfolding misclosures misclosureIn
+marks-misclosures c r = rw (marks-acts 0 r, marks-acts 1 r, marks-acts 2 r, marks-from r, marks-to r, marks-reduced r) refl
+
+-- ════ where the record is by the rules, so is this one
+up-at-marks : (b : Baseline) → upInRange b ≡ true → upInRange (baselineAtMarks b) ≡ true
+unfolding upInRange
+up-at-marks b e =
+    let u = each (observedFits (b .up) ∷ heightAboveMarkFits (b .hf) ∷ heightAboveMarkFits (b .ht) ∷ observedFits (reducedUp b) ∷ []) e .1 .1 .1 .0 in
+    rw (no-heights (baselineAtMarks b) refl refl, u) refl
+
+range-at-marks : (b : Baseline) → baselineInRange b ≡ true → baselineInRange (baselineAtMarks b) ≡ true
+unfolding baselineInRange
+range-at-marks b e =
+    let t = each (observedFits (b .east) ∷ observedFits (b .north) ∷ upInRange b ∷ weightsInRange (weightMatrixOf b) ∷ []) e in
+    and-both _ _ (and-both _ _ (and-both _ _ (t .0) (t .1 .0)) (up-at-marks b (t .1 .1 .0))) (t .1 .1 .1 .0)
+
+closes-at-marks : (c : List ℤ) (b : Baseline) → misclosureFits c (baseline b) ≡ true → misclosureFits c (baseline (baselineAtMarks b)) ≡ true
+unfolding misclosureFits atMarks
+closes-at-marks c b e = rw (marks-misclosures c (baseline b)) e
+
+accepted-at-marks : (net : Network) (b : Baseline) → recordFits net (baseline b) ≡ true → recordNo net (baseline (baselineAtMarks b)) ≡ 0
+unfolding recordNo recordNoOver
+accepted-at-marks net b e =
+    let g = baseline-fits net b e in
+    rw (g .ends, range-at-marks b (g .range), g .matrix, closes-at-marks (coordinates (net .stations)) b (g .closes)) refl
+
+pub marks-fit : (net : Network) (r : Record) → recordFits net r ≡ true → recordFits net (atMarks r) ≡ true
+unfolding atMarks
+marks-fit net Empty e = e
+marks-fit net (baseline b) e = accepted-fits net (baseline (baselineAtMarks b)) (accepted-at-marks net b e)
+marks-fit net (height h) e = e
