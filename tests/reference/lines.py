@@ -1,4 +1,4 @@
-"""The program's language, from document 01 "The night print" and request 3 of document 02: bytes in, bytes out."""
+"""The program's language, from document 01 "The night print" and requests 3 and 4 of document 02: bytes in, bytes out."""
 import survey
 
 LETTERS = {b'K': survey.KNOWN, b'F': survey.FREE, b'V': survey.HEIGHT}
@@ -29,12 +29,12 @@ def numbers(fields, count):
 
 
 def record(kind, fields):
-    """(place, record) of the fields after H or B"""
+    """(place, record) of the fields after H or B. A B line without antenna heights has heights of 0."""
     if kind == b'H':
         place, start, end, up, weight = numbers(fields, 5)
         return place, survey.Level(start, end, up, weight)
-    values = numbers(fields, 12)
-    return values[0], survey.Baseline(values[1], values[2], tuple(values[3:6]), tuple(values[6:]))
+    values = numbers(fields, 14 if len(fields) == 14 else 12)
+    return values[0], survey.Baseline(values[1], values[2], tuple(values[3:6]), tuple(values[6:12]), tuple(values[12:]) or (0, 0))
 
 
 def edit_of(fields):

@@ -1,6 +1,6 @@
-"""An independent implementation of document 01, as requests 1 (check distances), 2 (records that are a check only) and 3 (enter) of document 02 amend it, for the tests: stations,
-records, the ledger, the check, the sheet. Written from the documents alone, in whole numbers, with no thought for speed. Numbers of stations, places and unknowns count from 1 as in
-the document; lists from 0."""
+"""An independent implementation of document 01, as requests 1 (check distances), 2 (records that are a check only), 3 (enter) and 4 (antenna heights) of document 02 amend it, for
+the tests: stations, records, the ledger, the check, the sheet. Written from the documents alone, in whole numbers, with no thought for speed. Numbers of stations, places and
+unknowns count from 1 as in the document; lists from 0."""
 from dataclasses import dataclass
 
 KNOWN, FREE, HEIGHT = 1, 2, 3          # kinds of station, as words
@@ -12,6 +12,7 @@ CHI_SQUARE = [  # 95% limits in thousandths, D = 1 to 30
     (9591, 34170), (10283, 35479), (10982, 36781), (11689, 38076), (12401, 39364), (13120, 40646), (13844, 41923), (14573, 43195),
     (15308, 44461), (16047, 45722), (16791, 46979)]
 PASS, FAIL, LOOSE, LOW, HIGH, NONE = range(6)
+MOST_DIFFERENCE, MOST_MISCLOSURE, MOST_ANTENNA_HEIGHT = 1_000_000_000, 100_000, 300_000      # of a record
 MOST_DISTANCE, MOST_HEIGHT, MOST_TOLERANCE = 1_800_000_000, 300_000, 100_000      # of a check distance
 DISAGREES = -2                         # the answer to a check distance that does not agree
 
@@ -34,10 +35,17 @@ class Station:
 class Baseline:
     start: int
     end: int
-    observed: tuple           # E, N, U
+    observed: tuple           # E, N, U, from antenna to antenna
     weights: tuple            # EE, EN, EU, NN, NU, UU
+    heights: tuple = (0, 0)   # of the antennas above their marks, from first
 
     components = (0, 1, 2)
+
+    @property
+    def reduced(self):
+        """The differences from mark to mark: that in U is the observed one plus the from-height minus the to-height."""
+        east, north, up = self.observed
+        return east, north, up + self.heights[0] - self.heights[1]
 
     def weight(self, a, b):
         ee, en, eu, nn, nu, uu = self.weights
@@ -69,6 +77,10 @@ class Level:
     def observed(self):
         return (0, 0, self.up)
 
+    @property
+    def reduced(self):
+        return self.observed
+
     def weight(self, a, b):
         return self.single if a == b == 2 else 0
 
@@ -99,9 +111,12 @@ class Network:
     def at(self, number):
         return self.stations[number - 1]
 
+    def provisional(self, record, c):
+        """The provisional difference, to minus from."""
+        return self.at(record.end).coordinate(c) - self.at(record.start).coordinate(c)
+
     def misclosure(self, record, c):
-        provisional = self.at(record.end).coordinate(c) - self.at(record.start).coordinate(c)
-        return record.observed[c] - provisional
+        return record.reduced[c] - self.provisional(record, c)
 
 
 def open_number(rows):
@@ -124,10 +139,12 @@ def record_number(net, r):
     """Refusals 3 to 6 of a record; 0 for none."""
     if not ends_fit(net, r):
         return 3
-    if any(abs(v) > 1_000_000_000 for v in r.observed):
+    if any(abs(v) > MOST_DIFFERENCE for v in (*r.observed, *r.reduced)):
         return 4
     if isinstance(r, Baseline):
         ee, en, eu, nn, nu, uu = r.weights
+        if not all(0 <= h <= MOST_ANTENNA_HEIGHT for h in r.heights):
+            return 4
         if not all(1 <= w <= 10_000 for w in (ee, nn, uu)) or any(abs(w) > 10_000 for w in (en, eu, nu)):
             return 4
         det = r.determinant()
@@ -135,7 +152,7 @@ def record_number(net, r):
             return 5
     elif not 1 <= r.single <= 10_000:
         return 4
-    if any(abs(net.misclosure(r, c)) > 100_000 for c in r.components):
+    if any(abs(net.misclosure(r, c)) > MOST_MISCLOSURE for c in r.components):
         return 6
     return 0
 
@@ -155,7 +172,7 @@ def normals(net, records):
 
 
 # By the limits behind refusals 4 and 6 an entry of N or u is at most 256 records · 3 · 10,000 · 100,000, so an edit is never refused with 9.
-assert 256 * 3 * 10_000 * 100_000 < LIMIT
+assert 256 * 3 * 10_000 * MOST_MISCLOSURE < LIMIT
 
 
 class Ledger:
