@@ -7,6 +7,7 @@ import random
 import sys
 
 sys.path.insert(0, os.path.join(os.path.dirname(os.path.abspath(__file__)), '..', 'reference'))
+import antennas
 import lines
 import solve
 import survey
@@ -14,6 +15,7 @@ import survey
 LETTER = {survey.KNOWN: b'K', survey.FREE: b'F', survey.HEIGHT: b'V'}
 WORD = [2 ** 63 - 1, 2 ** 63, -2 ** 63, -2 ** 63 - 1, 2 ** 64, 10 ** 19, 10 ** 30]      # 64 bits from both sides
 LINE = 50_000                                                                            # bytes of the longest readable line
+END = 500_000_000                                                                        # of the range of coordinates
 
 
 def joined(*fields):
@@ -24,9 +26,10 @@ def station_line(number, row):
     return joined(b'S', number, LETTER[row[0]], *row[1:])
 
 
-def record_line(place, r):
+def record_line(place, r, zeros=False):
+    """The line of a record; antenna heights that are both 0 stand there only where they are asked for."""
     if isinstance(r, survey.Baseline):
-        return joined(b'B', place, r.start, r.end, *r.observed, *r.weights)
+        return joined(b'B', place, r.start, r.end, *r.observed, *r.weights, *(r.heights if zeros or any(r.heights) else ()))
     return joined(b'H', place, r.start, r.end, r.up, r.single)
 
 
@@ -61,7 +64,12 @@ class Survey:
         seen = tuple(b[c] - a[c] + rng.randint(-self.noise, self.noise) for c in (1, 2, 3))
         if rng.random() < 0.45:
             return survey.Level(start, end, seen[2], rng.randint(1, self.scale))
-        return survey.Baseline(start, end, seen, weights(rng, self.scale))
+        return self.baseline(start, end, seen, antennas.heights(rng))
+
+    def baseline(self, start, end, reduced, heights):
+        """The baseline from antenna to antenna, of its reduced differences."""
+        east, north, up = reduced
+        return survey.Baseline(start, end, (east, north, up - heights[0] + heights[1]), weights(self.rng, self.scale), heights)
 
     def record(self):
         return self.between(*self.rng.sample(range(1, len(self.rows) + 1), 2))
@@ -83,9 +91,9 @@ def damaged(rng, line):
     """The line with one mistake."""
     fields = line.split(b' ')
     k = rng.randrange(len(fields))
-    kind = rng.randrange(16)
+    kind = rng.randrange(17)
     if kind == 0:
-        fields[k] = b'%d' % rng.choice(WORD + [0, -1, 1, 33, 256, 257, 10_000, 10_001, 100_000, 100_001, 10 ** 9, 10 ** 9 + 1, -10 ** 9, -10 ** 9 - 1])
+        fields[k] = b'%d' % rng.choice(WORD + [0, -1, 1, 33, 256, 257, 10_000, 10_001, 100_000, 100_001, 300_000, 300_001, 10 ** 9, 10 ** 9 + 1, -10 ** 9, -10 ** 9 - 1])
     elif kind == 1:
         fields[k] = rng.choice((b'', b'-', b'+1', b'--1', b'1-', b'1.0', b'1e3', b'0x10', b'\xd9\xa1', b'1\x00', b'a', b'S', b'\xff', b'1,000', b'-+1', b'- 1'))
     elif kind == 2:
@@ -121,11 +129,14 @@ def damaged(rng, line):
         value = fields[k]
         if value.lstrip(b'-').isdigit():
             fields[k] = b'%d' % (int(value) + rng.choice((-1, 1, 100_000, -100_000, 100_001)))
+    elif kind == 16:
+        fields[-1 - rng.randrange(min(2, len(fields)))] = b'%d' % rng.choice(antennas.NEAR)      # of a B line, an antenna height where it has them
     return b' '.join(fields)
 
 
-def marked(rng, line, share):
-    """An H or B line, with R before it or not."""
+def typed_line(rng, place, r, share):
+    """The line of a record, this share of them with R before it; antenna heights of 0 are left out or not."""
+    line = record_line(place, r, rng.random() < 0.3)
     return b'R ' + line if rng.random() < share else line
 
 
@@ -137,6 +148,25 @@ def without_r(data):
 def with_r(data):
     """The text with R before each H or B line, but for one that would be too long to be read."""
     return b'\n'.join(b'R ' + line if enters(line) and len(line) + 2 <= LINE else line for line in data.split(b'\n'))
+
+
+def at_marks(data):
+    """The text with the baselines from mark to mark: each B line with antenna heights without them, its U difference the reduced one; but for lines that break a rule of either."""
+    return b'\n'.join(map(line_at_marks, data.split(b'\n')))
+
+
+def line_at_marks(line):
+    fields = line.split(b' ')
+    if len(line) > LINE or fields[:-14] not in ([b'B'], [b'R', b'B']):
+        return line
+    try:
+        _, r = lines.record(b'B', fields[-14:])
+    except lines.Unreadable:
+        return line
+    if not all(0 <= h <= antennas.MOST for h in r.heights) or max(abs(r.observed[2]), abs(r.reduced[2])) > survey.MOST_DIFFERENCE:
+        return line
+    fields[-9] = b'%d' % r.reduced[2]
+    return b' '.join(fields[:-2])
 
 
 def enters(line):
@@ -161,7 +191,7 @@ def edit(rng, book, places):
     if kind < 0.5:
         if place not in book.latest or rng.random() < 0.8:
             book.latest[place] = book.record()
-        return marked(rng, record_line(place, book.latest[place]), 0.4)
+        return typed_line(rng, place, book.latest[place], 0.4)
     if kind < 0.75:
         return b'D %d' % place
     return b'U'
@@ -239,7 +269,7 @@ def network(rng):
     text = book.lines()
     if rng.random() < 0.15:
         text = with_damage(rng, text, 0.3)
-    text += with_damage(rng, [marked(rng, record_line(k, r), r_share) for k, r in enumerate(records, 1)], share)
+    text += with_damage(rng, [typed_line(rng, k, r, r_share) for k, r in enumerate(records, 1)], share)
     text += with_damage(rng, [edit(rng, book, range(1, len(records) + 2)) for _ in range(rng.choice((0, 0, 3, 10)))], share)
     answer = solution(rng, text)
     if rng.random() < 0.2:
@@ -273,7 +303,7 @@ def history(rng):
             if not filled.get(place) or rng.random() < 0.7:
                 start, end = rng.sample((1, 2, 3), 2)
                 up = book.rows[end - 1][3] - book.rows[start - 1][3] + rng.randint(-500, 500)
-                line = marked(rng, record_line(place, survey.Level(start, end, up, rng.randint(1, 100))), 0.5)
+                line = typed_line(rng, place, survey.Level(start, end, up, rng.randint(1, 100)), 0.5)
             undone.append((place, filled.get(place)))
             filled[place] = line[:1] != b'D'
             text.append(line)
@@ -335,7 +365,7 @@ def tokens(rng):
     words = [b'S', b'H', b'B', b'R', b'D', b'U', b'X', b'M', b'K', b'F', b'V', b'1', b'2', b'0', b'-1', b'100', b'1000', b'-0', b'', b'9223372036854775808']
     text = [b'S 1 K 0 0 0', b'S 2 V 0 0 1000', b'S 3 F 0 0 0'][:rng.choice((0, 2, 3, 3))]
     for _ in range(rng.randint(1, 30)):
-        text.append(b' '.join(rng.choice(words) for _ in range(rng.choice((1, 1, 2, 2, 3, 6, 13)))))
+        text.append(b' '.join(rng.choice(words) for _ in range(rng.choice((1, 1, 2, 2, 3, 6, 13, 15)))))
     return text
 
 
@@ -354,9 +384,27 @@ def long_lines(rng):
     return text + body + (solution(rng, text + body) if rng.random() < 0.7 else [])
 
 
+def height_limits(rng):
+    """Baselines whose U differences and misclosures, observed and reduced, and antenna heights are at their limits or one from them."""
+    book = Survey(rng, 4, 100)
+    book.rows = [(kind, *row[1:3], up) for kind, row, up in zip((survey.KNOWN, survey.FREE, *(row[0] for row in book.rows[2:])), book.rows, (-END, END, 0, 70_000))]
+    text = book.lines() + [typed_line(rng, k, r, 0.3) for k, r in enumerate(book.chained(), 1)]
+    for place in range(20, 20 + rng.choice((4, 8, 16))):
+        start, end = rng.sample(range(1, 5), 2)
+        a, b = book.rows[start - 1], book.rows[end - 1]
+        up = b[3] - a[3]
+        observed, heights = antennas.beside(rng, up if abs(up) == survey.MOST_DIFFERENCE else up + rng.choice((-1, 1)) * survey.MOST_MISCLOSURE)
+        if rng.random() < 0.3:
+            heights = tuple(rng.choice((h, h, rng.choice(antennas.NEAR))) for h in heights)
+        r = survey.Baseline(start, end, (b[1] - a[1], b[2] - a[2], observed), (100, 9, -9, 100, 9, 100), heights)
+        text.append(typed_line(rng, place, r, 0.3))
+        text += [b'U'] * (rng.random() < 0.2)
+    return text + solution(rng, text)
+
+
 def proposed(rng):
     """No X and no M: the engine proposes."""
-    book = Survey(rng, rng.choice((2, 3, 4, 5, 6, 8)), rng.choice((3, 100, 10_000)), rng.choice((None, None, 2_000, 60_000)))
+    book = Survey(rng, rng.choice((2, 3, 4, 5, 6, 8)), rng.choice((3, 100, 10_000)), rng.choice((None, None, 1, 2_000, 60_000)))
     records = book.chained() if rng.random() < 0.9 else [book.record()]
     text = book.lines() + with_damage(rng, [record_line(k, r) for k, r in enumerate(records, 1)], rng.choice((0, 0, 0.1)))
     if rng.random() < 0.2:
@@ -378,7 +426,7 @@ def full_size(rng):
     return text + (solution(rng, text) if rng.random() < 0.7 else [])
 
 
-KINDS = [(network, 34), (editing, 14), (history, 4), (station_list, 12), (broken_bytes, 16), (tokens, 8), (long_lines, 2), (proposed, 10)]
+KINDS = [(network, 34), (editing, 14), (history, 4), (station_list, 12), (broken_bytes, 16), (tokens, 8), (long_lines, 2), (proposed, 10), (height_limits, 4)]
 WHEEL = [kind for kind, share in KINDS for _ in range(share)]
 FULL_EVERY = 500
 
@@ -403,6 +451,17 @@ PAIR = b'H 1 1 2 1000 100\nH 2 1 2 1100 100\n'
 PAIR_SOLVED = b'X 50\nM 5368709\n'
 SECOND_KNOWN = HEAD + b'S 3 K 700 -400 100300\n'
 SECOND_HEIGHT = HEAD + b'S 3 V 700 -400 100300\n'
+FREE_HEAD = b'S 1 K 0 0 100000\nS 2 F 0 0 101000\n'
+# Observed U difference and antenna heights; the reduced difference is within 1,000,000,000 in every second one; in the last two of those the observed one is not.
+ABOUT_THE_LIMIT = [(10 ** 9, 1, 0), (10 ** 9, 0, 1), (10 ** 9 - 299_999, 300_000, 0), (10 ** 9 - 300_000, 300_000, 0), (10 ** 9 + 1, 1, 1), (10 ** 9, 300_000, 300_000),
+                   (10 ** 9 + 1, 0, 0), (10 ** 9 - 1, 1, 0), (10 ** 9 + 300_000, 0, 299_999), (10 ** 9 + 1, 0, 1), (10 ** 9, 2, 1), (10 ** 9 + 300_000, 0, 300_000)]
+
+
+def baselines(*rows):
+    """Baselines from station 1 to 2, each at a place of its own, by their observed U difference and antenna heights."""
+    return b''.join(b'B %d 1 2 0 0 %d 100 0 0 100 0 100 %d %d\n' % (place, *row) for place, row in enumerate(rows, 1))
+
+
 NAMED = {
     'nothing at all': b'',
     'an empty line': b'\n',
@@ -475,6 +534,18 @@ NAMED = {
     'a baseline from a height station to a known station': HEAD + PAIR + b'B 3 2 1 300 -200 -1010 100 20 -30 90 10 80\n',
     'a baseline between height stations': SECOND_HEIGHT + PAIR + b'H 3 1 3 310 100\nB 4 2 3 900 -500 -720 100 20 -30 90 10 80\n',
     'a baseline to a height station alone': HEAD + b'B 1 1 2 300 -200 1010 100 0 0 100 0 100\n',
+    'B lines of 11 to 16 numbers': FREE_HEAD + b''.join(b'%sB %d 1 2 5 -5 1000 100 0 0 100 0%s\n' % (r, count, b' 100' * (count - 11)) for r in (b'', b'R ') for count in range(11, 17)),
+    'antenna heights entered over none, and undone': FREE_HEAD + b'B 1 1 2 5 -5 1000 100 0 0 100 0 100\nB 1 1 2 5 -5 1000 100 0 0 100 0 100 150000 149980\nD 1\nU\nU\n',
+    'none entered over antenna heights, and undone': FREE_HEAD + b'B 1 1 2 5 -5 980 100 0 0 100 0 100 150000 149980\nR B 1 1 2 5 -5 1010 100 0 0 100 0 100\nU\n',
+    'antenna heights between known stations': SECOND_KNOWN + PAIR + b'B 3 1 3 710 -380 300300 100 20 -30 90 10 80 0 300000\n' + PAIR_SOLVED,
+    'antenna heights on H lines': HEAD + b'H 1 1 2 1000 100 0 0\nR H 1 1 2 1000 100 0 0\nH 1 1 2 1000 100 0\n' + PAIR + PAIR_SOLVED,
+    'antenna heights at their limits': FREE_HEAD + baselines(*[(1000 - a + b, a, b) for a in antennas.NEAR for b in antennas.NEAR]),
+    'antenna heights far out of range': FREE_HEAD + baselines(*[(1000, *heights) for h in WORD for heights in ((h, 0), (0, h), (h, h), (h, -h))]),
+    'U differences far out of range, with antenna heights': FREE_HEAD + baselines(*[(up, *heights) for up in WORD for heights in ((0, 300_000), (300_000, 0), (1, 1))]),
+    'U differences about the upper limit': b'S 1 K 0 0 -500000000\nS 2 F 0 0 500000000\n' + baselines(*ABOUT_THE_LIMIT),
+    'U differences about the lower limit': b'S 1 K 0 0 500000000\nS 2 F 0 0 -500000000\n' + baselines(*[(-up, b, a) for up, a, b in ABOUT_THE_LIMIT]),
+    'misclosures about their limits': FREE_HEAD + baselines(*[(1000 + sign * observed, max(sign * (reduced - observed), 0), max(sign * (observed - reduced), 0))
+                                                              for sign in (-1, 1) for observed in (0, 99_999, 100_000, 100_001) for reduced in (99_999, 100_000, 100_001)]),
     'a closed line of 50,000 bytes': HEAD + b'H 1 1 2 ' + b'0' * (LINE - 16) + b'1000 100\nH 2 1 2 1100 100\nX 50\nM 5368709\n',
     'a closed line of 50,001 bytes': HEAD + b'H 1 1 2 ' + b'0' * (LINE - 15) + b'1000 100\nH 2 1 2 1100 100\nX 100\nM 10737418\n',
     'a last line of 50,001 bytes': HEAD + PAIR + b'X ' + b'0' * (LINE - 1),

@@ -15,6 +15,7 @@ import lines
 import proposals
 
 LIMIT = 60      # seconds that no run takes
+BAD_PLACE = 2
 
 
 def output(data, path=PROGRAM):
@@ -35,7 +36,8 @@ def first_difference(got, want):
 
 
 class Noted(lines.Run):
-    """The reference, with what accepted edits find at their place, as `enter over another record`; where R is before the line, `R enter over another record`."""
+    """The reference, with what accepted edits find at their place, as `enter over another record`, and where R is before the line `R enter over another record`; with the counts of
+    numbers on B lines, and what the antenna heights of baselines lead to."""
 
     def __init__(self, propose=lambda net, records: None):
         super().__init__(propose)
@@ -44,12 +46,18 @@ class Noted(lines.Run):
 
     def apply(self, line):
         self.mark = 'R ' if line[:2] == b'R ' else ''
+        fields = line[len(self.mark):].split(b' ')
+        if fields[0] == b'B' and all(field.lstrip(b'-').isdigit() for field in fields[1:]):
+            self.found.add('%sB and %d numbers' % (self.mark, len(fields) - 1))
         return super().apply(line)
 
     def edit(self, call, *arguments):
         place = arguments[0] if arguments else self.ledger.edits[-1] if self.ledger.edits else None
         before = self.ledger.at(place)
         refused = super().edit(call, *arguments)
+        if call == 'enter' and refused != BAD_PLACE:
+            heights = kinds.of_heights(self.ledger.net, arguments[1])
+            self.found |= {'antenna heights: ' + heights} if heights else set()
         if not refused:
             self.found.add(self.mark + kinds.of_edit(call, before, self.ledger.at(place)))
         return refused

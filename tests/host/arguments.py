@@ -2,17 +2,20 @@
 import math
 import struct
 
-from layout import BYTES, COUNT_AT, MATRIX_AT, NEXT_AT, PLACES, PLACES_AT, SLOTS, SLOTS_AT, WORDS
+from layout import BYTES, COUNT_AT, HEIGHTS_AT, MATRIX_AT, NEXT_AT, PLACES, PLACES_AT, SLOTS, SLOTS_AT, WORDS
 from expected import entering, packed
+import antennas
 import solve
 import survey
 
-EXTREME = [0, 1, -1, 2, 32, 33, 48, 256, 257, 100_000, 100_001, 10_000, 10_001, 500_000_000, 500_000_001, 1_000_000_000, 1_000_000_001,
+EXTREME = [0, 1, -1, 2, 32, 33, 48, 256, 257, 100_000, 100_001, 10_000, 10_001, 300_000, 300_001, 500_000_000, 500_000_001, 1_000_000_000, 1_000_000_001,
            -1_000_000_001, 2 ** 31, 2 ** 62, 2 ** 63 - 1, -2 ** 63, -2 ** 62]
 SHORT = [0, 1, 7, 8, BYTES // 2, BYTES - 8, BYTES - 1]
 LENGTHS = {'as asked': lambda data: data, 'empty': lambda data: b'', 'a word short': lambda data: data[:-8], 'a byte short': lambda data: data[:-1],
            'a byte long': lambda data: data + b'\x5a', 'a word long': lambda data: data + b'\x5a' * 8, 'far longer': lambda data: data + b'\x5a' * 24_000}
-DAMAGE = ['cut short', 'a bit', 'a word', 'a head', 'a journal word', 'places exchanged']
+OTHER_HEIGHTS = {'antenna heights of a baseline': 1, 'antenna heights of a height difference': 2, 'antenna heights of nothing': 0}      # by the kind of the record that is given them
+LAYOUT_BEFORE = 1                                                        # the layout number until antenna heights came
+DAMAGE = 2 * ['cut short', 'a bit', 'a word', 'a head', 'a journal word', 'places exchanged'] + ['the layout number before', *OTHER_HEIGHTS]
 SLICES = {'check': ('x', 'm'), 'check_sheet': ('x', 'm', 'sheet'), 'check_distance': ('x', 'm'), 'propose': ('x', 'm'), 'stations': ('list',), 'record': ('record',)}
 
 
@@ -57,7 +60,8 @@ class Arguments:
         k = r.choice([100, 3_000, 9_999])
         ee, nn, uu = (r.randint(k // 2, k) for _ in range(3))
         en, eu, nu = (r.randint(-k // 6, k // 6) for _ in range(3))
-        return survey.Baseline(start, end, seen, (ee, en, eu, nn, nu, uu))
+        heights = antennas.heights(r)
+        return survey.Baseline(start, end, (*seen[:2], seen[2] - heights[0] + heights[1]), (ee, en, eu, nn, nu, uu), heights)
 
     def tied_records(self, net):
         """Records that tie every unknown to a held station, and some more: up to all places."""
@@ -84,7 +88,8 @@ class Arguments:
         if r.random() < 0.1:
             k = max(weights)
             weights = tuple(v if i in (0, 3, 5) else r.randint(-k, k) for i, v in enumerate(weights))
-        return survey.Baseline(start, end, tuple(self.odd(v) for v in made.observed), tuple(self.odd(v) for v in weights))
+        observed, weights, heights = (tuple(self.odd(v) for v in part) for part in (made.observed, weights, made.heights))
+        return survey.Baseline(start, end, observed, weights, heights)
 
     def edit(self, name, book):
         """The numbers of an edit of that name. The place of a strike is most often filled, that of an enter filled or empty; some enters are of the record that is there."""
@@ -186,6 +191,14 @@ class Arguments:
             put(r.choice([0, 1, NEXT_AT, COUNT_AT, r.randrange(2, PLACES_AT), SLOTS_AT + 15 * r.randrange(SLOTS)]), r.choice([0, 1, 2, 3, 4, 5, 63, 64, 65, 255, 256, -1]))
         elif kind == 'a journal word':
             put(journal, words[journal] + r.choice([-1, 1, 100, 200_000]))
+        elif kind == 'the layout number before':
+            put(0, LAYOUT_BEFORE)
+        elif kind in OTHER_HEIGHTS:
+            starts = [PLACES_AT + 14 * p for p in range(PLACES)] + [SLOTS_AT + 15 * k + 1 for k in range(SLOTS)]
+            of_kind = [at for at in starts if words[at] == OTHER_HEIGHTS[kind]]
+            if of_kind:
+                at = r.choice(of_kind) + HEIGHTS_AT + r.randrange(2)
+                put(at, r.choice([*antennas.NEAR, words[at] - 1, words[at] + 1]))
         else:
             a, b = 8 * r.choice(filled), 8 * r.choice([*filled, PLACES_AT + 14 * r.randrange(PLACES)])
             data[a:a + 112], data[b:b + 112] = data[b:b + 112], data[a:a + 112]

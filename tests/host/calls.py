@@ -21,7 +21,7 @@ VERDICTS = ('PASS', 'FAIL', 'LOOSE', 'LOW', 'HIGH', 'NONE')              # by th
 ENTERS = ('enter_baseline', 'enter_height')
 BOOK_EDITS = ('enter_baseline', 'enter_baseline', 'enter_baseline', 'enter_height', 'enter_height', 'strike')      # of a random book, beside undos
 UNDOS = (0.02, 0.15, 0.45)                                             # their share in a random book; with few the history runs full
-HEADER = {'VERSION': 3, 'PLACE_EMPTY': 7, 'PLACE_TAKEN': None}           # what it must say; None: it has no such constant
+HEADER = {'VERSION': 4, 'PLACE_EMPTY': 7, 'PLACE_TAKEN': None}           # what it must say; None: it has no such constant
 GONE = ('add_baseline', 'add_height', 'replace_baseline', 'replace_height')      # calls before request 3
 
 
@@ -46,12 +46,15 @@ class Calls(Comparison):
 
     def edited(self, name, model, numbers):
         """What is wanted of an edit, which is noted by what its place holds before and after it."""
-        call, place, _ = edit_given(name, numbers)
+        call, place, record = edit_given(name, numbers)
         place = model.latest() if call == 'undo' else place
         before = model.records.get(place)
         wanted = outcome(name, model, numbers)
         if call == 'enter' and wanted[0] != BAD_PLACE:
             self.coverage.note('%s, at %s place' % (name, 'an empty' if before is None else 'a filled'), wanted[0])
+            heights = kinds.of_heights(model.net, record)
+            if heights:
+                self.coverage.note('baselines with antenna heights', heights)
         if wanted[0] == 0:
             self.coverage.note('accepted edits', kinds.of_edit(call, before, model.records.get(place)))
         return wanted
@@ -101,7 +104,7 @@ class Calls(Comparison):
             for slice_, length in lengths.items():
                 self.coverage.note('%s, length of %s' % (name, slice_), length)
             if name == 'record' and result == 0:
-                self.coverage.note('record, what it read', type(model.records.get(place[0])).__name__)
+                self.coverage.note('record, what it read', kinds.of_place(model.records.get(place[0])))
             if refusal(result) == 11:
                 self.coverage.note('the unknown of 11', 'the first' if result // 256 == 1 else 'a later one')
 
@@ -173,6 +176,7 @@ class Calls(Comparison):
             before, left = (data[:8 * NEXT_AT] + data[8 * MATRIX_AT:] for data in (before, left))
         self.same('the book after an enter and its undo', left, before)
         self.coverage.note('undone at once, history %s' % ('full' if full else 'not full'), kinds.of_edit('enter', model.records.get(place), entered))
+        self.coverage.note('undone at once, restored', kinds.of_place(model.records.get(place)))
 
     def book(self):
         """A long run of edits on one book; enters undone at once, damaged copies and checks on the way."""

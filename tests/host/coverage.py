@@ -17,7 +17,7 @@ def distance_refusals(least):
 
 
 # tests/host/calls.py. Each call by its refusals, 0 where it is done, and an enter also by what its place holds; what accepted edits found and an undo restored; enters undone at once,
-# by whether the history had 64 edits; then the lengths of lent slices on bytes that hold a book, damage, and what was written.
+# by whether the history had 64 edits and by what came back; what the antenna heights of baselines lead to; then the lengths of lent slices on bytes that hold a book, damage, and what was written.
 CALLS = {
     'open': {0: 150, 1: 90, 25: 250},
     'enter_baseline': {0: 6800, 2: 90, 3: 200, 4: 430, 5: 350, 6: 170, 25: 1000},
@@ -33,6 +33,11 @@ CALLS = {
         'undo of enter over another record': 850, 'undo of enter over an equal record': 220, 'undo of strike': 520},
     'undone at once, history not full': {'enter at an empty place': 700, 'enter over another record': 300, 'enter over an equal record': 70},
     'undone at once, history full': {'enter at an empty place': 60, 'enter over another record': 40, 'enter over an equal record': 8},
+    'undone at once, restored': {'nothing': 750, 'height difference': 200, 'baseline': 90, 'baseline with antenna heights': 120},
+    'baselines with antenna heights': {                                  # 4 by one difference alone is for heights.py
+        'accepted': 1700, 'accepted, where the observed difference would give 6': 2000, '4 by a height': 75, '4 by both differences': 9, '6 by both differences': 50,
+        '6 by the reduced difference alone': 20, '4 by the observed difference alone, high': 0, '4 by the observed difference alone, low': 0,
+        '4 by the reduced difference alone, high': 0, '4 by the reduced difference alone, low': 0},
     'check': {0: 240, 10: 450, 11: 450, 12: 20, 13: 20, 14: 25, 15: 30, 16: 50, 25: 1000},
     'check_sheet': {0: 440, 10: 550, 11: 500, 12: 25, 13: 20, 14: 30, 15: 25, 16: 40, 25: 1000},
     'check_distance': {-2: 80, 0: 90, 3: 270, 10: 330, 11: 440, 12: 11, 13: 16, 14: 18, 15: 24, 16: 40, 17: 45, 25: 1000},
@@ -58,7 +63,11 @@ CALLS = {
     'damage: a head': {'refused': 200, 'read': 8},
     'damage: a journal word': {'refused': 150, 'read': 80},
     'damage: places exchanged': {'refused': 30, 'read': 150},
-    'record, what it read': {'Baseline': 220, 'Level': 160, 'NoneType': 450},
+    'damage: the layout number before': {'refused': 90},
+    'damage: antenna heights of a baseline': {'refused': 50, 'read': 16},
+    'damage: antenna heights of a height difference': {'refused': 60},
+    'damage: antenna heights of nothing': {'refused': 90},
+    'record, what it read': {'baseline': 95, 'baseline with antenna heights': 125, 'height difference': 160, 'nothing': 450},
     'the unknown of 11': {'the first': 900, 'a later one': 470},
     'accepted sheets by unknowns': {'1 to 9': 300, '10 to 24': 75, '25 to 47': 35, '48': 18},
     'accepted sheets by global verdict': {'PASS': 15, 'LOW': 15, 'HIGH': 250, 'NONE': 140},
@@ -86,11 +95,32 @@ DISTANCES = {
     'size of D²': {'to 10^6': 160, 'to 10^12': 6_000, 'to 10^18': 2_700, 'to 2.9·10^18': 1_100, 'to 3·10^18': 18, 'above': 90},
 }
 
-# tests/host/flips.py, by the part of the book
+# tests/host/heights.py. What the antenna heights lead to; both sides of every limit: of a height, of the U differences and of the misclosures, observed and reduced; what came back by
+# an undo; the records that were compared with their reduced differences.
+BESIDE_LIMITS = ['observed %+d, reduced %+d' % off for off in itertools.product((-1, 0, 1), repeat=2)]
+HEIGHTS = {
+    'open': {0: 30},
+    'enter_baseline': {0: 1300, 4: 2500, 6: 300},
+    'record': {0: 1100},
+    'undo': {0: 800},
+    'check_sheet': {0: 30},
+    'baselines with antenna heights': {
+        'accepted': 650, 'accepted, where the observed difference would give 6': 400, '4 by a height': 1900, '4 by both differences': 190,
+        '4 by the observed difference alone, high': 100, '4 by the observed difference alone, low': 100, '4 by the reduced difference alone, high': 100,
+        '4 by the reduced difference alone, low': 100, '6 by both differences': 100, '6 by the reduced difference alone': 180},
+    'heights at their limits': dict.fromkeys(('%s %d' % at for at in itertools.product(('from', 'to'), (-1, 0, 1, 299_999, 300_000, 300_001))), 40),
+    'heights far beyond': dict.fromkeys(('%s %d' % at for at in itertools.product(('from', 'to'), (-2 ** 63, -2 ** 63 + 1, -2 ** 62, 2 ** 62, 2 ** 63 - 2, 2 ** 63 - 1))), 180),
+    'observed differences far beyond': {'high': 300, 'low': 300},
+    **{limit: dict.fromkeys(BESIDE_LIMITS, 20) for limit in ('differences beside 1000000000', 'differences beside -1000000000', 'misclosures beside 100000', 'misclosures beside -100000')},
+    'undone at once, restored': {'baseline with antenna heights': 700, 'baseline': 80, 'nothing': 20},
+    'from mark to mark': {'baseline with antenna heights': 90, 'baseline': 1},
+}
+
+# tests/host/flips.py, by the part of the book; the antenna heights are among the places and the journal
 FLIPS = {
     'flips': {'tried': 449_792},
-    'flips that read, judged': {'places': 2000, 'journal': 2500},
-    'refused flips, judged': {'stations': 600, 'places': 900, 'journal': 7000, 'normals': 600},
+    'flips that read, judged': {'places': 2000, 'journal': 2500, 'antenna heights': 600},
+    'refused flips, judged': {'stations': 600, 'places': 900, 'journal': 7000, 'normals': 600, 'antenna heights': 550},
 }
 
 # tests/proposals/compare.py, by the kind of network, for the 240 networks of the gate

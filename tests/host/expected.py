@@ -45,14 +45,14 @@ def opening(listed, lent):
 def record_given(kind, numbers):
     """The record of a call's numbers after the place; None for a strike."""
     if kind == 'baseline':
-        return survey.Baseline(numbers[0], numbers[1], tuple(numbers[2:5]), tuple(numbers[5:]))
+        return survey.Baseline(numbers[0], numbers[1], tuple(numbers[2:5]), tuple(numbers[5:11]), tuple(numbers[11:]))
     return survey.Level(*numbers) if kind == 'height' else None
 
 
 def entering(place, r):
     """(name, numbers) of the call that enters a record"""
     if isinstance(r, survey.Baseline):
-        return 'enter_baseline', [place, r.start, r.end, *r.observed, *r.weights]
+        return 'enter_baseline', [place, r.start, r.end, *r.observed, *r.weights, *r.heights]
     return 'enter_height', [place, r.start, r.end, r.up, r.single]
 
 

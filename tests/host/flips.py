@@ -12,7 +12,7 @@ import subprocess
 import sys
 
 from coverage import FLIPS, Coverage
-from layout import BYTES, MATRIX_AT, NEXT_AT, PLACES_AT, Book, judge
+from layout import BYTES, HEIGHTS_AT, MATRIX_AT, NEXT_AT, PLACES_AT, SLOTS_AT, Book, judge
 import survey
 
 PARTS = {'stations': (0, PLACES_AT), 'places': (PLACES_AT, NEXT_AT), 'journal': (NEXT_AT, MATRIX_AT), 'normals': (MATRIX_AT, BYTES // 8)}      # words of each
@@ -33,7 +33,9 @@ def full_book():
             start, end = rng.sample(range(1, 33), 2)
             d = [book.net.at(end).coordinate(c) - book.net.at(start).coordinate(c) + rng.randint(-500, 500) for c in range(3)]
             if place % 3:
-                r = survey.Baseline(start, end, tuple(d), (rng.randint(50, 900), rng.randint(-9, 9), rng.randint(-9, 9), rng.randint(50, 900), rng.randint(-9, 9), rng.randint(50, 900)))
+                heights = tuple(rng.choice([0, rng.randint(0, survey.MOST_ANTENNA_HEIGHT)]) for _ in range(2))
+                d[2] += heights[1] - heights[0]
+                r = survey.Baseline(start, end, tuple(d), (rng.randint(50, 900), rng.randint(-9, 9), rng.randint(-9, 9), rng.randint(50, 900), rng.randint(-9, 9), rng.randint(50, 900)), heights)
             else:
                 r = survey.Level(start, end, d[2], rng.randint(1, 10_000))
             if book.edit('enter', place, r) == 0:
@@ -50,6 +52,14 @@ def fits_flipped(data, bit):
 
 def part_of(bit):
     return next(part for part, (start, end) in PARTS.items() if 64 * start <= bit < 64 * end)
+
+
+def is_height(bit):
+    """Whether it is one of a record's two words for antenna heights, at a place or in the journal."""
+    word = bit // 64
+    if PLACES_AT <= word < NEXT_AT:
+        return (word - PLACES_AT) % 14 >= HEIGHTS_AT
+    return SLOTS_AT <= word < MATRIX_AT and (word - SLOTS_AT) % 15 > HEIGHTS_AT
 
 
 def sample():
@@ -80,7 +90,10 @@ def main():
     coverage = Coverage()
     coverage.note('flips', 'tried', count)
     for bit, fit in zip(bits, fits):
-        coverage.note('flips that read, judged' if bit in read else 'refused flips, judged', part_of(bit))
+        what = 'flips that read, judged' if bit in read else 'refused flips, judged'
+        coverage.note(what, part_of(bit))
+        if is_height(bit):
+            coverage.note(what, 'antenna heights')
         if fit != (bit in read):
             wrong.append('bit %d %s' % (bit, 'is refused, and holds a book' if fit else 'is not refused, and holds no book'))
     wrong += coverage.shortfalls(FLIPS)

@@ -7,9 +7,11 @@ import sys
 sys.path.insert(0, os.path.join(os.path.dirname(os.path.abspath(__file__)), '..', 'reference'))
 import survey  # noqa: E402
 
+LAYOUT = 2                              # the book's first word
 WORDS = 7028
 BYTES = 8 * WORDS
 PLACES, SLOTS = 256, 64
+HEIGHTS_AT = 12                         # of the 14 words of a record
 STATIONS_AT, PLACES_AT, NEXT_AT, COUNT_AT, SLOTS_AT, MATRIX_AT, RIGHT_AT = 2, 130, 3714, 3715, 3716, 4676, 6980
 
 
@@ -17,7 +19,7 @@ def record_words(r):
     if r is None:
         return [0] * 14
     if isinstance(r, survey.Baseline):
-        return [1, r.start, r.end, *r.observed, *r.weights, 0, 0]
+        return [1, r.start, r.end, *r.observed, *r.weights, *r.heights]
     return [2, r.start, r.end, 0, 0, r.up, 0, 0, 0, 0, 0, r.single, 0, 0]
 
 
@@ -25,7 +27,7 @@ def record_of(w):
     """The record of 14 words, or 'bad'."""
     r = None
     if w[0] == 1:
-        r = survey.Baseline(w[1], w[2], tuple(w[3:6]), tuple(w[6:12]))
+        r = survey.Baseline(w[1], w[2], tuple(w[3:6]), tuple(w[6:12]), tuple(w[12:]))
     elif w[0] == 2:
         r = survey.Level(w[1], w[2], w[5], w[11])
     return r if record_words(r) == list(w) else 'bad'
@@ -53,7 +55,7 @@ class Book:
         self.count = 0
 
     def bytes(self):
-        w = [1, len(self.rows)]
+        w = [LAYOUT, len(self.rows)]
         for k in range(32):
             w += self.rows[k] if k < len(self.rows) else (0, 0, 0, 0)
         for p in range(1, PLACES + 1):
@@ -110,7 +112,7 @@ def fits(net, r):
 def before_journal(front):
     """(stations, records, bytes of their N and u) of the bytes before the journal; None where they break a rule. Kept, since damage elsewhere leaves them as they are."""
     w = struct.unpack('<%dq' % NEXT_AT, front)
-    if w[0] != 1 or not 1 <= w[1] <= 32:
+    if w[0] != LAYOUT or not 1 <= w[1] <= 32:
         return None
     rows = [w[STATIONS_AT + 4 * k:STATIONS_AT + 4 * k + 4] for k in range(32)]
     if any(v for r in rows[w[1]:] for v in r) or survey.open_number(rows[:w[1]]):

@@ -22,7 +22,7 @@ static int64_t answer;
 static int64_t baseline(int place, int up) {
     int from = 1 + place % 32, to = 1 + (place * 7 + 3) % 32;
     to = to == from ? 1 + from % 32 : to;
-    return dombrelat_enter_baseline(book, sizeof book, place, from, to, 10 * (to - from), 10 * (from - to), to - from + up, 100, 3, -2, 120, 1, 90);
+    return dombrelat_enter_baseline(book, sizeof book, place, from, to, 10 * (to - from), 10 * (from - to), to - from + up, 100, 3, -2, 120, 1, 90, 155000, 155000);
 }
 
 static void *run(void *unused) {

@@ -1,5 +1,5 @@
-"""Records by their kind and the kinds of the stations at their two ends, baselines by what their antenna heights lead to, and edits by what they find at their place, for what the
-tests must have met."""
+"""Records by their kind and the kinds of the stations at their two ends, baselines by their antenna heights and what these lead to, and edits by what they find at their place, for
+what the tests must have met."""
 from dataclasses import replace
 
 import survey
@@ -13,6 +13,13 @@ def of(net, r):
     """`baseline known-height`, whichever end is from."""
     ends = sorted(net.at(s).kind for s in (r.start, r.end))
     return '%s %s-%s' % (RECORDS[type(r)], *(STATIONS[kind] for kind in ends))
+
+
+def of_place(r):
+    """What a place holds: `baseline with antenna heights`."""
+    if r is None:
+        return 'nothing'
+    return RECORDS[type(r)] + (' with antenna heights' if isinstance(r, survey.Baseline) and any(r.heights) else '')
 
 
 def of_heights(net, r):

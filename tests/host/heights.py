@@ -1,0 +1,166 @@
+"""Antenna heights on the static library, from a fixed seed: every answer and every byte of the book against the independent implementation in tests/reference. Among the stations
+are such at both ends of the range of U, so that the observed and the reduced U difference come to their limits, to either side of them, together and apart; and so do the
+misclosures of both. Heights at their limits and far beyond. A record that is entered is read back, and most are undone at once, which leaves every byte as it was. In the end the same
+records from mark to mark, without heights, give the same N and u, and the same sheet. Fails too where it meets less than coverage.py asks. Prints 'N passed, M failed' last.
+
+    python3 tests/host/heights.py LIBRARY.so
+"""
+from dataclasses import replace
+import sys
+
+from comparison import Comparison
+from coverage import HEIGHTS
+from expected import entering, outcome, packed, words_in
+from layout import BYTES, MATRIX_AT, SLOTS, Book
+from library import Buffer, Header, Library
+import antennas
+from antennas import MOST, NEAR
+import kinds
+import survey
+
+BOOKS = 30
+AT_LIMITS = 60                             # baselines of each book at the limits of the differences, and as many at those of the misclosures
+END = 500_000_000                          # of the range of coordinates
+FAR = (-2 ** 63, -2 ** 63 + 1, -2 ** 62, 2 ** 62, 2 ** 63 - 2, 2 ** 63 - 1)      # heights and differences
+HEADER = {'OUT_OF_RANGE': 4, 'BAD_MISCLOSURE': 6, 'ANTENNA_HEIGHT_MAX': MOST}      # what it must say
+UPS = (-END, END, -END, END, 0, 70_000)    # U of the stations
+LAST = 256                                 # the place that the baselines are entered at; the network is at the first ones
+
+
+class Heights(Comparison):
+    # ---- baselines
+    def baseline(self, net, ends, up, heights):
+        """From the first end to the second, near the provisional differences in E and N."""
+        start, end = ends
+        r = self.rng
+        plain = survey.Baseline(start, end, (0, 0, 0), (r.randint(50, 900), r.randint(-9, 9), r.randint(-9, 9), r.randint(50, 900), r.randint(-9, 9), r.randint(50, 900)), heights)
+        return replace(plain, observed=(*(net.provisional(plain, c) + r.randint(-300, 300) for c in (0, 1)), up))
+
+    def at_differences(self, net):
+        """Between the ends of the range of U, upwards or downwards."""
+        low, high = (self.rng.choice([k for k, up in enumerate(UPS, 1) if up == end]) for end in (-END, END))
+        ends, limit = self.rng.choice([((low, high), survey.MOST_DIFFERENCE), ((high, low), -survey.MOST_DIFFERENCE)])
+        return self.baseline(net, ends, *antennas.beside(self.rng, limit))
+
+    def at_misclosures(self, net):
+        """Between stations whose U difference is well within the limits of 4."""
+        ends = self.rng.sample([k for k, up in enumerate(UPS, 1) if abs(up) < END], 2)
+        limit = net.at(ends[1]).up - net.at(ends[0]).up + self.rng.choice([-1, 1]) * survey.MOST_MISCLOSURE
+        return self.baseline(net, ends, *antennas.beside(self.rng, limit))
+
+    def with_heights(self, net, heights):
+        """A baseline with these heights, whose reduced U difference is near the provisional one where the observed one can make it so."""
+        r = self.rng
+        start, end = r.sample(range(1, len(UPS) + 1), 2)
+        up = net.at(end).up - net.at(start).up + r.randint(-300, 300) - heights[0] + heights[1]
+        return self.baseline(net, (start, end), up if abs(up) < 2 ** 63 else r.choice([0, *FAR]), heights)
+
+    def far_difference(self, net):
+        """An observed U difference far out of range, with heights by the rules."""
+        return self.baseline(net, self.rng.sample(range(1, len(UPS) + 1), 2), self.rng.choice(FAR), self.rng.choice([(0, MOST), (MOST, 0), (1, 0), (0, 1)]))
+
+    # ---- calls
+    def edit(self, book, model, name, numbers):
+        got = self.call(name, book, *numbers)
+        result, front = outcome(name, model, numbers)
+        self.compare(name, got, result, [front + got[1][0][len(front):]])
+        return result
+
+    def enter(self, book, model, r):
+        """Enters the baseline and reads it back; most are undone at once, which leaves every byte as it was, but where the history was full."""
+        before, full = book.get(), model.count == SLOTS
+        self.note(model.net, r)
+        if self.edit(book, model, *entering(LAST, r)) != 0:
+            return
+        read = Buffer(bytes(112))
+        got = self.call('record', book, LAST, read)
+        result, words = outcome('record', model, [LAST, bytes(112)])
+        self.compare('record', got, result, [got[1][0], words])
+        if self.rng.random() < 0.7:
+            self.edit(book, model, 'undo', [])
+            if not full:
+                self.same('the book after an enter and its undo', book.get(), before)
+                self.coverage.note('undone at once, restored', kinds.of_place(model.records.get(LAST)))
+
+    def note(self, net, r):
+        what = kinds.of_heights(net, r)
+        if what is None:
+            return
+        self.coverage.note('baselines with antenna heights', what)
+        self.note_heights(r)
+        self.note_differences(net, r)
+
+    def note_heights(self, r):
+        """A height near a limit counts where the other one and both differences are within theirs."""
+        differences_fit = all(abs(v) <= survey.MOST_DIFFERENCE for v in (r.observed[2], r.reduced[2]))
+        for end, h, other in zip(('from', 'to'), r.heights, reversed(r.heights)):
+            if h in FAR:
+                self.coverage.note('heights far beyond', '%s %d' % (end, h))
+            elif h in NEAR and 0 <= other <= MOST and differences_fit:
+                self.coverage.note('heights at their limits', '%s %d' % (end, h))
+
+    def note_differences(self, net, r):
+        """Differences and misclosures of which both, the observed one and the reduced one, are at most one from the limit; observed differences far beyond."""
+        note = self.coverage.note
+        if r.observed[2] in FAR:
+            note('observed differences far beyond', 'low' if r.observed[2] < 0 else 'high')
+        for limits, centre, most in (('differences', 0, survey.MOST_DIFFERENCE), ('misclosures', net.provisional(r, 2), survey.MOST_MISCLOSURE)):
+            for limit in (-most, most):
+                off = [v - centre - limit for v in (r.observed[2], r.reduced[2])]
+                if all(abs(v) <= 1 for v in off):
+                    note('%s beside %d' % (limits, limit), 'observed %+d, reduced %+d' % tuple(off))
+
+    # ---- books
+    def opened(self):
+        """(the library's bytes, the model) of a new book"""
+        r = self.rng
+        kinds_ = [survey.KNOWN, *(r.choice([survey.KNOWN, survey.FREE, survey.HEIGHT]) for _ in UPS[2:]), survey.FREE]
+        rows = [(kind, r.randint(-300_000, 300_000), r.randint(-300_000, 300_000), up) for kind, up in zip(kinds_, UPS)]
+        return self.opened_on(rows)
+
+    def opened_on(self, rows):
+        book = Buffer(bytes(BYTES))
+        self.same('open', self.call('open', Buffer(packed([v for row in rows for v in row])), book)[0], 0)
+        return book, Book(rows)
+
+    def book(self):
+        """A network that ties every station to the first, then the baselines, each over what the one before it left at the last place; and the book from mark to mark."""
+        book, model = self.opened()
+        for number in range(2, len(UPS) + 1):
+            reduced = UPS[number - 1] - UPS[0] - self.rng.randint(0, 300)
+            observed = reduced - self.rng.randint(0, MOST)
+            r = self.baseline(model.net, (1, number), observed, antennas.leading(self.rng, observed, reduced))
+            self.same('a record of a network', self.edit(book, model, *entering(number - 1, r)), 0)
+        asked = [self.with_heights(model.net, (a, b)) for a in NEAR + FAR for b in NEAR + FAR]
+        asked += [make(model.net) for make in (self.at_differences, self.at_misclosures) for _ in range(AT_LIMITS)]
+        asked += [self.far_difference(model.net) for _ in range(6)]
+        self.rng.shuffle(asked)
+        for r in asked:
+            self.enter(book, model, r)
+        self.from_mark_to_mark(book, model)
+
+    def from_mark_to_mark(self, book, model):
+        """The same records with their reduced differences and no heights: the same N, u and sheet, by the library alone."""
+        other, marks = self.opened_on(model.rows)
+        for place, r in sorted(model.records.items()):
+            reduced = replace(r, observed=r.reduced, heights=(0, 0))
+            self.same('a record from mark to mark', self.edit(other, marks, *entering(place, reduced)), 0)
+            self.coverage.note('from mark to mark', kinds.of_place(r))
+        self.same('N and u from mark to mark', other.get()[8 * MATRIX_AT:], book.get()[8 * MATRIX_AT:])
+        x, m = map(packed, self.arguments.exact(model))
+        sheets = [Buffer(bytes(8 * survey.sheet_room(model.net, model.records))) for _ in range(2)]
+        for lent, sheet in zip((book, other), sheets):
+            self.same('check_sheet', self.call('check_sheet', lent, Buffer(x), Buffer(m), sheet)[0], 0)
+        self.same('the sheet from mark to mark', sheets[1].get(), sheets[0].get())
+        self.same('the sheet', words_in(sheets[0].get()), survey.sheet(model.net, model.records, words_in(x), words_in(m)))
+
+    def run(self):
+        constants = Header().constants
+        for name, want in HEADER.items():
+            self.same('%s in the header' % name, constants.get(name), want)
+        for _ in range(BOOKS):
+            self.book()
+
+
+if __name__ == '__main__':
+    Heights(Library(sys.argv[1]), 20261118).report(HEIGHTS)
