@@ -1,4 +1,4 @@
-/* A small levelling network, from the station list to the printed sheet and two taped distances held against it. All that a program needs is include/dombrelat.h.
+/* A small levelling network with one GNSS baseline, from the station list to the printed sheet and two taped distances held against it. All that a program needs is include/dombrelat.h.
  * At the repository's root:
  *
  *     rt staticlib dombrelat
@@ -25,6 +25,9 @@ static const int64_t stations[][4] = {
 static const int64_t levels[RECORDS][4] = {
     {1, 2, 120180, 400}, {2, 3, 124940, 400}, {3, 4, -314850, 100}, {4, 1, 69730, 400}, {2, 4, -189960, 100},
 };
+
+/* A GNSS baseline from antenna to antenna: from, to, differences in E, N, U, weights, then the heights of the two antennas above their marks. */
+static const int64_t gnss[] = {1, 3, 4000120, -500090, 239850, 25, 0, 0, 25, 0, 16, 154320, 148910};
 
 /* Slope distances that the crew taped after setting out: from, to, distance, heights of instrument and target above their marks, tolerance. The second was read 10 cm too long. */
 static const int64_t taped[][6] = {
@@ -61,6 +64,15 @@ static void enter_and_undo(void) {
     number("an undo", dombrelat_undo(book, sizeof book));
     read_record(5, record);
     printf(", and after an undo %" PRId64 "\n", record[5]);
+}
+
+/* The book keeps a baseline as it was observed; the adjustment takes the U difference from mark to mark. */
+static void enter_gnss(void) {
+    const int64_t *b = gnss;
+    int64_t record[14];
+    number("a baseline", dombrelat_enter_baseline(book, sizeof book, 6, b[0], b[1], b[2], b[3], b[4], b[5], b[6], b[7], b[8], b[9], b[10], b[11], b[12]));
+    read_record(6, record);
+    printf("place 6 holds a baseline: U %" PRId64 " from antenna to antenna, %" PRId64 " from mark to mark\n", record[5], record[5] + record[12] - record[13]);
 }
 
 /* Unknowns count by station, then E, N, U: a known station has none, a free one all three, a height station U alone. */
@@ -138,6 +150,7 @@ int main(void) {
     read_record(5, record);
     printf("a height difference 2 m off is refused with %d, and place 5 still holds %" PRId64 "\n", (int)DOMBRELAT_REFUSAL(result), record[5]);
     enter_and_undo();
+    enter_gnss();
 
     number("a proposal", dombrelat_propose(book, sizeof book, (uint8_t *)x, x_bytes, (uint8_t *)m, m_bytes));
     sheet_bytes = (size_t)number("the sheet's bytes", dombrelat_sheet_bytes(book, sizeof book));

@@ -27,7 +27,7 @@ HEIGHTS = ('accepted', 'accepted, where the observed difference would give 6', '
            '6 by the reduced difference alone')       # what the antenna heights of a baseline lead to
 
 # In how many inputs each test must see a kind of input, a message, a verdict or an accepted edit: somewhat less often than it does.
-EXAMPLES = {'input': 13, 'SHEET': 9, 'FAIL': 4, 'PASS': 9, 'GLOBAL LOW': 3, 'GLOBAL NONE': 1, 'GLOBAL PASS': 5, 'LINE k UNREADABLE': 1, 'NO PROPOSAL': 1,
+EXAMPLES = {'input': 14, 'SHEET': 10, 'FAIL': 4, 'PASS': 10, 'GLOBAL LOW': 3, 'GLOBAL NONE': 1, 'GLOBAL PASS': 6, 'LINE k UNREADABLE': 1, 'NO PROPOSAL': 1,
             'REFUSED 1': 1, 'REFUSED 11': 1, 'REFUSED 16': 1, **{'LINE k REFUSED %d' % no: 1 for no in range(2, 9)}}
 NAMED = {'input': 87, 'SHEET': 52, 'LOOSE': 10, 'PASS': 35, 'FAIL': 7, 'GLOBAL NONE': 9, 'LINE k UNREADABLE': 21, 'LINE k REFUSED 7': 4, 'LINE k REFUSED 8': 4, 'NO PROPOSAL': 6,
          'REFUSED 1': 13, 'REFUSED 10': 6, 'REFUSED 11': 1, 'REFUSED 12': 1, 'REFUSED 16': 1,
