@@ -5,11 +5,11 @@
 #include <pthread.h>
 #include <string.h>
 
-enum { FILL = 256, EDITS = 4000, ROWS = FILL + EDITS, WORDS = 14 };
+enum { FILL = 256, EDITS = 4000, ROWS = FILL + EDITS };
 
 uint64_t bench_replay(const int64_t *list, size_t words, const int64_t *calls, size_t call_words, int64_t *answers, size_t room);
 
-static int64_t list[17 * 4], calls[ROWS * WORDS], answers[ROWS], twin_answers[ROWS];
+static int64_t list[17 * 4], calls[ROWS * CALL_WORDS], answers[ROWS], twin_answers[ROWS];
 static int failed;
 
 /* one known station and 16 free ones; baselines between them, every one of which is accepted; among the last rows are strikes, undos and such as name no call */
@@ -18,17 +18,17 @@ static void sample(void) {
         list[s * 4] = s == 0 ? 1 : 2;
     }
     for (int k = 0; k < ROWS; k++) {
-        int f = k % 17, t = (f + 1 + k / 17 % 16) % 17, v = k % 1000;
-        int64_t row[WORDS] = {ENTER, k % 256 + 1, 1, f + 1, t + 1, v, -v, 2 * v, 100, 10, -10, 100, 10, 100};
+        int f = k % 17, t = (f + 1 + k / 17 % 16) % 17, v = k % 1000, from_height = 150000 + k % 79, to_height = 150000 - k % 73;
+        int64_t row[CALL_WORDS] = {ENTER, k % 256 + 1, 1, f + 1, t + 1, v, -v, 2 * v - from_height + to_height, 100, 10, -10, 100, 10, 100, from_height, to_height};
         if (k >= ROWS - 100) {
             row[0] = STRIKE + k % 3;
         }
-        memcpy(calls + k * WORDS, row, sizeof row);
+        memcpy(calls + k * CALL_WORDS, row, sizeof row);
     }
 }
 
 static void library(int rows) {
-    bench_replay(list, 17 * 4, calls, (size_t)rows * WORDS, answers, (size_t)rows);
+    bench_replay(list, 17 * 4, calls, (size_t)rows * CALL_WORDS, answers, (size_t)rows);
 }
 
 static void plain(int rows) {

@@ -17,6 +17,12 @@ int twin_open(book *b, const int64_t *list, size_t words)
     return 0;
 }
 
+/* from mark to mark; a height difference has no antenna heights */
+static int64_t reduced_up(const record *r)
+{
+    return r->up + r->from_height - r->to_height;
+}
+
 typedef struct {
     int at[6];
     int64_t weight[3][3], misclosure[3];
@@ -28,7 +34,7 @@ static equation equation_of(const book *b, const record *r)
     int number[COMPONENTS], unknowns = 0;
     int64_t coordinate[COMPONENTS];
     int f = (int)r->from - 1, t = (int)r->to - 1;
-    const int64_t observed[3] = { r->east, r->north, r->up };
+    const int64_t reduced[3] = { r->east, r->north, reduced_up(r) };
 
     for (int c = 0; c < COMPONENTS; c++) {
         const station *s = &b->stations[c / 3];
@@ -43,7 +49,7 @@ static equation equation_of(const book *b, const record *r)
         q.weight[2][2] = r->uu;
     }
     for (int a = 0; a < 3; a++) {
-        q.misclosure[a] = r->kind == 1 || a == 2 ? observed[a] - (coordinate[t * 3 + a] - coordinate[f * 3 + a]) : 0;
+        q.misclosure[a] = r->kind == 1 || a == 2 ? reduced[a] - (coordinate[t * 3 + a] - coordinate[f * 3 + a]) : 0;
         q.at[a] = number[f * 3 + a];
         q.at[a + 3] = number[t * 3 + a];
     }
@@ -80,6 +86,8 @@ static int record_no(const book *b, const record *r)
     if (!within(r->up, 1000000000) || r->uu < 1 || r->uu > 10000)
         return 4;
     if (r->kind == 1) {
+        if (r->from_height < 0 || r->from_height > 300000 || r->to_height < 0 || r->to_height > 300000 || !within(reduced_up(r), 1000000000))
+            return 4;
         if (!within(r->east, 1000000000) || !within(r->north, 1000000000) || r->ee < 1 || r->ee > 10000 || r->nn < 1 || r->nn > 10000
             || !within(r->en, 10000) || !within(r->eu, 10000) || !within(r->nu, 10000))
             return 4;
@@ -158,7 +166,7 @@ void twin_replay(const int64_t *list, size_t words, const int64_t *calls, size_t
     static edited e;
     twin_open(&b, list, words);
     for (size_t k = 0; k < rows; k++) {
-        e = call_by_value(b, calls[k * 14], calls[k * 14 + 1], twin_record(calls + k * 14));
+        e = call_by_value(b, calls[k * CALL_WORDS], calls[k * CALL_WORDS + 1], twin_record(calls + k * CALL_WORDS));
         answers[k] = e.refusal;
         b = e.after;
     }

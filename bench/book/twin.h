@@ -4,6 +4,7 @@
 
 enum { STATIONS = 32, COMPONENTS = 96, PLACES = 256, ROW = 48 };
 enum { ENTER = 1, STRIKE, UNDO }; /* the first word of a row of calls */
+enum { CALL_WORDS = 16 };         /* of a row: the call, the place, the record's 14 words */
 
 typedef struct {
     int64_t kind, east, north, up; /* 1 known, 2 free, 3 height; 0 beyond the list */
@@ -11,7 +12,7 @@ typedef struct {
 
 typedef struct {
     int64_t kind; /* 0 empty, 1 baseline, 2 height difference: weight in uu */
-    int64_t from, to, east, north, up, ee, en, eu, nn, nu, uu;
+    int64_t from, to, east, north, up, ee, en, eu, nn, nu, uu, from_height, to_height;
 } record;
 
 typedef struct {

@@ -140,7 +140,8 @@ int64_t twin_check_sheet(const int64_t *book, const int64_t *x, size_t nx, const
         }
         for (c = w[0] == 1 ? 0 : 2; c < 3; c++) {
             int f = 3 * ((int)w[1] - 1) + c, e = 3 * ((int)w[2] - 1) + c;
-            int64_t l = w[3 + c] - (book[STATIONS + 4 * (e / 3) + 1 + c] - book[STATIONS + 4 * (f / 3) + 1 + c]);
+            int64_t reduced = c == 2 ? w[5] + w[12] - w[13] : w[3 + c]; /* from mark to mark: the last two are the antenna heights */
+            int64_t l = reduced - (book[STATIONS + 4 * (e / 3) + 1 + c] - book[STATIONS + 4 * (f / 3) + 1 + c]);
             int64_t variance = w[0] == 1 ? 1073741824 * adj[c] / det : 1073741824 / w[11];
             v[c] = l - ((at[e] < 0 ? 0 : x[at[e]]) - (at[f] < 0 ? 0 : x[at[f]]));
             variance -= entry(m, n, at[e], at[e]) + entry(m, n, at[f], at[f]) - entry(m, n, at[e], at[f]) - entry(m, n, at[f], at[e]);

@@ -4,7 +4,8 @@
 #include <stdlib.h>
 #include <string.h>
 
-enum { STATIONS = 2, PLACES = 130, NEXT = 3714, HELD = 3715, SLOTS = 3716, MATRIX = 4676, RIGHT = 6980, WORDS = 7028 };
+enum { LAYOUT = 2, STATIONS = 2, PLACES = 130, NEXT = 3714, HELD = 3715, SLOTS = 3716, MATRIX = 4676, RIGHT = 6980, WORDS = 7028 };
+enum { DIFFERENCE = 1000000000, ANTENNA_HEIGHT = 300000 }; /* the largest */
 
 static int within(int64_t v, int64_t limit) { return -limit <= v && v <= limit; }
 
@@ -12,7 +13,7 @@ static int within(int64_t v, int64_t limit) { return -limit <= v && v <= limit; 
 static int number(const int64_t *w, int at[96]) {
     int n = 0, q;
     int64_t count = w[1];
-    if (w[0] != 1 || count < 1 || count > 32) {
+    if (w[0] != LAYOUT || count < 1 || count > 32) {
         return -1;
     }
     for (q = 0; q < 96; q++) {
@@ -32,6 +33,9 @@ static int number(const int64_t *w, int at[96]) {
     return n >= 1 && n <= 48 ? n : -1;
 }
 
+/* The U difference from mark to mark; the words of the antenna heights are 0 in a height difference. */
+static int64_t reduced(const int64_t *r) { return r[5] + r[12] - r[13]; }
+
 /* 0 where the 14 words are a record by the rules, or all 0; else a refusal. The misclosures go to l. */
 static int rules(const int64_t *w, const int64_t *r, int64_t l[3]) {
     int c, k;
@@ -43,14 +47,17 @@ static int rules(const int64_t *w, const int64_t *r, int64_t l[3]) {
         }
         return 0;
     }
-    if (r[0] < 0 || r[0] > 2 || r[12] || r[13] || r[1] < 1 || r[1] > w[1] || r[2] < 1 || r[2] > w[1] || r[1] == r[2]) {
+    if (r[0] < 0 || r[0] > 2 || r[1] < 1 || r[1] > w[1] || r[2] < 1 || r[2] > w[1] || r[1] == r[2]) {
         return 3;
     }
-    if (!within(r[3], 1000000000) || !within(r[4], 1000000000) || !within(r[5], 1000000000) || r[11] < 1 || r[11] > 10000) {
+    if (!within(r[3], DIFFERENCE) || !within(r[4], DIFFERENCE) || !within(r[5], DIFFERENCE) || r[11] < 1 || r[11] > 10000) {
         return 4;
     }
     if (r[0] == 1) {
         int64_t ee = r[6], en = r[7], eu = r[8], nn = r[9], nu = r[10], uu = r[11], det;
+        if (r[12] < 0 || r[12] > ANTENNA_HEIGHT || r[13] < 0 || r[13] > ANTENNA_HEIGHT || !within(reduced(r), DIFFERENCE)) {
+            return 4;
+        }
         if (ee < 1 || ee > 10000 || nn < 1 || nn > 10000 || !within(en, 10000) || !within(eu, 10000) || !within(nu, 10000)) {
             return 4;
         }
@@ -58,12 +65,12 @@ static int rules(const int64_t *w, const int64_t *r, int64_t l[3]) {
         if (ee * nn - en * en <= 0 || det <= 0 || nn * uu - nu * nu > 16 * det || ee * uu - eu * eu > 16 * det || ee * nn - en * en > 16 * det) {
             return 5;
         }
-    } else if (r[3] || r[4] || r[6] || r[7] || r[8] || r[9] || r[10]) {
+    } else if (r[3] || r[4] || r[6] || r[7] || r[8] || r[9] || r[10] || r[12] || r[13]) {
         return 3;
     }
     for (c = 0; c < 3; c++) {
         const int64_t *f = w + STATIONS + 4 * (r[1] - 1), *t = w + STATIONS + 4 * (r[2] - 1);
-        l[c] = r[0] == 1 || c == 2 ? r[3 + c] - (t[1 + c] - f[1 + c]) : 0;
+        l[c] = r[0] == 1 || c == 2 ? (c == 2 ? reduced(r) : r[3 + c]) - (t[1 + c] - f[1 + c]) : 0;
         if (!within(l[c], 100000)) {
             return 6;
         }
@@ -130,7 +137,7 @@ static int sound(const int64_t *w, int at[96]) {
     return memcmp(fresh, w + MATRIX, sizeof fresh) == 0;
 }
 
-int64_t twin_enter_baseline(uint8_t *bytes, size_t n, int64_t place, const int64_t numbers[11]) {
+int64_t twin_enter_baseline(uint8_t *bytes, size_t n, int64_t place, const int64_t numbers[13]) {
     int64_t *w = (int64_t *)bytes, *old, *slot, l[3], before[3], r[14] = {1};
     int at[96], no;
     if (n < 8 * WORDS || !sound(w, at)) {
@@ -139,7 +146,7 @@ int64_t twin_enter_baseline(uint8_t *bytes, size_t n, int64_t place, const int64
     if (place < 1 || place > 256) {
         return 2;
     }
-    memcpy(r + 1, numbers, 11 * sizeof *r);
+    memcpy(r + 1, numbers, 13 * sizeof *r);
     no = rules(w, r, l);
     if (no) {
         return no;

@@ -12,7 +12,7 @@ typedef struct {
 
 typedef struct {
     int kind; /* 0 empty, 1 baseline, 2 height difference */
-    int64_t from, to, east, north, up, ee, en, eu, nn, nu, uu;
+    int64_t from, to, east, north, up, ee, en, eu, nn, nu, uu, from_height, to_height;
 } record;
 
 static void sample(station stations[STATIONS], record places[PLACES])
@@ -22,7 +22,7 @@ static void sample(station stations[STATIONS], record places[PLACES])
         stations[s].kind = 1;
     for (int p = 0; p < PLACES; p++) {
         int f = p % 17, t = (f + 1 + p / 17) % 17;
-        places[p] = (record) { 1, f + 1, t + 1, p, p, p, 100, 10, -10, 100, 10, 100 };
+        places[p] = (record) { 1, f + 1, t + 1, p, p, p, 100, 10, -10, 100, 10, 100, 0, 0 };
     }
 }
 
@@ -53,7 +53,7 @@ static void normals(const station stations[STATIONS], const record places[PLACES
             continue;
         int f = (int)r->from - 1, t = (int)r->to - 1;
         int64_t weight[3][3] = { { r->ee, r->en, r->eu }, { r->en, r->nn, r->nu }, { r->eu, r->nu, r->uu } };
-        int64_t observed[3] = { r->east, r->north, r->up };
+        int64_t reduced[3] = { r->east, r->north, r->up + r->from_height - r->to_height };
         int64_t misclosure[3], weighted[3];
         int at[6];
 
@@ -63,7 +63,7 @@ static void normals(const station stations[STATIONS], const record places[PLACES
                     if (a != 2 || b != 2)
                         weight[a][b] = 0;
         for (int a = 0; a < 3; a++) {
-            misclosure[a] = observed[a] - (coordinate[t * 3 + a] - coordinate[f * 3 + a]);
+            misclosure[a] = reduced[a] - (coordinate[t * 3 + a] - coordinate[f * 3 + a]);
             at[a] = number[f * 3 + a];
             at[a + 3] = number[t * 3 + a];
         }
