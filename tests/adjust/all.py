@@ -39,7 +39,7 @@ LIMITS = {'input': 369, 'GLOBAL LOW': 90, 'GLOBAL PASS': 180, 'GLOBAL HIGH': 90,
 PIECES = {'input': 200, 'SHEET': 40, 'LINE k UNREADABLE': 80, 'LINE k REFUSED 7': 30, 'NO PROPOSAL': 6, 'REFUSED 1': 35, 'REFUSED 10': 30, 'REFUSED 11': 25, 'REFUSED 14': 8,
           **{kind.__name__: 2 * share for kind, share in inputs.KINDS}}
 WHOLE = {'input': 900, 'SHEET': 240, 'NO PROPOSAL': 30, 'REFUSED 1': 180, 'REFUSED 11': 150, 'LINE k UNREADABLE': 400, 'LINE k REFUSED 7': 150}
-WITH_R = {'input': 400, 'R put before a line': 320, 'SHEET': 100, 'LINE k UNREADABLE': 180, 'LINE k REFUSED 7': 70, 'NO PROPOSAL': 12, 'REFUSED 11': 50, 'REFUSED 14': 15,
+WITH_R = {'input': 400, 'R put before a line': 320, 'R B and 12 numbers': 160, 'R B and 13 numbers': 6, 'R B and 14 numbers': 200, 'SHEET': 100, 'LINE k UNREADABLE': 180, 'LINE k REFUSED 7': 70, 'NO PROPOSAL': 12, 'REFUSED 11': 50, 'REFUSED 14': 15,
           'R enter at an empty place': 240, 'R enter over another record': 95, 'R enter over an equal record': 40, 'undo of enter at an empty place': 90,
           'undo of enter over another record': 60, 'undo of enter over an equal record': 28, **{'LINE k REFUSED %d' % no: 8 for no in range(2, 7)},
           **{kind.__name__: 4 * share for kind, share in inputs.KINDS}}

@@ -64,12 +64,8 @@ class Survey:
         seen = tuple(b[c] - a[c] + rng.randint(-self.noise, self.noise) for c in (1, 2, 3))
         if rng.random() < 0.45:
             return survey.Level(start, end, seen[2], rng.randint(1, self.scale))
-        return self.baseline(start, end, seen, antennas.heights(rng))
-
-    def baseline(self, start, end, reduced, heights):
-        """The baseline from antenna to antenna, of its reduced differences."""
-        east, north, up = reduced
-        return survey.Baseline(start, end, (east, north, up - heights[0] + heights[1]), weights(self.rng, self.scale), heights)
+        heights = antennas.heights(rng)
+        return survey.Baseline(start, end, (*seen[:2], seen[2] - heights[0] + heights[1]), weights(rng, self.scale), heights)
 
     def record(self):
         return self.between(*self.rng.sample(range(1, len(self.rows) + 1), 2))

@@ -35,6 +35,14 @@ def first_difference(got, want):
     return 'line %d is %r, not %r' % (k + 1, shown(g), shown(w))
 
 
+def is_number(field):
+    try:
+        lines.number(field)
+    except lines.Unreadable:
+        return False
+    return True
+
+
 class Noted(lines.Run):
     """The reference, with what accepted edits find at their place, as `enter over another record`, and where R is before the line `R enter over another record`; with the counts of
     numbers on B lines, and what the antenna heights of baselines lead to."""
@@ -46,9 +54,9 @@ class Noted(lines.Run):
 
     def apply(self, line):
         self.mark = 'R ' if line[:2] == b'R ' else ''
-        fields = line[len(self.mark):].split(b' ')
-        if fields[0] == b'B' and all(field.lstrip(b'-').isdigit() for field in fields[1:]):
-            self.found.add('%sB and %d numbers' % (self.mark, len(fields) - 1))
+        head, *fields = line[len(self.mark):].split(b' ')
+        if head == b'B' and all(map(is_number, fields)):
+            self.found.add('%sB and %d numbers' % (self.mark, len(fields)))
         return super().apply(line)
 
     def edit(self, call, *arguments):

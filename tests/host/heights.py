@@ -114,9 +114,8 @@ class Heights(Comparison):
     def opened(self):
         """(the library's bytes, the model) of a new book"""
         r = self.rng
-        kinds_ = [survey.KNOWN, *(r.choice([survey.KNOWN, survey.FREE, survey.HEIGHT]) for _ in UPS[2:]), survey.FREE]
-        rows = [(kind, r.randint(-300_000, 300_000), r.randint(-300_000, 300_000), up) for kind, up in zip(kinds_, UPS)]
-        return self.opened_on(rows)
+        held_or_not = [survey.KNOWN, *(r.choice([survey.KNOWN, survey.FREE, survey.HEIGHT]) for _ in UPS[2:]), survey.FREE]
+        return self.opened_on([(kind, r.randint(-300_000, 300_000), r.randint(-300_000, 300_000), up) for kind, up in zip(held_or_not, UPS)])
 
     def opened_on(self, rows):
         book = Buffer(bytes(BYTES))
