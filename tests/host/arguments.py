@@ -134,7 +134,7 @@ class Arguments:
         net = book.net
         x = (self.exact(book) or ([0] * net.n,))[0]
         start, end = (r.randint(1, len(net.stations)) for _ in range(2))
-        heights = [r.randint(0, survey.MOST_HEIGHT) for _ in range(2)]
+        heights = [r.randint(0, survey.MOST_HEIGHT_ABOVE_MARK) for _ in range(2)]
         tolerance = r.choice([0, 1, 50, 3_000])
         between = survey.CheckDistance(start, end, 0, *heights, tolerance)
         length = math.isqrt(survey.squared_distance(survey.adjusted(net, x, start), survey.adjusted(net, x, end), between))

@@ -22,9 +22,9 @@ RANDOM_NETWORKS, SQUARE_NETWORKS, CORNER_NETWORKS = 34, 24, 6
 AROUND, ANYWHERE = 12, 150                 # of each network's distances: those whose limits are looked for, each ten times, and those anywhere
 CORNER = 500_000_000                       # the largest coordinate
 FIELDS = [f.name for f in fields(survey.CheckDistance)]
-LIMITS = {'distance': (1, survey.MOST_DISTANCE), 'instrument_height': (0, survey.MOST_HEIGHT), 'target_height': (0, survey.MOST_HEIGHT), 'tolerance': (0, survey.MOST_TOLERANCE)}
+LIMITS = {'distance': (1, survey.MOST_DISTANCE), 'instrument_height': (0, survey.MOST_HEIGHT_ABOVE_MARK), 'target_height': (0, survey.MOST_HEIGHT_ABOVE_MARK), 'tolerance': (0, survey.MOST_TOLERANCE)}
 HEADER = {'BAD_ENDS': 3, 'BAD_DISTANCE': 17, 'DISAGREES': survey.DISAGREES,
-          'DISTANCE_MAX': survey.MOST_DISTANCE, 'HEIGHT_ABOVE_MARK_MAX': survey.MOST_HEIGHT, 'TOLERANCE_MAX': survey.MOST_TOLERANCE}      # what it must say
+          'DISTANCE_MAX': survey.MOST_DISTANCE, 'HEIGHT_ABOVE_MARK_MAX': survey.MOST_HEIGHT_ABOVE_MARK, 'TOLERANCE_MAX': survey.MOST_TOLERANCE}      # what it must say
 BESIDE = {-1: 'one below', 0: 'at', 1: 'one above'}
 SIZES = {'to 10^6': 10 ** 6, 'to 10^12': 10 ** 12, 'to 10^18': 10 ** 18, 'to 2.9·10^18': 29 * 10 ** 17, 'to 3·10^18': 3 * 10 ** 18, 'above': 2 ** 63}      # of D²
 
@@ -106,7 +106,7 @@ class Distances(Comparison):
         corner = [-CORNER * t for t in toward]
         wanted, distances = [(survey.KNOWN, corner)], []
         for _ in range(16):
-            heights = [r.choice([0, survey.MOST_HEIGHT, r.randint(0, survey.MOST_HEIGHT)]) for _ in range(2)]
+            heights = [r.choice([0, survey.MOST_HEIGHT_ABOVE_MARK, r.randint(0, survey.MOST_HEIGHT_ABOVE_MARK)]) for _ in range(2)]
             *sides, root = self.near_square(r.choice([-1, 0, 1]), 2 * CORNER // 10 ** r.choice([0, 0, 1, 2, 3, 4, 5, 6, 7]))
             at = [v + side * t for v, side, t in zip(corner, sides, toward)]
             at[2] -= heights[1] - heights[0]
@@ -162,7 +162,7 @@ class Distances(Comparison):
         """A distance within the limits of 3 and 17; with an accepted pair most are near D."""
         r = self.rng
         start, end = r.sample(range(1, len(pair.model.rows) + 1), 2)
-        heights = [r.choice([0, survey.MOST_HEIGHT, r.randint(0, survey.MOST_HEIGHT), r.randint(0, survey.MOST_HEIGHT)]) for _ in range(2)]
+        heights = [r.choice([0, survey.MOST_HEIGHT_ABOVE_MARK, r.randint(0, survey.MOST_HEIGHT_ABOVE_MARK), r.randint(0, survey.MOST_HEIGHT_ABOVE_MARK)]) for _ in range(2)]
         tolerance = r.choice([0, 1, r.randint(0, 1_000), r.randint(0, survey.MOST_TOLERANCE), survey.MOST_TOLERANCE])
         d = survey.CheckDistance(start, end, r.randint(tolerance + 1, survey.MOST_DISTANCE), *heights, tolerance)
         if pair.sheet and r.random() < 0.8:

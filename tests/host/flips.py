@@ -33,7 +33,7 @@ def full_book():
             start, end = rng.sample(range(1, 33), 2)
             d = [book.net.at(end).coordinate(c) - book.net.at(start).coordinate(c) + rng.randint(-500, 500) for c in range(3)]
             if place % 3:
-                heights = tuple(rng.choice([0, rng.randint(0, survey.MOST_ANTENNA_HEIGHT)]) for _ in range(2))
+                heights = tuple(rng.choice([0, rng.randint(0, survey.MOST_HEIGHT_ABOVE_MARK)]) for _ in range(2))
                 d[2] += heights[1] - heights[0]
                 r = survey.Baseline(start, end, tuple(d), (rng.randint(50, 900), rng.randint(-9, 9), rng.randint(-9, 9), rng.randint(50, 900), rng.randint(-9, 9), rng.randint(50, 900)), heights)
             else:

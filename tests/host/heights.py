@@ -22,7 +22,7 @@ BOOKS = 30
 AT_LIMITS = 60                             # baselines of each book at the limits of the differences, and as many at those of the misclosures
 END = 500_000_000                          # of the range of coordinates
 FAR = (-2 ** 63, -2 ** 63 + 1, -2 ** 62, 2 ** 62, 2 ** 63 - 2, 2 ** 63 - 1)      # heights and differences
-HEADER = {'OUT_OF_RANGE': 4, 'BAD_MISCLOSURE': 6, 'ANTENNA_HEIGHT_MAX': MOST}      # what it must say
+HEADER = {'OUT_OF_RANGE': 4, 'BAD_MISCLOSURE': 6, 'HEIGHT_ABOVE_MARK_MAX': MOST}      # what it must say
 UPS = (-END, END, -END, END, 0, 70_000)    # U of the stations
 LAST = 256                                 # the place that the baselines are entered at; the network is at the first ones
 

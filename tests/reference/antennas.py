@@ -1,7 +1,7 @@
 """Random antenna heights of a baseline, for the tests of request 4: by the rules, and such as bring the U difference to a limit."""
 import survey
 
-MOST = survey.MOST_ANTENNA_HEIGHT
+MOST = survey.MOST_HEIGHT_ABOVE_MARK
 NEAR = (-1, 0, 1, MOST - 1, MOST, MOST + 1)             # both sides of the limits of a height
 
 

@@ -29,7 +29,7 @@ def of_heights(net, r):
     up, provisional = r.observed[2], net.provisional(r, 2)
     if survey.record_number(net, replace(r, observed=(*r.observed[:2], provisional), heights=(0, 0))) != 0:
         return None
-    if not all(0 <= h <= survey.MOST_ANTENNA_HEIGHT for h in r.heights):
+    if not all(0 <= h <= survey.MOST_HEIGHT_ABOVE_MARK for h in r.heights):
         return '4 by a height'
     reduced = r.reduced[2]
     beyond = [name for name, v in (('observed', up), ('reduced', reduced)) if abs(v) > survey.MOST_DIFFERENCE]

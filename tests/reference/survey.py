@@ -12,8 +12,9 @@ CHI_SQUARE = [  # 95% limits in thousandths, D = 1 to 30
     (9591, 34170), (10283, 35479), (10982, 36781), (11689, 38076), (12401, 39364), (13120, 40646), (13844, 41923), (14573, 43195),
     (15308, 44461), (16047, 45722), (16791, 46979)]
 PASS, FAIL, LOOSE, LOW, HIGH, NONE = range(6)
-MOST_DIFFERENCE, MOST_MISCLOSURE, MOST_ANTENNA_HEIGHT = 1_000_000_000, 100_000, 300_000      # of a record
-MOST_DISTANCE, MOST_HEIGHT, MOST_TOLERANCE = 1_800_000_000, 300_000, 100_000      # of a check distance
+MOST_DIFFERENCE, MOST_MISCLOSURE = 1_000_000_000, 100_000      # of a record
+MOST_HEIGHT_ABOVE_MARK = 300_000       # of an antenna, of the instrument and the target of a check distance
+MOST_DISTANCE, MOST_TOLERANCE = 1_800_000_000, 100_000         # of a check distance
 DISAGREES = -2                         # the answer to a check distance that does not agree
 
 
@@ -143,7 +144,7 @@ def record_number(net, r):
         return 4
     if isinstance(r, Baseline):
         ee, en, eu, nn, nu, uu = r.weights
-        if not all(0 <= h <= MOST_ANTENNA_HEIGHT for h in r.heights):
+        if not all(0 <= h <= MOST_HEIGHT_ABOVE_MARK for h in r.heights):
             return 4
         if not all(1 <= w <= 10_000 for w in (ee, nn, uu)) or any(abs(w) > 10_000 for w in (en, eu, nu)):
             return 4
@@ -330,7 +331,7 @@ def sheet(net, records, x, m):
 
 def in_range(d):
     """Whether the values of a check distance are within their limits."""
-    heights = all(0 <= h <= MOST_HEIGHT for h in (d.instrument_height, d.target_height))
+    heights = all(0 <= h <= MOST_HEIGHT_ABOVE_MARK for h in (d.instrument_height, d.target_height))
     return heights and 1 <= d.distance <= MOST_DISTANCE and 0 <= d.tolerance <= MOST_TOLERANCE and d.tolerance < d.distance
 
 
