@@ -24,7 +24,6 @@ use Rattle.acceptance.specs.Exactly.{answer}
 use Rattle.book.specs.declared.Book.{Book}
 use Rattle.residuals.specs.Residuals.{residual, shareT, T, shareD, D, isRecord, recordCount}
 use Rattle.residuals.specs.AtMarks.{marks-record, marks-variance, marks-shareD, marks-residual, marks-shareT}
-use Rattle.residuals.specs.Verdicts.{verdictWord, globalVerdict}
 use Rattle.sheet.specs.Sheet.{verdictAt, recordLineWords, recordLinesWords, globalWords, sheetWords, lineLength, room}
 use Rattle.checks.specs.Checks.{sizesFit, thenNine, checked}
 

@@ -1,7 +1,7 @@
 -- Document 02, request 4: a record is entered with its antenna heights, or taken to the marks. Where the first is not refused the second is not, and the two books have the same N and u,
 -- residuals, T, answers of the check and sheets. Assumes nothing.
 use Prim.Native.Nat.{ℕ, _<_}
-use mathlib.Core.Path.{_≡_, refl, sym, ap, ap₂, _∙_}
+use mathlib.Core.Path.{_≡_, refl, sym, ap, _∙_}
 use mathlib.Core.Bool.{Bool, true, false, cond}
 use native.Mathlib.Omega.{arith}
 use lib.Dec.{eqb}

@@ -1,4 +1,4 @@
--- Laws of commands: numbers that were read into an array of just their count, and the cases of each line. Assumes nothing.
+-- Laws of commands: numbers that were read into an array, and the cases of each line. Assumes nothing.
 use mathlib.Core.Path.{_≡_, refl, sym, ap, ap₂, _∙_}
 use mathlib.Core.Bool.{Bool, true, false, cond}
 use mathlib.Core.List.{List, [], _∷_, _++_}

@@ -3,7 +3,7 @@ use mathlib.Core.Path.{_≡_, refl}
 use mathlib.Core.Bool.{true, false}
 use mathlib.Core.List.{List, [], _∷_}
 use Prim.Native.Nat.{ℕ}
-use lib.IntN.{pos}
+use lib.IntN.{ℤ, pos}
 use Rattle.network.specs.declared.Kind.the-variants as kind
 use Rattle.network.specs.declared.Record.the-variants as record-of
 use Rattle.book.specs.declared.Change.the-variants.{Enter, Strike}
@@ -12,6 +12,7 @@ use Rattle.text.specs.Before.{before}
 use Rattle.text.specs.Numbers.{allDigits, isDecimal, valueAfter, signedOf, numberIn}
 use Rattle.text.specs.Fields.{fieldsOf, restFields, letterOf, numbersIn, atMost}
 use Rattle.commands.specs.Commands.{exactly, entryOf, entered, afterR, undoOf, countedAs, stationOfKind, numberedInTurn, stationOf, otherOf, fieldsCommand, commandOf}
+use Rattle.commands.specs.declared.Command.{Command}
 use Rattle.commands.specs.declared.Command.the-variants.{Station, Call, Corrections, Unreadable}
 
 -- `S 2 V 0 0 7`, after one S line
@@ -39,6 +40,27 @@ enters = refl
 enters-after-R : commandOf 2 false (82 ∷ 32 ∷ level-line) ≡ Call (Edit (pos 1) (Enter (record-of.Height (record { from = pos 1; to = pos 2; up = pos 9; weight = pos 3 }))))
 unfolding level-line commandOf fieldsCommand otherOf afterR entered entryOf exactly letterOf restFields fieldsOf before numbersIn numberIn signedOf isDecimal allDigits valueAfter
 enters-after-R = refl
+
+-- `B 1 1 2 3 4 5 6 7 8 9 1 2`, without antenna heights; with `7 8`, those heights; with `7` alone
+baseline-line : List ℕ → List ℕ
+baseline-line heights =
+    66 ∷ 32 ∷ 49 ∷ 32 ∷ 49 ∷ 32 ∷ 50 ∷ 32 ∷ 51 ∷ 32 ∷ 52 ∷ 32 ∷ 53 ∷ 32 ∷ 54 ∷ 32 ∷ 55 ∷ 32 ∷ 56 ∷ 32 ∷ 57 ∷ 32 ∷ 49 ∷ 32 ∷ 50 ∷ heights
+
+baseline : ℤ → ℤ → Command
+baseline hf ht =
+    Call (Edit (pos 1) (Enter (record-of.Baseline (record { from = pos 1; to = pos 2; east = pos 3; north = pos 4; up = pos 5; ee = pos 6; en = pos 7; eu = pos 8; nn = pos 9; nu = pos 1; uu = pos 2; hf = hf; ht = ht }))))
+
+from-mark-to-mark : commandOf 2 false (baseline-line []) ≡ baseline (pos 0) (pos 0)
+unfolding baseline-line baseline commandOf fieldsCommand otherOf entered entryOf exactly letterOf restFields fieldsOf before numbersIn numberIn signedOf isDecimal allDigits valueAfter
+from-mark-to-mark = refl
+
+from-antenna-to-antenna : commandOf 2 false (baseline-line (32 ∷ 55 ∷ 32 ∷ 56 ∷ [])) ≡ baseline (pos 7) (pos 8)
+unfolding baseline-line baseline commandOf fieldsCommand otherOf entered entryOf exactly letterOf restFields fieldsOf before numbersIn numberIn signedOf isDecimal allDigits valueAfter
+from-antenna-to-antenna = refl
+
+one-height-alone : commandOf 2 false (baseline-line (32 ∷ 55 ∷ [])) ≡ Unreadable
+unfolding baseline-line commandOf fieldsCommand otherOf entered entryOf exactly letterOf restFields fieldsOf before numbersIn numberIn signedOf isDecimal allDigits valueAfter
+one-height-alone = refl
 
 -- `D 7`, `U`, `R D 7`, `R U`, `U `
 strikes : commandOf 2 false (68 ∷ 32 ∷ 55 ∷ []) ≡ Call (Edit (pos 7) Strike)

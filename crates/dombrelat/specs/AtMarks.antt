@@ -1,28 +1,22 @@
 -- Document 02, request 4, over bytes: where the call that enters a record is answered 0, the same call with the record taken to the marks is (of a baseline with antenna heights the one
 -- with heights 0 whose observed U difference is the reduced one), and afterwards N and u kept, every check and every sheet are the same. Over books: checks, specs/EnterAtMarks.antt.
 -- Assumes nothing.
-use Prim.Native.Nat.{ℕ, _/_}
-use mathlib.Core.Path.{_≡_, sym, ap, _∙_, subst}
-use mathlib.Core.Bool.{Bool, true, _&&_}
+use Prim.Native.Nat.{ℕ}
+use mathlib.Core.Path.{_≡_, sym, ap, _∙_}
+use mathlib.Core.Bool.{Bool, true}
 use mathlib.Core.List.{List}
-use lib.Dec.{leb}
-use lib.ListN.{length}
 use lib.IntN.{ℤ, pos}
-use Rattle.words.specs.Runs.{putWords}
 use Rattle.network.specs.AtMarks.{atMarks}
 use Rattle.network.specs.declared.Record.{Record}
-use Rattle.book.specs.declared.Book.{Book}
 use Rattle.book.specs.declared.Change.the-variants.{Enter}
-use Rattle.book.specs.declared.Call.{Call}
 use Rattle.book.specs.declared.Call.the-variants.{Edit}
-use Rattle.book.specs.Book.{bookNext}
 use Rattle.book.specs.Sound.{sound-parts}
 use Rattle.layout.specs.Bytes.{bookOf, bytesFit}
 use Rattle.layout.specs.CodecLaws.{read-sized, fits-tested}
 use Rattle.checks.specs.AtMarks.{SameSheets}
 use Rattle.checks.specs.EnterAtMarks.{enter-at-marks}
 use Rattle.lent_checks.specs.LentChecks.{allWords, checkedLent}
-use Rattle.dombrelat.specs.CheckCalls.{checkCall, Judged, judgedLent, sheetCall}
+use Rattle.dombrelat.specs.CheckCalls.{checkCall, sheetCall}
 use Rattle.dombrelat.specs.Demand3.{bytesNext, bytesSays}
 use Rattle.dombrelat.specs.Demand3Holds.{says-same, says-fits, holds-own, edited-next}
 

@@ -1,5 +1,5 @@
 -- What the C calls answer and leave (Calls, CheckCalls, Proposal, Reading), the three demands over bytes (Demand1, Demand2, Demand3),
--- an edit with its undo (EditUndo), and their laws. The layout of a book's bytes is in crate layout.
+-- an edit with its undo (EditUndo), a record with antenna heights and the same taken to the marks (AtMarks), and their laws. The layout of a book's bytes is in crate layout.
 pub mod Calls
 pub mod CheckCalls
 pub mod Proposal
@@ -11,6 +11,6 @@ pub mod Demand2Holds
 pub mod Demand3
 pub mod Demand3Holds
 pub mod EditUndo
+pub mod AtMarks
 pub mod ReadingLaws
 pub mod DistanceLaws
-pub mod AtMarks

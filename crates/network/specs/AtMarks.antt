@@ -1,17 +1,19 @@
 -- A record taken to the marks: of a baseline the one with heights 0 whose observed U difference is the reduced one. It joins, weighs and closes as the record itself, and is by the
 -- rules where that is. Assumes nothing.
-use Prim.Native.Nat.{ℕ}
+use Prim.Native.Nat.{ℕ, _≤_}
 use mathlib.Core.Path.{_≡_, refl, ap}
 use mathlib.Core.Bool.{true}
 use mathlib.Core.List.{List, [], _∷_}
-use lib.IntN.{ℤ, pos}
+use borrow.Author.Tests.{le-leb}
+use lib.IntN.{ℤ, pos, natAbs}
 use Rattle.words.specs.Bools.{and-both}
 use Rattle.weights.specs.Rules.{weightsInRange}
 use Rattle.lists.specs.All.{each}
 use Rattle.network.specs.Stations.{coordinates}
 use Rattle.network.specs.Records.{weightMatrixOf, observations, acts, fromOf, toOf, joins, weights, reducedUp, reduced, misclosureIn, misclosures}
 use Rattle.network.specs.RecordLaws.{no-heights}
-use Rattle.network.specs.Rules.{observedFits, heightAboveMarkFits, upInRange, baselineInRange, misclosureFits, recordNoOver, recordNo, recordFits}
+use Rattle.network.specs.Rules.{observedFits, upInRange, baselineInRange, misclosureFits, recordNoOver, recordNo, recordFits}
+use Rattle.network.specs.Ranges.{baseline-range}
 use Rattle.network.specs.RuleLaws.{accepted-fits, baseline-fits}
 use Rattle.network.specs.declared.Network.{Network}
 use Rattle.network.specs.declared.Baseline.{Baseline}
@@ -98,17 +100,15 @@ unfolding misclosures misclosureIn
 marks-misclosures c r = rw (marks-acts 0 r, marks-acts 1 r, marks-acts 2 r, marks-from r, marks-to r, marks-reduced r) refl
 
 -- ════ where the record is by the rules, so is this one
-up-at-marks : (b : Baseline) → upInRange b ≡ true → upInRange (baselineAtMarks b) ≡ true
+up-at-marks : (b : Baseline) → natAbs (reducedUp b) ≤ 1000000000 → upInRange (baselineAtMarks b) ≡ true
 unfolding upInRange
-up-at-marks b e =
-    let u = each (observedFits (b .up) ∷ heightAboveMarkFits (b .hf) ∷ heightAboveMarkFits (b .ht) ∷ observedFits (reducedUp b) ∷ []) e .1 .1 .1 .0 in
-    rw (no-heights (baselineAtMarks b) refl refl, u) refl
+up-at-marks b h = rw (no-heights (baselineAtMarks b) refl refl, le-leb (natAbs (reducedUp b)) 1000000000 h) refl
 
 range-at-marks : (b : Baseline) → baselineInRange b ≡ true → baselineInRange (baselineAtMarks b) ≡ true
 unfolding baselineInRange
 range-at-marks b e =
     let t = each (observedFits (b .east) ∷ observedFits (b .north) ∷ upInRange b ∷ weightsInRange (weightMatrixOf b) ∷ []) e in
-    and-both _ _ (and-both _ _ (and-both _ _ (t .0) (t .1 .0)) (up-at-marks b (t .1 .1 .0))) (t .1 .1 .1 .0)
+    and-both _ _ (and-both _ _ (and-both _ _ (t .0) (t .1 .0)) (up-at-marks b (baseline-range b e .reduced))) (t .1 .1 .1 .0)
 
 closes-at-marks : (c : List ℤ) (b : Baseline) → misclosureFits c (baseline b) ≡ true → misclosureFits c (baseline (baselineAtMarks b)) ≡ true
 unfolding misclosureFits atMarks

@@ -1,12 +1,11 @@
 -- A record taken to the marks has the share in N and u of the record itself. Assumes nothing.
 use Prim.Native.Nat.{ℕ}
 use mathlib.Core.Path.{_≡_, refl, fun-ext}
+use mathlib.Core.List.{List}
 use Rattle.network.specs.Stations.{coordinates}
 use Rattle.network.specs.AtMarks.{atMarks, marks-acts, marks-from, marks-to, marks-joins, marks-weights, marks-misclosures}
 use Rattle.network.specs.declared.Station.{Station}
 use Rattle.network.specs.declared.Record.{Record}
-use mathlib.Core.List.{List}
-use lib.IntN.{ℤ}
 use Rattle.normals.specs.Formulas.{A, shareN, shareU}
 
 module _ (stations : List Station) (r : Record) where

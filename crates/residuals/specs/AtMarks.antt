@@ -1,7 +1,6 @@
 -- A record taken to the marks has the residuals, the variances and the share in T and D of the record itself. Assumes nothing.
 use Prim.Native.Nat.{ℕ}
 use mathlib.Core.Path.{_≡_, refl, fun-ext}
-use mathlib.Core.Bool.{Bool}
 use mathlib.Core.List.{List}
 use lib.IntN.{ℤ}
 use Rattle.network.specs.Records.{isEmpty}

@@ -108,7 +108,13 @@ fn baseline(s: u64) -> Record {
     let uu = above(s / 170, 400, 70);
     let hf = around(s / 190, 6000, 200);
     let ht = above(s / 230, 6000, 0);
-    network::baseline_of(from, to, [east, north, up], [ee, en, eu, nn, nu, uu], [hf, ht])
+    network::baseline_of(
+        from,
+        to,
+        [east, north, up],
+        [ee, en, eu, nn, nu, uu],
+        [hf, ht],
+    )
 }
 
 pub(crate) fn entry(s: u64) -> Record {

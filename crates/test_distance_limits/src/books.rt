@@ -34,7 +34,13 @@ fn entered(book: Book, place: i64, r: Record) -> Book {
 pub(crate) fn baseline(book: Book, place: i64, to: i64, east: i64, north: i64, up: i64) -> Book {
     print_list(b"baseline", &[1, to, east, north, up]);
     let weight = Unit::WEIGHT_AT_MILLIMETRE;
-    let b = network::baseline_of(1, to, [east, north, up], [weight, 0, 0, weight, 0, weight], [0, 0]);
+    let b = network::baseline_of(
+        1,
+        to,
+        [east, north, up],
+        [weight, 0, 0, weight, 0, weight],
+        [0, 0],
+    );
     entered(book, place, b)
 }
 

@@ -211,7 +211,13 @@ fn baseline(
     print_field(nn);
     print_field(nu);
     print_field(uu);
-    let b = network::baseline_of(from, to, [east, north, up], [ee, en, eu, nn, nu, uu], [0, 0]);
+    let b = network::baseline_of(
+        from,
+        to,
+        [east, north, up],
+        [ee, en, eu, nn, nu, uu],
+        [0, 0],
+    );
     print_answer(judged(b));
 }
 

@@ -1,6 +1,5 @@
 -- `baseline_entry`: by how many numbers there are. Of 12 the two heights are read as the 0 that the array had (`heights-lacking`). Assumes nothing.
 use mathlib.Core.Path.{refl, _∙_}
-use native.Mathlib.Omega.{arith}
 use native.Mathlib.Nat.{le-refl}
 use lib.Dec.{lit≤}
 use borrow.Author.Needs.{needs}
