@@ -101,13 +101,13 @@ static void print_sheet(const int64_t *word) {
     for (k = 0; k < count; k++, word += 7) {
         printf("%-10" PRId64 " %-10" PRId64 " %-10" PRId64 " %-10" PRId64 " %" PRId64 "\n", word[0], word[1], word[2], word[3], word[6]);
     }
-    printf("place      residual   local test\n");
+    printf("place      in  residual   local test\n");
     for (k = 0; k < records; k++) {
         int components; /* of a baseline 3, of a height difference 1 */
         read_record(word[0], record);
         components = record[0] == 1 ? 3 : 1;
         for (i = 1; i <= components; i++) {
-            printf("%-10" PRId64 " %-10" PRId64 " %s\n", word[0], word[i], verdicts[word[components + i]]);
+            printf("%-10" PRId64 " %c   %-10" PRId64 " %s\n", word[0], "ENU"[components == 1 ? 2 : i - 1], word[i], verdicts[word[components + i]]);
         }
         word += 1 + 2 * components;
     }

@@ -36,7 +36,8 @@ extern "C" {
 /* The version of this header and of the library that it belongs to. It goes up where an existing call gives another answer or is gone. 2: dombrelat_check_sheet leaves records between
  * two known stations out of the square sum, the degrees of freedom and so the global verdict; in 1 they counted. 3: dombrelat_enter_baseline and dombrelat_enter_height, which fill a
  * place or overwrite it, stand in place of four calls that added or replaced, and DOMBRELAT_PLACE_EMPTY (7) in place of DOMBRELAT_PLACE_TAKEN. 4: dombrelat_enter_baseline takes two
- * numbers more, the antenna heights. Compile a host anew with the header of its library: an object made with an earlier header passes no heights, and no linker tells.
+ * numbers more, the antenna heights. Compile a host anew with the header of its library: an object made with an earlier header passes no heights, and no linker tells; a host that
+ * declares the call itself adds them to its declaration.
  * The bytes of a book have a number of their own, that of their layout: it is 2, the book's first word. Books of versions 1 to 3 have 1 there and are refused with 25;
  * docs/BOOK.md says how to take one over. */
 #define DOMBRELAT_VERSION 4
@@ -88,7 +89,7 @@ extern "C" {
 #define DOMBRELAT_BAD_RESIDUAL 15     /* x does not solve the normal equations nearly enough */
 #define DOMBRELAT_BAD_SOLUTION 16     /* x may be further than one unit from the least squares answer */
 #define DOMBRELAT_BAD_DISTANCE 17     /* check_distance: a height not 0 to 300,000, a distance not 1 to 1,800,000,000, a tolerance not 0 to 100,000 or not below the distance */
-#define DOMBRELAT_BAD_BOOK 25         /* the lent book bytes are too short, damaged, or not a book */
+#define DOMBRELAT_BAD_BOOK 25         /* the lent book bytes are too short, damaged, of another layout (versions 1 to 3), or not a book */
 #define DOMBRELAT_NO_PROPOSAL (-1)    /* propose: no pair that the check accepts was found */
 #define DOMBRELAT_DISAGREES (-2)      /* check_distance: the distance does not agree with the sheet; an answer, as 0 is */
 
@@ -111,7 +112,7 @@ extern "C" {
 int64_t dombrelat_open(const uint8_t *list, size_t list_bytes, uint8_t *book, size_t book_bytes);
 
 /* Enters a baseline at a place (1 to 256), which it fills or overwrites: observed differences, to minus from, the symmetric weight matrix, and the heights of the two antennas above
- * their marks, 0 where the differences are from mark to mark. The reduced U difference is up + from_height - to_height: the misclosure is taken from it, and so are refusal 6, the normal
+ * their marks, vertical, in units, 0 where the differences are from mark to mark. The reduced U difference is up + from_height - to_height: the misclosure is taken from it, and so are refusal 6, the normal
  * equations, the residuals and the sheet. A record equal to the one that is there is entered as any other, and is an edit that can be taken back. Refusals: 25, 2, 3, 4, 5, 6. */
 int64_t dombrelat_enter_baseline(uint8_t *book, size_t book_bytes, int64_t place, int64_t from, int64_t to, int64_t east, int64_t north, int64_t up,
                                  int64_t ee, int64_t en, int64_t eu, int64_t nn, int64_t nu, int64_t uu, int64_t from_height, int64_t to_height);
@@ -160,7 +161,8 @@ int64_t dombrelat_sheet_bytes(const uint8_t *book, size_t book_bytes);
 int64_t dombrelat_stations(const uint8_t *book, size_t book_bytes, uint8_t *list, size_t list_bytes);
 
 /* Writes the 14 words of what a place holds: kind (0 empty, 1 baseline, 2 height difference), from, to, observed E, N, U, weights EE, EN, EU, NN, NU, UU, from_height, to_height. A
- * height difference has its difference in U and its weight in UU; what a record does not use is 0. Bytes beyond stay. Refusals: 25, 2, 10 (less than 112 bytes). */
+ * height difference has its difference in U and its weight in UU; what a record does not use is 0. U is as it was observed: of a baseline, from mark to mark it is word 5 + word 12 -
+ * word 13, counted from 0. Bytes beyond stay. Refusals: 25, 2, 10 (less than 112 bytes). */
 int64_t dombrelat_record(const uint8_t *book, size_t book_bytes, int64_t place, uint8_t *record, size_t record_bytes);
 
 #ifdef __cplusplus

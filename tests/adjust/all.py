@@ -22,9 +22,6 @@ from coverage import Seen
 
 INPUTS = 4160       # random inputs of a run: forty times the wheel of kinds
 NO_FREEDOM = 'D = 0 beside a check only'
-HEIGHTS = ('accepted', 'accepted, where the observed difference would give 6', '4 by a height', '4 by both differences', '4 by the observed difference alone, high',
-           '4 by the observed difference alone, low', '4 by the reduced difference alone, high', '4 by the reduced difference alone, low', '6 by both differences',
-           '6 by the reduced difference alone')       # what the antenna heights of a baseline lead to
 
 # In how many inputs each test must see a kind of input, a message, a verdict or an accepted edit: somewhat less often than it does.
 EXAMPLES = {'input': 14, 'SHEET': 10, 'FAIL': 4, 'PASS': 10, 'GLOBAL LOW': 3, 'GLOBAL NONE': 1, 'GLOBAL PASS': 6, 'LINE k UNREADABLE': 1, 'NO PROPOSAL': 1,
@@ -34,7 +31,7 @@ NAMED = {'input': 87, 'SHEET': 52, 'LOOSE': 10, 'PASS': 35, 'FAIL': 7, 'GLOBAL N
          'R enter at an empty place': 3, 'R enter over another record': 5, 'R enter over an equal record': 1, 'enter over another record': 8, 'enter over an equal record': 3,
          'undo of enter at an empty place': 6, 'undo of enter over another record': 4, 'undo of enter over an equal record': 3, 'undo of strike': 1,
          'LINE k REFUSED 4': 7, 'LINE k REFUSED 6': 2, **{'%sB and %d numbers' % (r, count): 1 for r in ('', 'R ') for count in range(11, 17)},
-         **{'antenna heights: ' + what: 1 for what in HEIGHTS if what != '6 by both differences'}}
+         **{'antenna heights: ' + what: 1 for what in kinds.HEIGHT_OUTCOMES if what != '6 by both differences'}}
 LIMITS = {'input': 369, 'GLOBAL LOW': 90, 'GLOBAL PASS': 180, 'GLOBAL HIGH': 90, 'GLOBAL NONE': 9}
 PIECES = {'input': 200, 'SHEET': 40, 'LINE k UNREADABLE': 80, 'LINE k REFUSED 7': 30, 'NO PROPOSAL': 6, 'REFUSED 1': 35, 'REFUSED 10': 30, 'REFUSED 11': 25, 'REFUSED 14': 8,
           **{kind.__name__: 2 * share for kind, share in inputs.KINDS}}
@@ -45,7 +42,7 @@ WITH_R = {'input': 400, 'R put before a line': 320, 'R B and 12 numbers': 160, '
           **{kind.__name__: 4 * share for kind, share in inputs.KINDS}}
 FROM_MARK_TO_MARK = {'input': 340, 'SHEET': 110, 'baseline with antenna heights': 100, 'PASS': 80, 'FAIL': 80, 'LOOSE': 40, 'GLOBAL PASS': 50, 'GLOBAL HIGH': 45, 'GLOBAL LOW': 2,
                      'LINE k UNREADABLE': 120, 'NO PROPOSAL': 5, 'REFUSED 11': 45, 'REFUSED 14': 18, 'B and 12 numbers': 150, 'B and 14 numbers': 220, 'R B and 12 numbers': 90, 'R B and 14 numbers': 130,
-                     'undo of enter over another record': 70, **{'LINE k REFUSED %d' % no: 18 for no in range(2, 7)}, **{'antenna heights: ' + what: 1 for what in HEIGHTS},
+                     'undo of enter over another record': 70, **{'LINE k REFUSED %d' % no: 18 for no in range(2, 7)}, **{'antenna heights: ' + what: 1 for what in kinds.HEIGHT_OUTCOMES},
                      'antenna heights: accepted': 190, 'antenna heights: accepted, where the observed difference would give 6': 190, 'antenna heights: 6 by the reduced difference alone': 12,
                      'network': 120, 'editing': 50, 'broken_bytes': 40, 'station_list': 20, 'proposed': 30, 'height_limits': 18}
 FAILING = {'input': 300, 'a sheet withheld': 50, 'within a line': 75, 'between lines': 120, 'messages': 100, 'no message': 90, 'a refused opening': 40}
@@ -61,7 +58,7 @@ RANDOM = {'input': INPUTS, 'SHEET': 1000, 'PASS': 700, 'FAIL': 600, 'LOOSE': 400
           'height difference free-height': 160, 'height difference height-height': 115, NO_FREEDOM: 25,
           'baseline with antenna heights': 850, 'baseline': 700, 'height difference': 800, 'B and 11 numbers': 10, 'B and 12 numbers': 1450, 'B and 13 numbers': 50, 'B and 14 numbers': 1900,
           'B and 15 numbers': 22, 'B and 16 numbers': 22, 'R B and 12 numbers': 740, 'R B and 13 numbers': 18, 'R B and 14 numbers': 1000, 'R B and 15 numbers': 16,
-          **{'antenna heights: ' + what: 25 for what in HEIGHTS}, 'antenna heights: accepted': 1500, 'antenna heights: accepted, where the observed difference would give 6': 1600,
+          **{'antenna heights: ' + what: 25 for what in kinds.HEIGHT_OUTCOMES}, 'antenna heights: accepted': 1500, 'antenna heights: accepted, where the observed difference would give 6': 1600,
           'antenna heights: 4 by a height': 70, 'antenna heights: 6 by both differences': 100, 'antenna heights: 6 by the reduced difference alone': 100,
           **{kind.__name__: INPUTS // len(inputs.WHEEL) * share - INPUTS // inputs.FULL_EVERY for kind, share in inputs.KINDS}}
 

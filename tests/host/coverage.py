@@ -34,9 +34,9 @@ CALLS = {
     'undone at once, history not full': {'enter at an empty place': 700, 'enter over another record': 300, 'enter over an equal record': 70},
     'undone at once, history full': {'enter at an empty place': 60, 'enter over another record': 40, 'enter over an equal record': 8},
     'undone at once, restored': {'nothing': 750, 'height difference': 200, 'baseline': 90, 'baseline with antenna heights': 120},
-    'baselines with antenna heights': {                                  # 4 by one difference alone is for heights.py
+    'baselines with antenna heights': {                                  # 4 by the reduced difference alone is for heights.py
         'accepted': 1700, 'accepted, where the observed difference would give 6': 2000, '4 by a height': 75, '4 by both differences': 9, '6 by both differences': 50,
-        '6 by the reduced difference alone': 20, '4 by the observed difference alone, high': 0, '4 by the observed difference alone, low': 0,
+        '6 by the reduced difference alone': 20, '4 by the observed difference alone, high': 2, '4 by the observed difference alone, low': 2,
         '4 by the reduced difference alone, high': 0, '4 by the reduced difference alone, low': 0},
     'check': {0: 240, 10: 450, 11: 450, 12: 20, 13: 20, 14: 25, 15: 30, 16: 50, 25: 1000},
     'check_sheet': {0: 440, 10: 550, 11: 500, 12: 25, 13: 20, 14: 30, 15: 25, 16: 40, 25: 1000},
@@ -114,6 +114,10 @@ HEIGHTS = {
     **{limit: dict.fromkeys(BESIDE_LIMITS, 20) for limit in ('differences beside 1000000000', 'differences beside -1000000000', 'misclosures beside 100000', 'misclosures beside -100000')},
     'undone at once, restored': {'baseline with antenna heights': 700, 'baseline': 80, 'nothing': 20},
     'from mark to mark': {'baseline with antenna heights': 90, 'baseline': 1},
+    'unknowns': {0: 800, 25: 500},
+    'a height in the journal': {
+        'accepted': 500, 'accepted, where the observed difference would give 6': 270, '4 by a height': 300, '4 by the reduced difference alone, high': 40,
+        '4 by the reduced difference alone, low': 35, '6 by both differences': 65, '6 by the reduced difference alone': 70, 'no heights left': 45},
 }
 
 # tests/host/flips.py, by the part of the book; the antenna heights are among the places and the journal

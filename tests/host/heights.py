@@ -1,17 +1,18 @@
 """Antenna heights on the static library, from a fixed seed: every answer and every byte of the book against the independent implementation in tests/reference. Among the stations
 are such at both ends of the range of U, so that the observed and the reduced U difference come to their limits, to either side of them, together and apart; and so do the
 misclosures of both. Heights at their limits and far beyond. A record that is entered is read back, and most are undone at once, which leaves every byte as it was. In the end the same
-records from mark to mark, without heights, give the same N and u, and the same sheet. Fails too where it meets less than coverage.py asks. Prints 'N passed, M failed' last.
+records from mark to mark, without heights, give the same N and u, and the same sheet. Heights of records that the journal would restore are changed in the bytes. Fails too where it meets less than coverage.py asks. Prints 'N passed, M failed' last.
 
     python3 tests/host/heights.py LIBRARY.so
 """
 from dataclasses import replace
+import struct
 import sys
 
 from comparison import Comparison
 from coverage import HEIGHTS
 from expected import entering, outcome, packed, words_in
-from layout import BYTES, MATRIX_AT, SLOTS, Book
+from layout import BYTES, HEIGHTS_AT, MATRIX_AT, SLOTS, SLOTS_AT, Book, record_of
 from library import Buffer, Header, Library
 import antennas
 from antennas import MOST, NEAR
@@ -137,6 +138,22 @@ class Heights(Comparison):
         for r in asked:
             self.enter(book, model, r)
         self.from_mark_to_mark(book, model)
+        self.in_the_journal(book.get(), model.net)
+
+    def in_the_journal(self, data, net):
+        """One height of a record that the journal would restore, one higher or lower in the bytes: a book where the record is still by the rules, else 25."""
+        for at in range(SLOTS_AT + 1, SLOTS_AT + 15 * SLOTS, 15):
+            r = record_of(struct.unpack_from('<14q', data, 8 * at))
+            if not isinstance(r, survey.Baseline):
+                continue
+            for end, step in ((0, -1), (0, 1), (1, -1), (1, 1)):
+                heights = tuple(h + step * (k == end) for k, h in enumerate(r.heights))
+                damaged = bytearray(data)
+                struct.pack_into('<q', damaged, 8 * (at + HEIGHTS_AT + end), heights[end])
+                changed = replace(r, heights=heights)
+                want = 25 if survey.record_number(net, changed) else 0
+                self.same('a height in the journal', self.call('unknowns', Buffer(bytes(damaged)))[0] % 256, want)
+                self.coverage.note('a height in the journal', kinds.of_heights(net, changed) or 'no heights left')
 
     def from_mark_to_mark(self, book, model):
         """The same records with their reduced differences and no heights: the same N, u and sheet, by the library alone."""

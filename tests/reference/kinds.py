@@ -22,8 +22,14 @@ def of_place(r):
     return RECORDS[type(r)] + (' with antenna heights' if isinstance(r, survey.Baseline) and any(r.heights) else '')
 
 
+# what the antenna heights and the U difference of a baseline lead to
+HEIGHT_OUTCOMES = ('accepted', 'accepted, where the observed difference would give 6', '4 by a height', '4 by both differences', '4 by the observed difference alone, high',
+                   '4 by the observed difference alone, low', '4 by the reduced difference alone, high', '4 by the reduced difference alone, low', '6 by both differences',
+                   '6 by the reduced difference alone')
+
+
 def of_heights(net, r):
-    """What the antenna heights and the U difference of a baseline lead to; None where it has no heights, or is refused for anything else."""
+    """That of this baseline; None where it has no heights, or is refused for anything else."""
     if not isinstance(r, survey.Baseline) or r.heights == (0, 0) or not survey.ends_fit(net, r):
         return None
     up, provisional = r.observed[2], net.provisional(r, 2)

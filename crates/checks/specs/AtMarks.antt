@@ -26,6 +26,7 @@ use Rattle.residuals.specs.Residuals.{residual, shareT, T, shareD, D, isRecord,
 use Rattle.residuals.specs.AtMarks.{marks-record, marks-variance, marks-shareD, marks-residual, marks-shareT}
 use Rattle.sheet.specs.Sheet.{verdictAt, recordLineWords, recordLinesWords, globalWords, sheetWords, lineLength, room}
 use Rattle.checks.specs.Checks.{sizesFit, thenNine, checked}
+use Rattle.checks.specs.SameShares.{SameShares, same-T, same-normals, same-checked, same-global}
 
 -- ════ the same records, taken to the marks
 abbrev pub SameAtMarks : List Place → List Place → Type 0
@@ -58,26 +59,6 @@ module _ (net : Network) (places others : List Place) (same : SameAtMarks places
   carried : {B : Type 0} (f : Record → B) → ((r : Record) → f (atMarks r) ≡ f r) → (p : ℕ) → p < 256 → f (recordAt places p) ≡ f (recordAt others p)
   carried f e p h = sym (e (recordAt places p)) ∙ ap f (same p h) ∙ e (recordAt others p)
 
-  all-N : entryN (net .stations) places ≡ entryN (net .stations) others
-  unfolding entryN
-  all-N = fun-ext (λ i. fun-ext (λ j. sum-ext 256 (carried (λ r. shareN (net .stations) r i j) (λ r. marks-shareN (net .stations) r i j))))
-
-  all-u : entryU (net .stations) places ≡ entryU (net .stations) others
-  unfolding entryU
-  all-u = fun-ext (λ i. sum-ext 256 (carried (λ r. shareU (net .stations) r i) (λ r. marks-shareU (net .stations) r i)))
-
-  pub same-entries : entriesFit (net .stations) places ≡ entriesFit (net .stations) others
-  unfolding entriesFit
-  same-entries = rw (all-N, all-u) refl
-
-  same-T : (x : List ℤ) → T (net .stations) places x ≡ T (net .stations) others x
-  unfolding T
-  same-T x = sum-ext 256 (carried (shareT (net .stations) x) (λ r. marks-shareT (net .stations) r x))
-
-  same-D : D (net .stations) places ≡ D (net .stations) others
-  unfolding D
-  same-D = ap (λ (k : ℕ). pos k -ℤ pos (unknownCount (net .stations))) (sumN-ext 256 (carried (shareD (net .stations)) (marks-shareD (net .stations))))
-
   same-count : recordCount places ≡ recordCount others
   unfolding recordCount
   same-count = sumN-ext 256 (carried isRecord marks-record)
@@ -93,10 +74,15 @@ module _ (net : Network) (places others : List Place) (same : SameAtMarks places
   unfolding isTied tiedSet
   same-tied = fun-ext (λ q. rw (same-edges (q % 3)) refl)
 
-  -- ════ so every test of a check, and every line of the sheet
-  same-checked : (x m : List ℤ) (fits : Bool) → thenNine (answer net places x m fits) (sizesFit net places x) ≡ thenNine (answer net others x m fits) (sizesFit net others x)
-  unfolding answer judge allTied firstUntied sizesFit
-  same-checked x m fits = rw (same-entries, all-N, all-u, same-tied, same-T x) refl
+  pub marks-shares : SameShares net places others
+  marks-shares =
+      record {
+        matrix = λ i j. carried (λ r. shareN (net .stations) r i j) (λ r. marks-shareN (net .stations) r i j);
+        right = λ i. carried (λ r. shareU (net .stations) r i) (λ r. marks-shareU (net .stations) r i);
+        squares = λ x. carried (shareT (net .stations) x) (λ r. marks-shareT (net .stations) r x);
+        freedom = carried (shareD (net .stations)) (marks-shareD (net .stations));
+        tied = same-tied;
+      }
 
   same-lines : (x m : List ℤ) (k : ℕ) → k ≤ 256 → recordLinesWords (net .stations) x m places k ≡ recordLinesWords (net .stations) x m others k
   unfolding recordLinesWords
@@ -105,8 +91,8 @@ module _ (net : Network) (places others : List Place) (same : SameAtMarks places
       ap₂ (λ (a b : List ℤ). a ++ b) (same-lines x m k (omega arith)) (carried (recordLineWords (net .stations) x m k) (line-at-marks (net .stations) x m k) k (omega arith))
 
   same-sheet : (x m : List ℤ) → sheetWords net places x m ≡ sheetWords net others x m
-  unfolding sheetWords globalWords
-  same-sheet x m = rw (same-count, same-lines x m 256 (omega arith), same-T x, same-D) refl
+  unfolding sheetWords
+  same-sheet x m = rw (same-count, same-lines x m 256 (omega arith), same-global marks-shares x) refl
 
 -- ════ two books over one station list whose records are the same taken to the marks
 pub record SameSheets (b c : Book) : Type 0 where
@@ -122,15 +108,18 @@ pub same-sheets : (b c : Book) → b .network ≡ c .network → SameAtMarks (b 
 unfolding checked
 same-sheets b c e same =
     record {
-      normals = rw (all-N net (b .places) (c .places) same, all-u net (b .places) (c .places) same) refl ∙ ap (λ (n : Network). normalsOf (n .stations) (c .places)) e;
+      normals = same-normals shares ∙ ap (λ (n : Network). normalsOf (n .stations) (c .places)) e;
       residuals =
           λ x p a h. carried net (b .places) (c .places) same (λ r. residual (net .stations) x r a) (λ r. marks-residual (net .stations) r x a) p h
           ∙ ap (λ (n : Network). residual (n .stations) x (recordAt (c .places) p) a) e;
-      squares = λ x. same-T net (b .places) (c .places) same x ∙ ap (λ (n : Network). T (n .stations) (c .places) x) e;
-      answers = λ x m fits. same-checked net (b .places) (c .places) same x m fits ∙ ap (λ (n : Network). thenNine (answer n (c .places) x m fits) (sizesFit n (c .places) x)) e;
+      squares = λ x. same-T shares x ∙ ap (λ (n : Network). T (n .stations) (c .places) x) e;
+      answers = λ x m fits. same-checked shares x m fits ∙ ap (λ (n : Network). thenNine (answer n (c .places) x m fits) (sizesFit n (c .places) x)) e;
       rooms = same-room net (b .places) (c .places) same ∙ ap (λ (n : Network). room n (c .places)) e;
       words = λ x m. same-sheet net (b .places) (c .places) same x m ∙ ap (λ (n : Network). sheetWords n (c .places) x m) e;
     }
   where
     net : Network
     net = b .network
+
+    shares : SameShares net (b .places) (c .places)
+    shares = marks-shares net (b .places) (c .places) same

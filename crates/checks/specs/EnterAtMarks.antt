@@ -7,10 +7,9 @@ use native.Mathlib.Omega.{arith}
 use lib.Dec.{eqb}
 use lib.IntN.{ℤ}
 use lib.ListN.{length}
-use Rattle.network.specs.Records.{recordAt, isEmpty}
+use Rattle.network.specs.Records.{recordAt}
 use Rattle.network.specs.Rules.{recordNo}
-use Rattle.network.specs.RuleLaws.{accepted-fits, accepted-filled, filled-accepted}
-use Rattle.network.specs.AtMarks.{atMarks, marks-again, marks-observations, marks-fit}
+use Rattle.network.specs.AtMarks.{atMarks, marks-again, marks-accepted}
 use Rattle.network.specs.declared.Network.{Network}
 use Rattle.network.specs.declared.Record.{Record}
 use Rattle.book.specs.declared.Book.{Book}
@@ -21,7 +20,8 @@ use Rattle.book.specs.CallLaws.{first-zero, place-inside, unless-none}
 use Rattle.book.specs.PlaceLaws.{record-set, placesOf-at}
 use Rattle.book.specs.Book.{edited, bookAccepts, bookSays, bookNext}
 use Rattle.book.specs.Sound.{Sized}
-use Rattle.checks.specs.AtMarks.{SameAtMarks, SameSheets, same-entries, same-sheets}
+use Rattle.checks.specs.SameShares.{same-entries}
+use Rattle.checks.specs.AtMarks.{SameAtMarks, SameSheets, marks-shares, same-sheets}
 
 -- ════ the record of a place, entered or taken to the marks
 changed-at-marks : (at : ℕ → Record) (p : ℕ) (r : Record) (k : ℕ) → atMarks (changed at p r k) ≡ atMarks (changed at p (atMarks r) k)
@@ -33,16 +33,12 @@ changed-at-marks at p r k = go (eqb k p)
     go false = refl
 
 -- ════ it is not refused
-accepted-at-marks : (net : Network) (r : Record) → recordNo net r ≡ 0 → recordNo net (atMarks r) ≡ 0
-unfolding isEmpty
-accepted-at-marks net r e = filled-accepted net (atMarks r) (marks-fit net r (accepted-fits net r e)) (ap (λ (n : ℕ). eqb n 0) (marks-observations r) ∙ accepted-filled net r e)
-
 same-size : (net : Network) (at : ℕ → Record) (p : ℕ) (r : Record) → sizeNo net at p r ≡ sizeNo net at p (atMarks r)
 unfolding sizeNo
 same-size net at p r =
     ap (λ (t : Bool). cond t 0 9)
-    (same-entries net (placesOf (changed at p r)) (placesOf (changed at p (atMarks r)))
-    (λ k h. ap atMarks (placesOf-at (changed at p r) k h) ∙ changed-at-marks at p r k ∙ ap atMarks (sym (placesOf-at (changed at p (atMarks r)) k h))))
+    (same-entries (marks-shares net (placesOf (changed at p r)) (placesOf (changed at p (atMarks r)))
+    (λ k h. ap atMarks (placesOf-at (changed at p r) k h) ∙ changed-at-marks at p r k ∙ ap atMarks (sym (placesOf-at (changed at p (atMarks r)) k h)))))
 
 module _ (b : Book) (sized : Sized b) (p : ℤ) (r : Record) (e : bookSays b (Edit p (Enter r)) ≡ 0) where
   says-at-marks : bookSays b (Edit p (Enter (atMarks r))) ≡ 0
@@ -50,7 +46,7 @@ module _ (b : Book) (sized : Sized b) (p : ℤ) (r : Record) (e : bookSays b (Ed
   says-at-marks =
       let x = first-zero (placeNo p) _ e in
       let y = first-zero (recordNo (b .network) r) _ (x .1) in
-      rw (x .0, accepted-at-marks (b .network) r (y .0)) (sym (same-size (b .network) (recordAt (b .places)) (placeOf p) r) ∙ y .1)
+      rw (x .0, marks-accepted (b .network) r (y .0)) (sym (same-size (b .network) (recordAt (b .places)) (placeOf p) r) ∙ y .1)
 
   inside : placeOf p < 256
   unfolding callNo

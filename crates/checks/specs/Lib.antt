@@ -5,6 +5,7 @@ pub mod InverseWeights
 pub mod ExactVariance
 pub mod Demand2
 pub mod Demand2Holds
+pub mod SameShares
 pub mod SameSolutions
 pub mod AtMarks
 pub mod EnterAtMarks

@@ -2,16 +2,15 @@
 -- answers every pair alike (where a lent sheet has room in both or in neither), and the sheet's last line is the same. The rest of a sheet is the count of records, the stations' lines,
 -- which read no record, and each record's own line. Assumes nothing.
 use Prim.Native.Nat.{ℕ, _/_, _%_, _<_, _≤_}
-use mathlib.Core.Path.{_≡_, refl, sym, ap, ap₂, _∙_, fun-ext, subst}
+use mathlib.Core.Path.{_≡_, refl, sym, ap, _∙_, fun-ext, subst}
 use mathlib.Core.Bool.{Bool, true, false, cond}
-use mathlib.Core.List.{List, [], _∷_}
+use mathlib.Core.List.{List}
 use mathlib.Core.Logic.{_⊎_, inl, inr}
 use native.Mathlib.Omega.{arith}
 use lib.Dec.{eqb}
-use lib.IntN.{ℤ, pos, _-ℤ_}
-use Rattle.integers.specs.Sums.{sum, sum-ext, sumN-ext}
+use lib.IntN.{ℤ, pos}
 use Rattle.words.specs.Bools.{clash, same-test}
-use Rattle.network.specs.Stations.{unknown, unknownCount}
+use Rattle.network.specs.Stations.{unknown}
 use Rattle.network.specs.Records.{acts, fromOf, toOf, recordAt, observations, actsOf}
 use Rattle.network.specs.Rules.{recordFits}
 use Rattle.network.specs.RuleLaws.{network-few, in-list, ends-each, baseline-fits, height-fits}
@@ -19,20 +18,19 @@ use Rattle.network.specs.declared.Network.{Network}
 use Rattle.network.specs.declared.Place.{Place}
 use Rattle.network.specs.declared.Record.{Record}
 use Rattle.network.specs.declared.Record.the-variants.{Empty, Baseline as baseline, Height as height}
-use Rattle.normals.specs.Formulas.{shareN, shareU, entryN, entryU, entriesFit}
+use Rattle.normals.specs.Formulas.{shareN, shareU, entryN, entryU}
 use Rattle.normals.specs.ByRules.{ByRules}
 use Rattle.chains.specs.Bits.{bit}
-use Rattle.chains.specs.Chains.{Tied, held, along, back, tiedSet, isTied, allTied, firstUntied}
+use Rattle.chains.specs.Chains.{Tied, held, along, back, tiedSet, isTied}
 use Rattle.chains.specs.ChainLaws.{tied-sound, tied-whole}
-use Rattle.acceptance.specs.Judge.{judge}
 use Rattle.acceptance.specs.Exactly.{answer, book-in-range}
 use Rattle.book.specs.declared.Book.{Book}
 use Rattle.book.specs.Book.{sound}
-use Rattle.residuals.specs.Residuals.{inAdjustment, shareT, T, shareD, D}
+use Rattle.residuals.specs.Residuals.{inAdjustment, shareT, shareD}
 use Rattle.residuals.specs.CheckOnly.{check-only}
-use Rattle.residuals.specs.Verdicts.{verdictWord, globalVerdict}
 use Rattle.sheet.specs.Sheet.{globalWords}
 use Rattle.checks.specs.Checks.{sizesFit, thenNine, checked}
+use Rattle.checks.specs.SameShares.{SameShares, same-N, same-u, same-checked, same-global}
 use Rattle.checks.specs.CheckLaws.{rules}
 
 -- ════ the same records in the adjustment: at each place the same record, or none that is in it
@@ -88,59 +86,31 @@ module _ (net : Network) (places others : List Place) (g : ByRules net places) (
   unfolding isTied
   same-tied = fun-ext (λ q. ap (cond (eqb (unknown (net .stations) q) 0) true) (same-set (q % 3) (q / 3) (omega arith)))
 
-  -- ════ sums of what a check only adds 0 to
-  same-sum : (f : Record → ℤ) → ((r : Record) → inAdjustment (net .stations) r ≡ false → f r ≡ pos 0) → sum 256 (λ p. f (recordAt places p)) ≡ sum 256 (λ p. f (recordAt others p))
-  same-sum f z = sum-ext 256 (λ p h. go p (same p h))
+  -- ════ what a check only adds nothing to
+  same-share : {B : Type 0} (f : Record → B) (none : B) → ((r : Record) → inAdjustment (net .stations) r ≡ false → f r ≡ none) → (p : ℕ) → p < 256 → f (recordAt places p) ≡ f (recordAt others p)
+  same-share f none z p h = go (same p h)
     where
-      go : (p : ℕ) → SameAt net (recordAt places p) (recordAt others p) → f (recordAt places p) ≡ f (recordAt others p)
-      go p (inl e) = ap f e
-      go p (inr o) = z _ (o .0) ∙ sym (z _ (o .1))
+      go : SameAt net (recordAt places p) (recordAt others p) → f (recordAt places p) ≡ f (recordAt others p)
+      go (inl e) = ap f e
+      go (inr o) = z _ (o .0) ∙ sym (z _ (o .1))
 
-  same-N : (i j : ℕ) → entryN (net .stations) places i j ≡ entryN (net .stations) others i j
-  unfolding entryN
-  same-N i j = same-sum (λ r. shareN (net .stations) r i j) (λ r o. check-only (net .stations) r o .matrix i j)
+  no-squares : (x : List ℤ) (r : Record) → inAdjustment (net .stations) r ≡ false → shareT (net .stations) x r ≡ pos 0
+  unfolding shareT
+  no-squares x r o = rw o refl
 
-  same-u : (i : ℕ) → entryU (net .stations) places i ≡ entryU (net .stations) others i
-  unfolding entryU
-  same-u i = same-sum (λ r. shareU (net .stations) r i) (λ r o. check-only (net .stations) r o .right i)
-
-  same-T : (x : List ℤ) → T (net .stations) places x ≡ T (net .stations) others x
-  unfolding T shareT
-  same-T x = same-sum (shareT (net .stations) x) (λ r o. rw o refl)
-
-  no-share : (r : Record) → inAdjustment (net .stations) r ≡ false → shareD (net .stations) r ≡ 0
+  no-freedom : (r : Record) → inAdjustment (net .stations) r ≡ false → shareD (net .stations) r ≡ 0
   unfolding shareD
-  no-share r o = rw o refl
+  no-freedom r o = rw o refl
 
-  same-D : D (net .stations) places ≡ D (net .stations) others
-  unfolding D
-  same-D = ap (λ (k : ℕ). pos k -ℤ pos (unknownCount (net .stations))) (sumN-ext 256 (λ p h. go p (same p h)))
-    where
-      go : (p : ℕ) → SameAt net (recordAt places p) (recordAt others p) → shareD (net .stations) (recordAt places p) ≡ shareD (net .stations) (recordAt others p)
-      go p (inl e) = ap (shareD (net .stations)) e
-      go p (inr o) = no-share _ (o .0) ∙ sym (no-share _ (o .1))
-
-  -- ════ so every test of a check, and the last line of the sheet
-  all-N : entryN (net .stations) places ≡ entryN (net .stations) others
-  all-N = fun-ext (λ i. fun-ext (same-N i))
-
-  all-u : entryU (net .stations) places ≡ entryU (net .stations) others
-  all-u = fun-ext same-u
-
-  same-answer : (x m : List ℤ) (room : Bool) → answer net places x m room ≡ answer net others x m room
-  unfolding answer judge allTied firstUntied
-  same-answer x m room = rw (all-N, all-u, same-tied) refl
-
-  same-sizes : (x : List ℤ) → sizesFit net places x ≡ sizesFit net others x
-  unfolding sizesFit entriesFit
-  same-sizes x = rw (all-N, all-u, same-T x) refl
-
-  same-checked : (x m : List ℤ) (room : Bool) → thenNine (answer net places x m room) (sizesFit net places x) ≡ thenNine (answer net others x m room) (sizesFit net others x)
-  same-checked x m room = ap₂ thenNine (same-answer x m room) (same-sizes x)
-
-  same-global : (x : List ℤ) → globalWords (net .stations) places x ≡ globalWords (net .stations) others x
-  unfolding globalWords
-  same-global x = ap₂ (λ (t d : ℤ). t ∷ d ∷ verdictWord (globalVerdict t d) ∷ []) (same-T x) same-D
+  same-shares : SameShares net places others
+  same-shares =
+      record {
+        matrix = λ i j. same-share (λ r. shareN (net .stations) r i j) (pos 0) (λ r o. check-only (net .stations) r o .matrix i j);
+        right = λ i. same-share (λ r. shareU (net .stations) r i) (pos 0) (λ r o. check-only (net .stations) r o .right i);
+        squares = λ x. same-share (shareT (net .stations) x) (pos 0) (no-squares x);
+        freedom = same-share (shareD (net .stations)) 0 no-freedom;
+        tied = same-tied;
+      }
 
 -- ════ two books over one station list with the same records in the adjustment
 pub record SameSolutions (b c : Book) : Type 0 where
@@ -153,10 +123,10 @@ pub same-solutions : (b c : Book) → sound b ≡ true → sound c ≡ true → 
 unfolding checked
 same-solutions b c p q e same =
     record {
-      matrix = λ i j. same-N net (b .places) (c .places) g k same i j ∙ ap (λ (n : Network). entryN (n .stations) (c .places) i j) e;
-      right = λ i. same-u net (b .places) (c .places) g k same i ∙ ap (λ (n : Network). entryU (n .stations) (c .places) i) e;
-      answers = λ x m fits. same-checked net (b .places) (c .places) g k same x m fits ∙ ap (λ (n : Network). thenNine (answer n (c .places) x m fits) (sizesFit n (c .places) x)) e;
-      global = λ x. same-global net (b .places) (c .places) g k same x ∙ ap (λ (n : Network). globalWords (n .stations) (c .places) x) e;
+      matrix = λ i j. ap (λ (f : ℕ → ℕ → ℤ). f i j) (same-N shares) ∙ ap (λ (n : Network). entryN (n .stations) (c .places) i j) e;
+      right = λ i. ap (λ (f : ℕ → ℤ). f i) (same-u shares) ∙ ap (λ (n : Network). entryU (n .stations) (c .places) i) e;
+      answers = λ x m fits. same-checked shares x m fits ∙ ap (λ (n : Network). thenNine (answer n (c .places) x m fits) (sizesFit n (c .places) x)) e;
+      global = λ x. same-global shares x ∙ ap (λ (n : Network). globalWords (n .stations) (c .places) x) e;
     }
   where
     net : Network
@@ -167,3 +137,6 @@ same-solutions b c p q e same =
 
     k : ByRules net (c .places)
     k = subst (λ (n : Network). ByRules n (c .places)) (sym e) (rules c q)
+
+    shares : SameShares net (b .places) (c .places)
+    shares = same-shares net (b .places) (c .places) g k same

@@ -40,7 +40,7 @@ fn level_entry(line: &[u8], from: usize) -> Entry
 }
 
 // The place and the baseline of these numbers.
-fn baseline_for(a: &[i64; 14]) -> Entry
+fn with_heights(a: &[i64; 14]) -> Entry
     ensures { λ r. ⌜ r ≡ withHeights (λ i. getD (now (a .entry)) i (pos 0)) ⌝ }
 {
     let of = network::baseline_in(a, 0);
@@ -48,7 +48,7 @@ fn baseline_for(a: &[i64; 14]) -> Entry
 }
 
 // The fields after the letter at `from`: place, from, to, three differences, six weights, and with or without them two antenna heights.
-fn baseline_entry(line: &[u8], from: usize) -> Entry
+fn baseline_line(line: &[u8], from: usize) -> Entry
     ensures { λ r. ⌜ r ≡ baselineLine (numbersIn (restFields (drop from (now (line .entry))))) ⌝ }
 {
     let mut a = [0i64; 14];
@@ -56,10 +56,10 @@ fn baseline_entry(line: &[u8], from: usize) -> Entry
         Count::Unreadable => Entry::Unreadable,
         Count::Numbers(n) => {
             if n == 12 {
-                return baseline_for(&a);
+                return with_heights(&a);
             }
             if n == 14 {
-                return baseline_for(&a);
+                return with_heights(&a);
             }
             Entry::Unreadable
         }
@@ -75,7 +75,7 @@ fn entry_at(line: &[u8], from: usize) -> Entry
         return level_entry(line, from);
     }
     if letter == b'B' {
-        return baseline_entry(line, from);
+        return baseline_line(line, from);
     }
     Entry::Unreadable
 }

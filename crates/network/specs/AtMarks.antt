@@ -12,7 +12,7 @@ use Rattle.lists.specs.All.{each}
 use Rattle.network.specs.Stations.{coordinates}
 use Rattle.network.specs.Records.{weightMatrixOf, observations, acts, fromOf, toOf, joins, weights, reducedUp, reduced, misclosureIn, misclosures}
 use Rattle.network.specs.RecordLaws.{no-heights}
-use Rattle.network.specs.Rules.{observedFits, upInRange, baselineInRange, misclosureFits, recordNoOver, recordNo, recordFits}
+use Rattle.network.specs.Rules.{observedFits, upInRange, baselineInRange, misclosureFits, recordNoOver, recordNo}
 use Rattle.network.specs.Ranges.{baseline-range}
 use Rattle.network.specs.RuleLaws.{accepted-fits, baseline-fits}
 use Rattle.network.specs.declared.Network.{Network}
@@ -114,14 +114,14 @@ closes-at-marks : (c : List ℤ) (b : Baseline) → misclosureFits c (baseline b
 unfolding misclosureFits atMarks
 closes-at-marks c b e = rw (marks-misclosures c (baseline b)) e
 
-accepted-at-marks : (net : Network) (b : Baseline) → recordFits net (baseline b) ≡ true → recordNo net (baseline (baselineAtMarks b)) ≡ 0
+baseline-accepted : (net : Network) (b : Baseline) → recordNo net (baseline b) ≡ 0 → recordNo net (baseline (baselineAtMarks b)) ≡ 0
 unfolding recordNo recordNoOver
-accepted-at-marks net b e =
-    let g = baseline-fits net b e in
+baseline-accepted net b e =
+    let g = baseline-fits net b (accepted-fits net (baseline b) e) in
     rw (g .ends, range-at-marks b (g .range), g .matrix, closes-at-marks (coordinates (net .stations)) b (g .closes)) refl
 
-pub marks-fit : (net : Network) (r : Record) → recordFits net r ≡ true → recordFits net (atMarks r) ≡ true
+pub marks-accepted : (net : Network) (r : Record) → recordNo net r ≡ 0 → recordNo net (atMarks r) ≡ 0
 unfolding atMarks
-marks-fit net Empty e = e
-marks-fit net (baseline b) e = accepted-fits net (baseline (baselineAtMarks b)) (accepted-at-marks net b e)
-marks-fit net (height h) e = e
+marks-accepted net Empty e = e
+marks-accepted net (baseline b) e = baseline-accepted net b e
+marks-accepted net (height h) e = e

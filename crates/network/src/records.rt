@@ -99,7 +99,10 @@ fn reduced_of(r: Record) -> [i64; 3]
 {
     match r {
         Record::Empty => [0, 0, 0],
-        Record::Baseline(b) => [b.east, b.north, reduced_up(b)],
+        Record::Baseline(b) => {
+            let up = reduced_up(b);
+            [b.east, b.north, up]
+        }
         Record::Height(h) => [0, 0, h.up],
     }
 }
@@ -131,12 +134,12 @@ pub fn misclosures_of(coordinate: &[i64; Unit::COMPONENTS], r: Record) -> [i64; 
 {
     let f = from_of(r);
     let t = to_of(r);
-    let o = reduced_of(r);
+    let d = reduced_of(r);
     let e = acts_in(r, 0);
     let n = acts_in(r, 1);
     let u = acts_in(r, 2);
-    let x = misclosure(coordinate, f, t, 0, e, o[0]);
-    let y = misclosure(coordinate, f, t, 1, n, o[1]);
-    let z = misclosure(coordinate, f, t, 2, u, o[2]);
+    let x = misclosure(coordinate, f, t, 0, e, d[0]);
+    let y = misclosure(coordinate, f, t, 1, n, d[1]);
+    let z = misclosure(coordinate, f, t, 2, u, d[2]);
     [x, y, z]
 }

@@ -51,10 +51,10 @@ pub fn weight_matrix_of(b: Baseline) -> WeightMatrix
 fn up_in_range(b: Baseline) -> bool
     ensures { λ t. ⌜ t ≡ upInRange b ⌝ }
 {
-    let observed = words::within(b.up, Unit::OBSERVED)
+    let measured = words::within(b.up, Unit::OBSERVED)
         & words::between(b.hf, 0, Unit::HEIGHT_ABOVE_MARK)
         & words::between(b.ht, 0, Unit::HEIGHT_ABOVE_MARK);
-    if !observed {
+    if !measured {
         return false;
     }
     words::within(reduced_up(b), Unit::OBSERVED)

@@ -1,6 +1,7 @@
 // Runs books against a plain ledger kept in this program: a list of standing edits, from which the records are rebuilt after every call. N and u are
-// compared with those worked out from scratch by `book::is_sound`, which also judges the journal. Prints how often each number was answered.
+// compared with those worked out from scratch by `book::is_sound`, which also judges the journal. Prints how often each number was answered. Calls in rows of words go through `replay`.
 mod ledger;
+mod rows;
 mod samples;
 
 ghost use mathlib.Core.Path.{_≡_};
@@ -237,5 +238,6 @@ fn entered_twice() {
 fn main() {
     pushed_out();
     entered_twice();
+    rows::run();
     print_tally(random_runs());
 }

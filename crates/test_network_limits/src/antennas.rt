@@ -3,25 +3,31 @@ use super::judged;
 use super::print_answer;
 use super::print_field;
 
-// A baseline alike in E and N, of weight 100 in each component.
-fn antennas(from: i64, to: i64, plane: i64, up: i64, hf: i64, ht: i64) {
+// A baseline alike in E and N, of weight 100 in each component, with `en` in E and N.
+fn weighted(from: i64, to: i64, plane: i64, up: i64, en: i64, hf: i64, ht: i64) {
     io::write_all(1, b"B");
     print_field(from);
     print_field(to);
     print_field(plane);
     print_field(plane);
     print_field(up);
-    io::write_all(1, b" 100 0 0 100 0 100");
+    io::write_all(1, b" 100");
+    print_field(en);
+    io::write_all(1, b" 0 100 0 100");
     print_field(hf);
     print_field(ht);
     let b = network::baseline_of(
         from,
         to,
         [plane, plane, up],
-        [100, 0, 0, 100, 0, 100],
+        [100, en, 0, 100, 0, 100],
         [hf, ht],
     );
     print_answer(judged(b));
+}
+
+fn antennas(from: i64, to: i64, plane: i64, up: i64, hf: i64, ht: i64) {
+    weighted(from, to, plane, up, 0, hf, ht);
 }
 
 // From the known station to the one between: with these heights the reduced difference is the provisional one.
@@ -100,6 +106,9 @@ fn misclosures() {
 fn orders() {
     antennas(0, 3, 500000000, 500000000, -1, 0);
     antennas(1, 1, 0, 0, 0, 300001);
+    weighted(1, 3, 500000000, 500000000, 100, 300001, 0);
+    weighted(1, 3, 500000000, 500000000, 100, 300000, 0);
+    weighted(1, 3, 500000000, 499700000, 99, 300000, 0);
     antennas(1, 3, 0, 500000000, 0, -1);
     antennas(1, 3, 0, 500000000, 0, 0);
 }

@@ -15,15 +15,15 @@ returns : tie.Need-returns
 unfolding entryOf
 returns c = let l = c .before .before .letter-at .ensures in rw (it-is l letter-H (c .before .if1 .taken)) (c .level-entry .ensures)
 
-baseline-entry-requires : tie.Need-baseline-entry-requires
-baseline-entry-requires c κs = search needs
+baseline-line-requires : tie.Need-baseline-line-requires
+baseline-line-requires c κs = search needs
 
 returns-2 : tie.Need-returns-2
 unfolding entryOf
 returns-2 c =
     let t = c .before in
     let l = t .before .before .letter-at .ensures in
-    rw (it-is-not l letter-H (t .before .if1 .left), it-is l letter-B (t .if2 .taken)) (c .baseline-entry .ensures)
+    rw (it-is-not l letter-H (t .before .if1 .left), it-is l letter-B (t .if2 .taken)) (c .baseline-line .ensures)
 
 returns-3 : tie.Need-returns-3
 unfolding entryOf
@@ -38,6 +38,6 @@ entry-at-spec =
     letter-at-requires
     level-entry-requires
     returns
-    baseline-entry-requires
+    baseline-line-requires
     returns-2
     returns-3)

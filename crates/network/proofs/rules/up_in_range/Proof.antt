@@ -28,12 +28,12 @@ abbrev start : tie.After-between2 → tie.Start
 start c = c .before .before .before .before .before .before
 
 -- what the code tests before it reduces
-abbrev observed : Baseline → Bool
-observed b = observedFits (b .up) && heightAboveMarkFits (b .hf) && heightAboveMarkFits (b .ht)
+abbrev measured : Baseline → Bool
+measured b = observedFits (b .up) && heightAboveMarkFits (b .hf) && heightAboveMarkFits (b .ht)
 
-observed-is : (c : tie.After-between2)
-    → c .before .before .before .before .within .result && c .before .before .between .result && c .between2 .result ≡ observed (start c .args .b)
-observed-is c =
+measured-is : (c : tie.After-between2)
+    → c .before .before .before .before .within .result && c .before .before .between .result && c .between2 .result ≡ measured (start c .args .b)
+measured-is c =
     let b = start c .args .b in
     ap₂ _&&_
     (ap₂ _&&_ (c .before .before .before .before .within .ensures ∙ ap (λ (z : ℤ). observedFits z) (toZ-ofZ w64 (b .up) (search needs)))
@@ -42,10 +42,10 @@ observed-is c =
 
 returns : tie.Need-returns
 unfolding upInRange
-returns c = ap (λ (t : Bool). t && observedFits (reducedUp (start (c .before) .args .b))) (sym (not-true _ (c .if1 .taken)) ∙ observed-is (c .before))
+returns c = ap (λ (t : Bool). t && observedFits (reducedUp (start (c .before) .args .b))) (sym (not-true _ (c .if1 .taken)) ∙ measured-is (c .before))
 
-passed : (c : tie.Else1) → observed (start (c .before) .args .b) ≡ true
-passed c = sym (observed-is (c .before)) ∙ not-false _ (c .if1 .left)
+passed : (c : tie.Else1) → measured (start (c .before) .args .b) ≡ true
+passed c = sym (measured-is (c .before)) ∙ not-false _ (c .if1 .left)
 
 reduced-up-requires : tie.Need-reduced-up-requires
 reduced-up-requires c κs =

@@ -1,4 +1,4 @@
--- `baseline_for`: the numbers after the place are a baseline's words after its kind. Assumes nothing.
+-- `with_heights`: the numbers after the place are a baseline's words after its kind. Assumes nothing.
 use mir.Syntax.{w64}
 use mir.Facts.{toZ-ofZ}
 use lib.ListN.{getD}
@@ -6,8 +6,8 @@ use lib.IntN.{pos}
 use borrow.Author.Needs.{needs, sfits-of}
 use Rattle.network.specs.RecordWords.{recordOf}
 use Rattle.commands.specs.declared.Entry.the-variants as entry
-use Rattle.commands.proofs.reading.baseline_for.Statement.{statement}
-use Rattle.commands.proofs.reading.baseline_for.Tie as tie
+use Rattle.commands.proofs.reading.with_heights.Statement.{statement}
+use Rattle.commands.proofs.reading.with_heights.Tie as tie
 
 baseline-in-requires : tie.Need-baseline-in-requires
 baseline-in-requires c κs = search needs
@@ -19,5 +19,5 @@ returns : tie.Need-returns
 unfolding recordOf
 returns c = λ i. entry.Of (toZ-ofZ {w = w64} {z = getD (c .before .before .before .args .a .now) 0 (pos 0)} (sfits-of (c .t7 .given)) i) (c .before .baseline-in .ensures i)
 
-pub baseline-for-spec : {M : Type 1} → statement M
-baseline-for-spec = tie.close (tie.spec baseline-in-requires element-copy-out-t7 returns)
+pub with-heights-spec : {M : Type 1} → statement M
+with-heights-spec = tie.close (tie.spec baseline-in-requires element-copy-out-t7 returns)
