@@ -5,10 +5,9 @@ use mathlib.Core.Path.{_≡_, refl, sym, ap, ap₂, _∙_, fun-ext}
 use mathlib.Core.Bool.{Bool}
 use mathlib.Core.List.{List, [], _∷_, _++_}
 use native.Mathlib.Omega.{arith}
-use lib.IntN.{ℤ, pos, _-ℤ_}
-use Rattle.integers.specs.Sums.{sum-ext, sumN-ext}
+use lib.IntN.{ℤ, pos}
+use Rattle.integers.specs.Sums.{sumN-ext}
 use Rattle.integers.specs.Tables.{tabulate-ext}
-use Rattle.network.specs.Stations.{unknownCount}
 use Rattle.network.specs.Records.{isEmpty, recordAt}
 use Rattle.network.specs.AtMarks.{atMarks, marks-observations, marks-acts, marks-from, marks-to}
 use Rattle.network.specs.declared.Network.{Network}
@@ -16,15 +15,14 @@ use Rattle.network.specs.declared.Station.{Station}
 use Rattle.network.specs.declared.Place.{Place}
 use Rattle.network.specs.declared.Record.{Record}
 use Rattle.network.specs.declared.Record.the-variants.{Empty, Baseline as baseline, Height as height}
-use Rattle.normals.specs.Formulas.{shareN, shareU, entryN, entryU, entriesFit, normalsOf}
+use Rattle.normals.specs.Formulas.{shareN, shareU, normalsOf}
 use Rattle.normals.specs.AtMarks.{marks-shareN, marks-shareU}
-use Rattle.chains.specs.Chains.{edge, edges, tiedSet, isTied, allTied, firstUntied}
-use Rattle.acceptance.specs.Judge.{judge}
+use Rattle.chains.specs.Chains.{edge, edges, tiedSet, isTied}
 use Rattle.acceptance.specs.Exactly.{answer}
 use Rattle.book.specs.declared.Book.{Book}
-use Rattle.residuals.specs.Residuals.{residual, shareT, T, shareD, D, isRecord, recordCount}
+use Rattle.residuals.specs.Residuals.{residual, shareT, T, shareD, isRecord, recordCount}
 use Rattle.residuals.specs.AtMarks.{marks-record, marks-variance, marks-shareD, marks-residual, marks-shareT}
-use Rattle.sheet.specs.Sheet.{verdictAt, recordLineWords, recordLinesWords, globalWords, sheetWords, lineLength, room}
+use Rattle.sheet.specs.Sheet.{verdictAt, recordLineWords, recordLinesWords, sheetWords, lineLength, room}
 use Rattle.checks.specs.Checks.{sizesFit, thenNine, checked}
 use Rattle.checks.specs.SameShares.{SameShares, same-T, same-normals, same-checked, same-global}
 
