@@ -47,7 +47,7 @@ FROM_MARK_TO_MARK = {'input': 340, 'SHEET': 110, 'baseline with antenna heights'
                      'network': 120, 'editing': 50, 'broken_bytes': 40, 'station_list': 20, 'proposed': 30, 'height_limits': 18}
 FAILING = {'input': 300, 'a sheet withheld': 50, 'within a line': 75, 'between lines': 120, 'messages': 100, 'no message': 90, 'a refused opening': 40}
 RANDOM = {'input': INPUTS, 'SHEET': 1000, 'PASS': 700, 'FAIL': 600, 'LOOSE': 400, 'GLOBAL PASS': 400, 'GLOBAL HIGH': 400, 'GLOBAL NONE': 80, 'GLOBAL LOW': 10,
-          'LINE k UNREADABLE': 1500, 'NO PROPOSAL': 120, 'REFUSED 1': 700, 'REFUSED 10': 500, 'REFUSED 11': 500, 'REFUSED 12': 20, 'REFUSED 13': 8, 'REFUSED 14': 150,
+          'LINE k UNREADABLE': 1500, 'NO PROPOSAL': 120, 'REFUSED 1': 700, 'REFUSED 10': 500, 'REFUSED 11': 500, 'REFUSED 12': 20, 'REFUSED 13': 12, 'REFUSED 14': 150,
           'REFUSED 15': 6, 'REFUSED 16': 60, 'LINE k REFUSED 2': 120, 'LINE k REFUSED 3': 150, 'LINE k REFUSED 4': 220, 'LINE k REFUSED 5': 500, 'LINE k REFUSED 6': 120,
           'LINE k REFUSED 7': 700, 'LINE k REFUSED 8': 500, 'full_size': INPUTS // inputs.FULL_EVERY, 'as the reference': 3900,
           'enter at an empty place': 2200, 'enter over another record': 900, 'enter over an equal record': 430, 'R enter at an empty place': 1300, 'R enter over another record': 840,

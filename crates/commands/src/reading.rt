@@ -39,7 +39,7 @@ fn level_entry(line: &[u8], from: usize) -> Entry
     }
 }
 
-// The place and the baseline of these numbers.
+// The place and the baseline of these numbers; of a line without heights they are the 0 that the array had.
 fn with_heights(a: &[i64; 14]) -> Entry
     ensures { λ r. ⌜ r ≡ withHeights (λ i. getD (now (a .entry)) i (pos 0)) ⌝ }
 {
@@ -47,7 +47,7 @@ fn with_heights(a: &[i64; 14]) -> Entry
     Entry::Of(a[0], of)
 }
 
-// The fields after the letter at `from`: place, from, to, three differences, six weights, and with or without them two antenna heights.
+// The fields after the letter at `from`: place, from, to, three differences, six weights, then two antenna heights or none.
 fn baseline_line(line: &[u8], from: usize) -> Entry
     ensures { λ r. ⌜ r ≡ baselineLine (numbersIn (restFields (drop from (now (line .entry))))) ⌝ }
 {
