@@ -6,7 +6,7 @@ use Prim.Native.Nat.{ℕ, zero, suc, _+_, _-_, _≤_, _<_}
 use native.Mathlib.Omega.{arith}
 use native.Mathlib.Decide.{decLe}
 use lib.Dec.{leb, eqb, eqb·suc-suc}
-use lib.ListN.{length, getD, take, drop, replicate, length-replicate, getD-replicate, List·getD-eq-default, List·getD-append}
+use lib.ListN.{length, getD, take, drop, replicate, List·getD-eq-default, List·getD-append}
 use lib.Seq.{sets, sets-eq, take-all, getD-append-add, getD-drop}
 use lib.IntN.{ℤ, pos, negsuc, natAbs}
 use lib.Signed.{ltZ}
@@ -101,11 +101,9 @@ module _ {A : Type 0} (most k : ℕ) (other : A) (f : (ℕ → ℤ) → A) (out 
 
 -- a list of 0 reads 0 everywhere
 pub zeros : (n i : ℕ) → getD (replicate n (pos 0)) i (pos 0) ≡ pos 0
-zeros n i = by (decLe n i)
-  where
-    by : Dec (n ≤ i) → getD (replicate n (pos 0)) i (pos 0) ≡ pos 0
-    by (yes h) = List·getD-eq-default (replicate n (pos 0)) (pos 0) (omega (arith, length-replicate n (pos 0)))
-    by (no h) = getD-replicate n i (pos 0) (pos 0) (omega arith)
+zeros zero i = refl
+zeros (suc n) zero = refl
+zeros (suc n) (suc i) = zeros n i
 
 -- of 12 numbers the heights are 0
 pub heights-lacking : (other : Entry) (ns : FieldNumbers) → exactly 12 other withHeights ns ≡ exactly 12 other withoutHeights ns
