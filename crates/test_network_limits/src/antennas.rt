@@ -30,38 +30,38 @@ fn antennas(from: i64, to: i64, plane: i64, up: i64, hf: i64, ht: i64) {
     weighted(from, to, plane, up, 0, hf, ht);
 }
 
-// From the known station to the one between: with these heights the reduced difference is the provisional one.
-fn level(hf: i64, ht: i64, up: i64) {
+// From station 1 to 3, 500,000,000 apart in each component, with these heights and this observed U difference.
+fn to_third(hf: i64, ht: i64, up: i64) {
     antennas(1, 3, 500000000, up, hf, ht);
 }
 
 fn heights() {
     // from-height
-    level(-9223372036854775808, 0, 500000000);
-    level(-1, 0, 500000000);
-    level(0, 0, 500000000);
-    level(1, 0, 499999999);
-    level(299999, 0, 499700001);
-    level(300000, 0, 499700000);
-    level(300001, 0, 499699999);
-    level(9223372036854775807, 0, 500000000);
+    to_third(-9223372036854775808, 0, 500000000);
+    to_third(-1, 0, 500000000);
+    to_third(0, 0, 500000000);
+    to_third(1, 0, 499999999);
+    to_third(299999, 0, 499700001);
+    to_third(300000, 0, 499700000);
+    to_third(300001, 0, 499699999);
+    to_third(9223372036854775807, 0, 500000000);
     // to-height
-    level(0, -9223372036854775808, 500000000);
-    level(0, -1, 500000000);
-    level(0, 1, 500000001);
-    level(0, 299999, 500299999);
-    level(0, 300000, 500300000);
-    level(0, 300001, 500300001);
-    level(0, 9223372036854775807, 500000000);
+    to_third(0, -9223372036854775808, 500000000);
+    to_third(0, -1, 500000000);
+    to_third(0, 1, 500000001);
+    to_third(0, 299999, 500299999);
+    to_third(0, 300000, 500300000);
+    to_third(0, 300001, 500300001);
+    to_third(0, 9223372036854775807, 500000000);
     // both
-    level(300000, 300000, 500000000);
-    level(300001, 300001, 500000000);
-    level(-1, -1, 500000000);
-    level(9223372036854775807, 9223372036854775807, 500000000);
-    level(-9223372036854775808, -9223372036854775808, 500000000);
+    to_third(300000, 300000, 500000000);
+    to_third(300001, 300001, 500000000);
+    to_third(-1, -1, 500000000);
+    to_third(9223372036854775807, 9223372036854775807, 500000000);
+    to_third(-9223372036854775808, -9223372036854775808, 500000000);
     // exchanged
-    level(150000, 50000, 499900000);
-    level(50000, 150000, 499900000);
+    to_third(150000, 50000, 499900000);
+    to_third(50000, 150000, 499900000);
 }
 
 // Between the outermost stations: the reduced difference is out of range by the heights alone, or in range by them alone, in both directions.
@@ -90,16 +90,16 @@ fn reduced() {
 
 // At the limits of a misclosure by the heights alone, in both directions.
 fn misclosures() {
-    level(0, 0, 500100000);
-    level(1, 0, 500100000);
-    level(0, 1, 500100001);
-    level(0, 1, 500100002);
-    level(0, 0, 499900000);
-    level(0, 1, 499900000);
-    level(1, 0, 499899999);
-    level(1, 0, 499899998);
-    level(300000, 0, 500000000);
-    level(0, 300000, 500000000);
+    to_third(0, 0, 500100000);
+    to_third(1, 0, 500100000);
+    to_third(0, 1, 500100001);
+    to_third(0, 1, 500100002);
+    to_third(0, 0, 499900000);
+    to_third(0, 1, 499900000);
+    to_third(1, 0, 499899999);
+    to_third(1, 0, 499899998);
+    to_third(300000, 0, 500000000);
+    to_third(0, 300000, 500000000);
 }
 
 // Where several apply, the lowest number wins.
