@@ -6,16 +6,16 @@ use mathlib.Core.List.{List, _∷_, _++_}
 use native.Mathlib.Omega.{arith}
 use lib.Dec.{leb, ltb}
 use lib.ListN.{getD, replicate}
-use lib.IntN.{ℤ, pos, negsuc, natAbs, _-ℤ_}
+use lib.IntN.{ℤ, pos, negsuc, natAbs, _-ℤ_, _*ℤ_}
 use borrow.Author.Tests.{lt-ltb, le-ltb, le-leb, leb-true}
 use Rattle.integers.specs.Bounds.{bounds, absle}
 use Rattle.integers.specs.Tables.{tabulate, getD-tabulate, Within, within-tabulate}
 use Rattle.words.specs.Bools.{and-left, and-right, and-both}
 use Rattle.lists.specs.All.{allBelow, all-at}
 use Rattle.network.specs.Stations.{networkFits, blankBeyond, coordinatesFit, unknownsFit, isBlank, isKnown, coordinate, coordinateIn, coordinates, unknown, unknownIn, number}
-use Rattle.network.specs.Records.{weightMatrixOf, vacant, observations, actsOf, acts, fromOf, toOf, reducedUp, reduced, misclosureAt, misclosureIn, misclosures}
+use Rattle.network.specs.Records.{weightMatrixOf, vacant, observations, actsOf, acts, fromOf, toOf, joins, reducedUp, reduced, misclosureAt, misclosureIn, misclosures}
 use Rattle.weights.specs.Rules.{weightsInRange, matrixFits, minorsPositive, adjugateFits}
-use Rattle.network.specs.Rules.{recordFits, recordNo, recordNoOver, endsFit, upInRange, baselineInRange, misclosureFits}
+use Rattle.network.specs.Rules.{recordFits, recordNo, recordNoOver, recordEndsFit, inRange, recordMatrixFits, endsFit, upInRange, baselineInRange, misclosureFits}
 use Rattle.network.specs.RecordLaws.{no-heights}
 use Rattle.network.specs.RuleLaws.{accepted-fits}
 use Rattle.network.specs.declared.Kind.{Kind}
@@ -79,7 +79,7 @@ unfolding networkFits blankBeyond coordinatesFit unknownsFit allBelow isBlank is
 network-fits = refl
 
 abbrev tests : ℕ → Bool
-tests p = endsFit 17 (sampleBaseline p .from) (sampleBaseline p .to) && (baselineInRange (sampleBaseline p) && matrixFits (weightMatrixOf (sampleBaseline p)))
+tests p = endsFit 17 (sampleBaseline p .from) (sampleBaseline p .to) && (baselineInRange (sampleBaseline p) && matrixFits (weightMatrixOf (baseline (sampleBaseline p))))
 
 tests-pass : allBelow 256 tests ≡ true
 unfolding allBelow endsFit upInRange reducedUp baselineInRange weightsInRange matrixFits minorsPositive adjugateFits sampleBaseline
@@ -96,12 +96,12 @@ passes : (w x y z : Bool) → w ≡ true → x ≡ true → y ≡ true → z ≡
 passes w x y z e f g h = rw (e, f, g, h)
 
 module _ (p : ℕ) (h : p < 256) where
-  small : (c : List ℤ) (f t a : ℕ) → Within 96 0 c → leb (natAbs (misclosureAt c f t a (pos p))) 100000 ≡ true
+  small : (c : List ℤ) (f t a : ℕ) → Within 96 0 c → leb (natAbs (misclosureAt c f t (pos 1) a (pos p))) 100000 ≡ true
   unfolding misclosureAt
   small c f t a w =
       let x = w .bound (t * 3 + a) in
       let y = w .bound (f * 3 + a) in
-      le-leb _ _ (absle (pos p -ℤ (getD c (t * 3 + a) (pos 0) -ℤ getD c (f * 3 + a) (pos 0))) (search bounds) (omega arith))
+      le-leb _ _ (absle (pos p -ℤ (getD c (t * 3 + a) (pos 0) -ℤ pos 1 *ℤ getD c (f * 3 + a) (pos 0))) (search bounds) (omega arith))
 
   -- both heights are 0
   up-is : reducedUp (sampleBaseline p) ≡ pos p
@@ -109,22 +109,22 @@ module _ (p : ℕ) (h : p < 256) where
   up-is = no-heights (sampleBaseline p) refl refl
 
   closes : misclosureFits (coordinates (sampleNetwork .stations)) (baseline (sampleBaseline p)) ≡ true
-  unfolding misclosureFits allBelow misclosures misclosureIn acts actsOf observations reduced sampleBaseline
+  unfolding misclosureFits allBelow misclosures misclosureIn acts actsOf observations joins reduced sampleBaseline
   closes =
       let c = coordinates (sampleNetwork .stations) in
       let f = fromOf (baseline (sampleBaseline p)) in
       let t = toOf (baseline (sampleBaseline p)) in
-      and-both _ _ (and-both _ _ (small c f t 0 origin) (small c f t 1 origin)) (subst (λ (z : ℤ). leb (natAbs (misclosureAt c f t 2 z)) 100000 ≡ true) (sym up-is) (small c f t 2 origin))
+      and-both _ _ (and-both _ _ (small c f t 0 origin) (small c f t 1 origin)) (subst (λ (z : ℤ). leb (natAbs (misclosureAt c f t (pos 1) 2 z)) 100000 ≡ true) (sym up-is) (small c f t 2 origin))
 
   accepted : recordNo sampleNetwork (baseline (sampleBaseline p)) ≡ 0
-  unfolding recordNo recordNoOver sampleNetwork
+  unfolding recordNo recordNoOver recordEndsFit inRange recordMatrixFits observations sampleNetwork
   accepted =
       let b = sampleBaseline p in
       let e = endsFit 17 (b .from) (b .to) in
       let t = all-at 256 tests p tests-pass h in
-      let u = and-right e (baselineInRange b && matrixFits (weightMatrixOf b)) t in
-      passes e (baselineInRange b) (matrixFits (weightMatrixOf b)) _
-      (and-left e (baselineInRange b && matrixFits (weightMatrixOf b)) t) (and-left (baselineInRange b) (matrixFits (weightMatrixOf b)) u) (and-right (baselineInRange b) (matrixFits (weightMatrixOf b)) u) closes
+      let u = and-right e (baselineInRange b && matrixFits (weightMatrixOf (baseline b))) t in
+      passes e (baselineInRange b) (matrixFits (weightMatrixOf (baseline b))) _
+      (and-left e (baselineInRange b && matrixFits (weightMatrixOf (baseline b))) t) (and-left (baselineInRange b) (matrixFits (weightMatrixOf (baseline b))) u) (and-right (baselineInRange b) (matrixFits (weightMatrixOf (baseline b))) u) closes
 
 pub sample-sound : ByRules sampleNetwork samplePlaces
 sample-sound =

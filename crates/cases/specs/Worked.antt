@@ -13,7 +13,7 @@ use Rattle.lists.specs.All.{allBelow}
 use Rattle.weights.specs.Rules.{weightsInRange, minorsPositive, adjugateFits, matrixFits, adjugate}
 use Rattle.network.specs.Stations.{blankStation, networkOf, stationIn, kindAt, opens, wholeStations, kindsFit, coordinatesFit, unknownsFit, unknown, unknownIn, number, coordinate, coordinateIn}
 use Rattle.network.specs.Records.{acts, fromOf, toOf, joins, weights, reducedUp, reduced, misclosures, misclosureIn, misclosureAt, isEmpty, observations, actsOf}
-use Rattle.network.specs.Rules.{endsFit, upInRange, baselineInRange, heightInRange, misclosureFits, recordNoOver, recordNo}
+use Rattle.network.specs.Rules.{endsFit, recordEndsFit, inRange, recordMatrixFits, upInRange, baselineInRange, heightInRange, misclosureFits, recordNoOver, recordNo}
 use Rattle.network.specs.declared.Kind.the-variants.{Known, Height}
 use Rattle.network.specs.declared.Network.{Network}
 use Rattle.network.specs.declared.Place.{Place}
@@ -31,9 +31,9 @@ use Rattle.book.specs.Numbers.{changeNoOf}
 use Rattle.book.specs.Run.{final, answers}
 use Rattle.book.specs.Rows.{rowNext, rowSays}
 use Rattle.book.specs.Ledger.{standing, accepted}
-use Rattle.residuals.specs.Residuals.{correction, adjusted, covariance, residual, unknownAtEnd, inAdjustment, weightedSquares, shareT, T, shareD, isRecord, recordCount, D, observationVariance, differenceVariance, residualVariance}
+use Rattle.residuals.specs.Residuals.{correction, adjusted, covariance, residual, unknownAtEnd, inAdjustment, weightedSquares, shareT, T, shareD, isRecord, recordCount, D, weightsVariance, observationVariance, differenceVariance, residualVariance}
 use Rattle.residuals.specs.Verdicts.{verdictWord, localVerdict, globalVerdict, chiSquare}
-use Rattle.sheet.specs.Sheet.{stationLineWords, verdictAt, recordLineWords, stationLinesWords, recordLinesWords, globalWords, sheetWords, lineLength, room}
+use Rattle.sheet.specs.Sheet.{stationLineWords, verdictAt, lineWords, recordLineWords, stationLinesWords, recordLinesWords, globalWords, sheetWords, lineLength, room}
 use Rattle.checks.specs.Checks.{onAcceptance}
 use Rattle.cases.specs.Table.{Case, stationList, table}
 use Rattle.cases.specs.Cases.{filledPlaces, rowsOf, xOf, mOf, refinedAt, enough}
@@ -88,9 +88,9 @@ unfolding opens stationList wholeStations kindsFit coordinatesFit unknownsFit al
 list-opens = refl
 
 pub all-places : map (casePlaces network) table ≡ map (λ c. filledPlaces (c .records)) table
-unfolding filledPlaces network table final rowNext briefNo changeNoOf puts first placeNo emptyNo undoNo recordNo recordNoOver endsFit upInRange baselineInRange weightsInRange heightInRange minorsPositive adjugateFits matrixFits misclosureFits misclosures misclosureIn reducedUp reduced acts actsOf misclosureAt fromOf toOf indexIn tabulate coordinate coordinateIn allBelow standing accepted unless isEmpty observations
+unfolding filledPlaces network table final rowNext briefNo changeNoOf puts first placeNo emptyNo undoNo recordNo recordNoOver recordEndsFit inRange recordMatrixFits endsFit upInRange baselineInRange weightsInRange heightInRange minorsPositive adjugateFits matrixFits misclosureFits misclosures misclosureIn reducedUp reduced acts actsOf misclosureAt fromOf toOf joins indexIn tabulate coordinate coordinateIn allBelow standing accepted unless isEmpty observations
 all-places = refl
 
 pub all-worked : map (λ c. workedOn network (filledPlaces (c .records)) c) table ≡ map expected table
-unfolding workedOn filledPlaces expected network table final answers rowNext rowSays briefNo changeNoOf puts first placeNo emptyNo undoNo recordNo recordNoOver endsFit upInRange baselineInRange weightsInRange heightInRange minorsPositive adjugateFits matrixFits misclosureFits misclosures misclosureIn reducedUp reduced acts actsOf misclosureAt fromOf toOf indexIn tabulate coordinate coordinateIn allBelow standing accepted unless isEmpty answer sum sumN entryN shareN entryU shareU A isUnknown unknown unknownIn number joins weights judge judgeNumbers lengthsFit correctionsSmall inverseSmall defectSmall residualSmall refinementSmall allTied isTied tiedSet edge firstUntied firstFailing search pass join setOf setBit digit workedOut onAcceptance room lineLength stationLineWords verdictAt recordLineWords stationLinesWords recordLinesWords globalWords sheetWords verdictWord localVerdict globalVerdict chiSquare correction adjusted covariance residual unknownAtEnd inAdjustment weightedSquares shareT T observations shareD isRecord recordCount D observationVariance differenceVariance residualVariance adjugate
+unfolding workedOn filledPlaces expected network table final answers rowNext rowSays briefNo changeNoOf puts first placeNo emptyNo undoNo recordNo recordNoOver recordEndsFit inRange recordMatrixFits endsFit upInRange baselineInRange weightsInRange heightInRange minorsPositive adjugateFits matrixFits misclosureFits misclosures misclosureIn reducedUp reduced acts actsOf misclosureAt fromOf toOf indexIn tabulate coordinate coordinateIn allBelow standing accepted unless isEmpty answer sum sumN entryN shareN entryU shareU A isUnknown unknown unknownIn number joins weights judge judgeNumbers lengthsFit correctionsSmall inverseSmall defectSmall residualSmall refinementSmall allTied isTied tiedSet edge firstUntied firstFailing search pass join setOf setBit digit workedOut onAcceptance room lineLength stationLineWords verdictAt lineWords recordLineWords stationLinesWords recordLinesWords globalWords sheetWords verdictWord localVerdict globalVerdict chiSquare correction adjusted covariance residual unknownAtEnd inAdjustment weightedSquares shareT T observations shareD isRecord recordCount D weightsVariance observationVariance differenceVariance residualVariance adjugate
 all-worked = refl

@@ -8,13 +8,12 @@ use native.Mathlib.Omega.{arith}
 use lib.IntN.{ℤ, pos}
 use Rattle.integers.specs.Sums.{sumN-ext}
 use Rattle.integers.specs.Tables.{tabulate-ext}
-use Rattle.network.specs.Records.{isEmpty, recordAt}
+use Rattle.network.specs.Records.{observations, isEmpty, recordAt}
 use Rattle.network.specs.AtMarks.{atMarks, marks-observations, marks-acts, marks-from, marks-to}
 use Rattle.network.specs.declared.Network.{Network}
 use Rattle.network.specs.declared.Station.{Station}
 use Rattle.network.specs.declared.Place.{Place}
 use Rattle.network.specs.declared.Record.{Record}
-use Rattle.network.specs.declared.Record.the-variants.{Empty, Baseline as baseline, Height as height}
 use Rattle.normals.specs.Formulas.{shareN, shareU, normalsOf}
 use Rattle.normals.specs.AtMarks.{marks-shareN, marks-shareU}
 use Rattle.chains.specs.Chains.{edge, edges, tiedSet, isTied}
@@ -22,7 +21,7 @@ use Rattle.acceptance.specs.Exactly.{answer}
 use Rattle.book.specs.declared.Book.{Book}
 use Rattle.residuals.specs.Residuals.{residual, shareT, T, shareD, isRecord, recordCount}
 use Rattle.residuals.specs.AtMarks.{marks-record, marks-variance, marks-shareD, marks-residual, marks-shareT}
-use Rattle.sheet.specs.Sheet.{verdictAt, recordLineWords, recordLinesWords, sheetWords, lineLength, room}
+use Rattle.sheet.specs.Sheet.{verdictAt, lineWords, recordLineWords, recordLinesWords, sheetWords, lineLength, room}
 use Rattle.checks.specs.Checks.{sizesFit, thenNine, checked}
 use Rattle.checks.specs.SameShares.{SameShares, same-T, same-normals, same-checked, same-global}
 
@@ -44,13 +43,16 @@ module _ (stations : List Station) (x m : List ℤ) where
   verdict-at-marks r a = rw (marks-residual stations r x a, marks-variance stations r m a) refl
 
   line-at-marks : (p : ℕ) (r : Record) → recordLineWords stations x m p (atMarks r) ≡ recordLineWords stations x m p r
-  unfolding recordLineWords atMarks
-  line-at-marks p Empty = refl
-  line-at-marks p (baseline b) =
-      let v = marks-residual stations (baseline b) x in
-      let w = verdict-at-marks (baseline b) in
-      λ i. pos (p + 1) ∷ v 0 i ∷ v 1 i ∷ v 2 i ∷ w 0 i ∷ w 1 i ∷ w 2 i ∷ []
-  line-at-marks p (height h) = refl
+  unfolding recordLineWords lineWords
+  line-at-marks p r = rw (marks-observations r) (go (observations r))
+    where
+      go : (n : ℕ) → lineWords stations x m n p (atMarks r) ≡ lineWords stations x m n p r
+      go zero = refl
+      go (suc zero) = rw (marks-residual stations r x 2, verdict-at-marks r 2) refl
+      go (suc (suc n)) =
+          let v = marks-residual stations r x in
+          let w = verdict-at-marks r in
+          λ i. pos (p + 1) ∷ v 0 i ∷ v 1 i ∷ v 2 i ∷ w 0 i ∷ w 1 i ∷ w 2 i ∷ []
 
 module _ (net : Network) (places others : List Place) (same : SameAtMarks places others) where
   -- what is the same of a record and of that record taken to the marks is the same in both lists

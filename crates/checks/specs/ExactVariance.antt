@@ -18,13 +18,13 @@ use Rattle.integers.specs.Division.{floorDiv, floorDiv-≤, floorDiv->}
 use Rattle.network.specs.Stations.{unknown, number, unknownCount, networkFits}
 use Rattle.network.specs.StationLaws.{unknown-cases, number-below}
 use Rattle.network.specs.Records.{acts, fromOf, toOf, joins, joins-one}
+use Rattle.network.specs.RecordLaws.{joins-are}
 use Rattle.network.specs.Rules.{recordFits}
 use Rattle.network.specs.RuleLaws.{sound-record}
 use Rattle.network.specs.declared.Station.{Station}
 use Rattle.network.specs.declared.Network.{Network}
 use Rattle.network.specs.declared.Place.{Place}
 use Rattle.network.specs.declared.Record.{Record}
-use Rattle.network.specs.declared.Record.the-variants.{Empty, Baseline as baseline, Height as height}
 use Rattle.normals.specs.Formulas.{A, entryN}
 use Rattle.acceptance.specs.Tests.{byRows}
 use Rattle.acceptance.specs.Follows.{RoundedInverse}
@@ -58,10 +58,11 @@ exactDifference stations Z r a =
     f = fromOf r * 3 + a
 
 joins-twice : (r : Record) → joins r *ℤ joins r ≡ joins r
-unfolding joins
-joins-twice Empty = refl
-joins-twice (baseline b) = refl
-joins-twice (height h) = refl
+joins-twice r = go (joins-are r)
+  where
+    go : (joins r ≡ pos 1) ⊎ ((joins r ≡ pos 0) × (fromOf r ≡ toOf r)) → joins r *ℤ joins r ≡ joins r
+    go (inl e) = rw e refl
+    go (inr e) = rw (e .0) refl
 
 -- "q = floor(S·adj/det) − (M_tt + M_ff − M_tf − M_ft)": the same of the exact inverse, where the record acts
 pub four-entries : (stations : List Station) (Z : ℕ → ℕ → ℤ) (r : Record) (a : ℕ) → acts a r ≡ true → fromOf r * 3 + a < 96 → toOf r * 3 + a < 96

@@ -16,10 +16,10 @@ use Rattle.integers.specs.Dependence.{Dependent, dependent-within}
 use Rattle.words.specs.Bools.{true-or-false}
 use Rattle.network.specs.Stations.{unknownCount}
 use Rattle.network.specs.Records.{acts, recordAt, observations, actsOf}
+use Rattle.network.specs.RecordLaws.{by-observations}
 use Rattle.network.specs.declared.Station.{Station}
 use Rattle.network.specs.declared.Place.{Place}
 use Rattle.network.specs.declared.Record.{Record}
-use Rattle.network.specs.declared.Record.the-variants.{Empty, Baseline as baseline, Height as height}
 use Rattle.normals.specs.Formulas.{A, entryN}
 use Rattle.normals.specs.Acting.{A-not-acting}
 use Rattle.normals.specs.WholeMatrices.{rowA, blockP, N-whole}
@@ -33,10 +33,8 @@ abbrev observes : Record → ℕ → ℕ
 observes r a = cond (acts a r) 1 0
 
 observed : (r : Record) → sumN 3 (observes r) ≡ observations r
-unfolding acts observations sumN actsOf
-observed Empty = refl
-observed (baseline b) = refl
-observed (height h) = refl
+unfolding acts sumN actsOf
+observed r = by-observations r (λ n. sumN 3 (λ a. cond (actsOf n a) 1 0) ≡ n) refl refl refl
 
 module _ (st : List Station) (r : Record) where
   -- 1 where component a adds to D

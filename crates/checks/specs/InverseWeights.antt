@@ -1,5 +1,5 @@
 -- The exact inverse P⁻¹ of a record's weights, on the components in which it acts: whole numbers Q over p. Every record by the rules has one. Assumes nothing.
-use Prim.Native.Nat.{ℕ, zero, suc, _<_}
+use Prim.Native.Nat.{ℕ, zero, suc, _+_, _*_, _<_}
 use mathlib.Core.Path.{_≡_, refl, sym, ap, _∙_}
 use mathlib.Core.Bool.{true, false}
 use mathlib.Core.Logic.{_⊎_, inl, inr}
@@ -7,69 +7,89 @@ use mathlib.Core.List.{[], _∷_}
 use native.Mathlib.Omega.{arith}
 use borrow.Author.Tests.{eqb-true}
 use lib.Dec.{lit<}
-use lib.IntN.{ℤ, pos, natAbs, _*ℤ_, zero-*ℤ, *ℤ-zero, *ℤ-comm}
+use lib.ListN.{getD}
+use lib.IntN.{ℤ, pos, natAbs, _+ℤ_, _*ℤ_, zero-*ℤ, *ℤ-zero, *ℤ-comm}
 use Rattle.integers.specs.Solvers.{ring, shapes}
 use Rattle.integers.specs.Sums.{sum, sum-ext, sum-0, δ, δ-other, δ-sym, sum-δ, mat-assoc}
 use Rattle.integers.specs.Division.{floorDiv}
 use Rattle.words.specs.Bools.{clash, true-or-false}
-use Rattle.weights.specs.Rules.{adjugate, determinant}
+use Rattle.weights.specs.Rules.{matrixRows, adjugate, determinant}
+use Rattle.weights.specs.declared.WeightMatrix.{WeightMatrix}
 use Rattle.weights.specs.Quotients.{divisor, divisor-some}
 use Rattle.weights.specs.Inverse.{adjugateAt, adjugate-inverse}
 use Rattle.network.specs.Records.{weightMatrixOf, acts, weights, observations, actsOf}
 use Rattle.network.specs.Rules.{recordFits}
 use Rattle.network.specs.declared.Network.{Network}
-use Rattle.network.specs.declared.Level.{Level}
 use Rattle.network.specs.declared.Record.{Record}
-use Rattle.network.specs.declared.Record.the-variants.{Empty, Baseline as baseline, Height as height}
 use Rattle.normals.specs.Formulas.{P}
 use Rattle.normals.specs.Symmetry.{P-sym}
 use Rattle.normals.specs.Acting.{P-not-acting}
 use Rattle.integers.specs.Inverses.{S}
-use Rattle.residuals.specs.Residuals.{observationVariance}
-use Rattle.residuals.specs.Weights.{weights-by-rules}
+use Rattle.residuals.specs.Residuals.{weightsVariance, observationVariance}
+use Rattle.residuals.specs.Weights.{WeightQuotients, record-quotients}
 
--- PQ = p·I where the record acts: of a baseline the whole of it, of a height difference weight·Q_UU = p
+-- PQ = p·I where the record acts: of a matrix the whole of it, of a single weight weight·Q_UU = p
 pub record InverseWeights (r : Record) (Q : ℕ → ℕ → ℤ) (p : ℕ) : Type 0 where
   pub positive : 0 < p
   pub inverse : (a b : ℕ) → a < 3 → b < 3 → acts a r ≡ true → acts b r ≡ true → sum 3 (λ c. P r a c *ℤ Q c b) ≡ pos p *ℤ δ a b
 
--- ════ every record by the rules has one: a baseline the adjugate over the determinant, a height difference 1 over its weight
-unfoldable pub weightAdjugate : Record → ℕ → ℕ → ℤ
-weightAdjugate Empty a c = pos 0
-weightAdjugate (baseline b) a c = adjugateAt (weightMatrixOf b) a c
-weightAdjugate (height h) a c = pos 1
+-- ════ every record by the rules has one: the adjugate of a matrix over its determinant, or 1 over a single weight
+-- by the number of components that it observes
+unfoldable pub adjugateOver : ℕ → WeightMatrix → ℕ → ℕ → ℤ
+adjugateOver zero w a c = pos 0
+adjugateOver (suc zero) w a c = pos 1
+adjugateOver (suc (suc n)) w a c = adjugateAt w a c
 
-unfoldable pub weightDeterminant : Record → ℕ
-weightDeterminant Empty = 1
-weightDeterminant (baseline b) = natAbs (determinant (weightMatrixOf b))
-weightDeterminant (height h) = natAbs (h .weight)
+unfoldable pub determinantOver : ℕ → WeightMatrix → ℕ
+determinantOver zero w = 1
+determinantOver (suc zero) w = natAbs (w .uu)
+determinantOver (suc (suc n)) w = natAbs (determinant w)
 
-height-inverse : (x : Level) (a b : ℕ) → a ≡ 2 → b ≡ 2 → sum 3 (λ c. P (height x) a c *ℤ weightAdjugate (height x) c b) ≡ x .weight *ℤ δ a b
-unfolding sum weights weightAdjugate
-height-inverse x a b p q = rw (p, q) (ring (x .weight ∷ []) (search shapes depth 12) tt)
+abbrev pub weightAdjugate : Record → ℕ → ℕ → ℤ
+weightAdjugate r = adjugateOver (observations r) (weightMatrixOf r)
+
+abbrev pub weightDeterminant : Record → ℕ
+weightDeterminant r = determinantOver (observations r) (weightMatrixOf r)
+
+-- a row of the weights times a column, in a component in which they act
+single-inverse : (w : WeightMatrix) (a b : ℕ) → a ≡ 2 → b ≡ 2 → w .eu ≡ pos 0 → w .nu ≡ pos 0
+    → sum 3 (λ c. getD (matrixRows w) (a * 3 + c) (pos 0) *ℤ pos 1) ≡ w .uu *ℤ δ a b
+unfolding sum
+single-inverse w a b p q e n = rw (p, q) (added (w .eu) (w .nu) e n)
+  where
+    added : (x y : ℤ) → x ≡ pos 0 → y ≡ pos 0 → pos 0 +ℤ x *ℤ pos 1 +ℤ y *ℤ pos 1 +ℤ w .uu *ℤ pos 1 ≡ w .uu *ℤ pos 1
+    added x y d f = rw (d, f) (ring (w .uu ∷ []) (search shapes depth 12) tt)
 
 pub inverse-weights : (net : Network) (r : Record) → recordFits net r ≡ true → InverseWeights r (weightAdjugate r) (weightDeterminant r)
-unfolding weightAdjugate weightDeterminant weights acts observations actsOf
-inverse-weights net Empty e = record { positive = lit< tt; inverse = λ a b p q d d′. clash d refl }
-inverse-weights net (baseline x) e =
-    let w = weights-by-rules net (baseline x) e .east in
-    record { positive = divisor-some w; inverse = λ a b p q d d′. adjugate-inverse (weightMatrixOf x) a b p q ∙ ap (λ (z : ℤ). z *ℤ δ a b) (sym (divisor w)) }
-inverse-weights net (height x) e =
-    let w = weights-by-rules net (height x) e in
-    record {
-      positive = divisor-some w;
-      inverse = λ a b p q d d′. height-inverse x a b (eqb-true a 2 d) (eqb-true b 2 d′) ∙ ap (λ (z : ℤ). z *ℤ δ a b) (sym (divisor w));
-    }
+unfolding adjugateOver determinantOver weights acts actsOf
+inverse-weights net r e = go (observations r) refl (record-quotients net r e)
+  where
+    go : (n : ℕ) → observations r ≡ n → WeightQuotients n (weightMatrixOf r) → InverseWeights r (adjugateOver n (weightMatrixOf r)) (determinantOver n (weightMatrixOf r))
+    go zero o g = record { positive = lit< tt; inverse = λ a b p q d d′. clash (rw o at d) refl }
+    go (suc zero) o g =
+        record {
+          positive = divisor-some g;
+          inverse = λ a b p q d d′.
+              single-inverse (weightMatrixOf r) a b (eqb-true a 2 (rw o at d)) (eqb-true b 2 (rw o at d′)) (P-not-acting r 0 2 (lit< tt) (lit< tt) (rw o refl)) (P-not-acting r 1 2 (lit< tt) (lit< tt) (rw o refl))
+              ∙ ap (λ (z : ℤ). z *ℤ δ a b) (sym (divisor g));
+        }
+    go (suc (suc n)) o g =
+        let w = g .east in
+        record { positive = divisor-some w; inverse = λ a b p q d d′. adjugate-inverse (weightMatrixOf r) a b p q ∙ ap (λ (z : ℤ). z *ℤ δ a b) (sym (divisor w)) }
 
 -- q's quotient, floor(S·adj/det), is of its diagonal
+quotient-over : (n : ℕ) (w : WeightMatrix) (a : ℕ) → a < 3 → actsOf n a ≡ true → weightsVariance n w a ≡ floorDiv (S *ℤ adjugateOver n w a a) (determinantOver n w)
+unfolding actsOf weightsVariance adjugate adjugateAt adjugateOver determinantOver
+quotient-over zero w a h e = clash e refl
+quotient-over (suc zero) w a h e = refl
+quotient-over (suc (suc n)) w zero h e = refl
+quotient-over (suc (suc n)) w (suc zero) h e = refl
+quotient-over (suc (suc n)) w (suc (suc zero)) h e = refl
+quotient-over (suc (suc n)) w (suc (suc (suc a))) h e = absurd (omega arith)
+
 pub observation-quotient : (r : Record) (a : ℕ) → a < 3 → acts a r ≡ true → observationVariance r a ≡ floorDiv (S *ℤ weightAdjugate r a a) (weightDeterminant r)
-unfolding acts observationVariance adjugate adjugateAt weightAdjugate weightDeterminant observations actsOf
-observation-quotient Empty a h e = clash e refl
-observation-quotient (baseline b) zero h e = refl
-observation-quotient (baseline b) (suc zero) h e = refl
-observation-quotient (baseline b) (suc (suc zero)) h e = refl
-observation-quotient (baseline b) (suc (suc (suc a))) h e = absurd (omega arith)
-observation-quotient (height x) a h e = refl
+unfolding acts observationVariance
+observation-quotient r a h e = quotient-over (observations r) (weightMatrixOf r) a h e
 
 -- ════ any two of one record are in proportion
 module _ (r : Record) {Q : ℕ → ℕ → ℤ} {p : ℕ} (g : InverseWeights r Q p) where

@@ -9,15 +9,15 @@ use mathlib.Core.Logic.{_⊎_, inl, inr}
 use native.Mathlib.Omega.{arith}
 use lib.Dec.{eqb}
 use lib.IntN.{ℤ, pos}
-use Rattle.words.specs.Bools.{clash, same-test}
+use Rattle.words.specs.Bools.{same-test}
 use Rattle.network.specs.Stations.{unknown}
-use Rattle.network.specs.Records.{acts, fromOf, toOf, recordAt, observations, actsOf}
+use Rattle.network.specs.Records.{acts, fromOf, toOf, recordAt}
 use Rattle.network.specs.Rules.{recordFits}
-use Rattle.network.specs.RuleLaws.{network-few, in-list, ends-each, baseline-fits, height-fits}
+use Rattle.network.specs.RuleLaws.{network-few, ends-listed, fits-passed}
+use Rattle.network.specs.RecordLaws.{acting-filled}
 use Rattle.network.specs.declared.Network.{Network}
 use Rattle.network.specs.declared.Place.{Place}
 use Rattle.network.specs.declared.Record.{Record}
-use Rattle.network.specs.declared.Record.the-variants.{Empty, Baseline as baseline, Height as height}
 use Rattle.normals.specs.Formulas.{shareN, shareU, entryN, entryU}
 use Rattle.normals.specs.ByRules.{ByRules}
 use Rattle.chains.specs.Bits.{bit}
@@ -44,23 +44,14 @@ flipped : (net : Network) {r s : Record} → SameAt net r s → SameAt net s r
 flipped net (inl e) = inl (sym e)
 flipped net (inr e) = inr (e .1, e .0)
 
--- the ends of an acting record are in the list
-ends-listed : (net : Network) (few : net .count ≤ 32) (r : Record) (c : ℕ) → recordFits net r ≡ true → acts c r ≡ true → (fromOf r < net .count) × (toOf r < net .count)
-unfolding acts fromOf toOf observations actsOf
-ends-listed net few Empty c e a = clash a refl
-ends-listed net few (baseline b) c e a =
-    let i = ends-each (net .count) (b .from) (b .to) few (baseline-fits net b e .ends) in (in-list (net .count) (b .from) few (i .0), in-list (net .count) (b .to) few (i .1 .0))
-ends-listed net few (height h) c e a =
-    let i = ends-each (net .count) (h .from) (h .to) few (height-fits net h e .ends) in (in-list (net .count) (h .from) few (i .0), in-list (net .count) (h .to) few (i .1 .0))
-
 -- ════ a chain over one list is one over the other: where it goes along a check only, it has met a held station already
 module _ (net : Network) (places others : List Place) (g : ByRules net places) (same : SameAdjustment net places others) (c : ℕ) (low : c < 3) where
   ends-tied : (p : ℕ) → p < 256 → acts c (recordAt places p) ≡ true → inAdjustment (net .stations) (recordAt places p) ≡ false
       → Tied net others c (fromOf (recordAt places p)) × Tied net others c (toOf (recordAt places p))
   ends-tied p h a out =
-      let l = ends-listed net (network-few net (g .network)) (recordAt places p) c (g .each p h) a in
+      let l = ends-listed (net .count) (recordAt places p) (network-few net (g .network)) (fits-passed net (recordAt places p) (g .each p h) (acting-filled (recordAt places p) c a) .ends) in
       let u = check-only (net .stations) (recordAt places p) out .ends c low a in
-      (held (l .0) (u .0), held (l .1) (u .1))
+      (held (l .from) (u .0), held (l .to) (u .1))
 
   tied-too : {s : ℕ} → Tied net places c s → Tied net others c s
   tied-too (held l u) = held l u

@@ -1,6 +1,6 @@
 -- The words of a sound book are small, so that they fit 64 bits. Assumes nothing.
 use Prim.Native.Nat.{ℕ, zero, suc, _+_, _*_, _/_, _%_, _<_, _≤_, _^_, zero-le}
-use mathlib.Core.Path.{_≡_, sym, subst}
+use mathlib.Core.Path.{_≡_, refl, sym, subst}
 use mathlib.Core.Bool.{Bool, true, false, cond}
 use mathlib.Core.List.{List, [], _∷_, _++_}
 use native.Mathlib.Omega.{arith}
@@ -18,9 +18,9 @@ use Rattle.lists.specs.Sizes.{Small, small-at}
 use Rattle.lists.specs.Stored.{fits-by}
 use Rattle.weights.specs.Ranges.{small-weights}
 use Rattle.network.specs.Stations.{stationAt, coordinateIn, coordinate, coordinatesFit, networkFits}
-use Rattle.network.specs.Records.{recordAt}
-use Rattle.network.specs.Rules.{endsFit, recordFits}
-use Rattle.network.specs.RuleLaws.{network-few, network-coordinates, baseline-fits, height-fits, from-in-list, to-in-list}
+use Rattle.network.specs.Records.{recordAt, isEmpty, observations}
+use Rattle.network.specs.Rules.{endsFit, recordEndsFit, inRange, recordFits}
+use Rattle.network.specs.RuleLaws.{network-few, network-coordinates, fits-passed, from-in-list, to-in-list}
 use Rattle.network.specs.Ranges.{baseline-range, height-range}
 use Rattle.network.specs.declared.Kind.{Kind}
 use Rattle.network.specs.declared.Kind.the-variants.{Known, Free, Height}
@@ -77,16 +77,16 @@ module _ (net : Network) (e : networkFits net ≡ true) where
       (number-small from (from-in-list (net .count) from to few f), number-small to (to-in-list (net .count) from to few f))
 
   record-small : (r : Record) → recordFits net r ≡ true → Small L (recordWords r)
-  unfolding recordWords
+  unfolding recordWords recordEndsFit inRange isEmpty observations
   record-small Empty f = (zero-le, (zero-le, (zero-le, (zero-le, (zero-le, (zero-le, (zero-le, (zero-le, (zero-le, (zero-le, (zero-le, (zero-le, (zero-le, (zero-le, tt))))))))))))))
   record-small (baseline b) f =
-      let o = baseline-fits net b f in
+      let o = fits-passed net (baseline b) f refl in
       let g = baseline-range b (o .range) in
       let w = small-weights (g .weights) in
       let ends = ends-small (b .from) (b .to) (o .ends) in
       ((omega arith), (ends .0, (ends .1, (more (g .east) (omega arith), (more (g .north) (omega arith), (more (g .up) (omega arith), (more (w .ee) (omega arith), (more (w .en) (omega arith), (more (w .eu) (omega arith), (more (w .nn) (omega arith), (more (w .nu) (omega arith), (more (w .uu) (omega arith), (more (g .hf) (omega arith), (more (g .ht) (omega arith), tt))))))))))))))
   record-small (height h) f =
-      let o = height-fits net h f in
+      let o = fits-passed net (height h) f refl in
       let g = height-range h (o .range) in
       let ends = ends-small (h .from) (h .to) (o .ends) in
       ((omega arith), (ends .0, (ends .1, (zero-le, (zero-le, (more (g .up) (omega arith), (zero-le, (zero-le, (zero-le, (zero-le, (zero-le, (more (g .weight .most) (omega arith), (zero-le, (zero-le, tt))))))))))))))

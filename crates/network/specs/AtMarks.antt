@@ -7,14 +7,14 @@ use mathlib.Core.List.{List, [], _∷_}
 use borrow.Author.Tests.{le-leb}
 use lib.IntN.{ℤ, pos, natAbs}
 use Rattle.words.specs.Bools.{and-both}
-use Rattle.weights.specs.Rules.{weightsInRange}
+use Rattle.weights.specs.Rules.{matrixRows, weightsInRange}
 use Rattle.lists.specs.All.{each}
 use Rattle.network.specs.Stations.{coordinates}
-use Rattle.network.specs.Records.{weightMatrixOf, observations, acts, fromOf, toOf, joins, weights, reducedUp, reduced, misclosureIn, misclosures}
+use Rattle.network.specs.Records.{weightMatrixOf, observations, isEmpty, acts, fromOf, toOf, joins, weights, reducedUp, reduced, misclosureIn, misclosures}
 use Rattle.network.specs.RecordLaws.{no-heights}
-use Rattle.network.specs.Rules.{observedFits, upInRange, baselineInRange, misclosureFits, recordNoOver, recordNo}
+use Rattle.network.specs.Rules.{observedFits, upInRange, baselineInRange, recordEndsFit, inRange, recordMatrixFits, misclosureFits, recordNoOver, recordNo}
 use Rattle.network.specs.Ranges.{baseline-range}
-use Rattle.network.specs.RuleLaws.{accepted-fits, baseline-fits}
+use Rattle.network.specs.RuleLaws.{accepted-fits, fits-passed}
 use Rattle.network.specs.declared.Network.{Network}
 use Rattle.network.specs.declared.Baseline.{Baseline}
 use Rattle.network.specs.declared.Record.{Record}
@@ -79,11 +79,15 @@ marks-joins Empty = refl
 marks-joins (baseline b) = refl
 marks-joins (height h) = refl
 
+pub marks-matrix : (r : Record) → weightMatrixOf (atMarks r) ≡ weightMatrixOf r
+unfolding atMarks
+marks-matrix Empty = refl
+marks-matrix (baseline b) = refl
+marks-matrix (height h) = refl
+
 pub marks-weights : (r : Record) → weights (atMarks r) ≡ weights r
-unfolding atMarks weights
-marks-weights Empty = refl
-marks-weights (baseline b) = refl
-marks-weights (height h) = refl
+unfolding weights
+marks-weights r = ap matrixRows (marks-matrix r)
 
 pub marks-reduced : (r : Record) → reduced (atMarks r) ≡ reduced r
 unfolding atMarks reduced
@@ -97,7 +101,7 @@ marks-acts a r = rw (marks-observations r) refl
 
 pub marks-misclosures : (c : List ℤ) (r : Record) → misclosures c (atMarks r) ≡ misclosures c r
 unfolding misclosures misclosureIn
-marks-misclosures c r = rw (marks-acts 0 r, marks-acts 1 r, marks-acts 2 r, marks-from r, marks-to r, marks-reduced r) refl
+marks-misclosures c r = rw (marks-acts 0 r, marks-acts 1 r, marks-acts 2 r, marks-from r, marks-to r, marks-joins r, marks-reduced r) refl
 
 -- ════ where the record is by the rules, so is this one
 up-at-marks : (b : Baseline) → natAbs (reducedUp b) ≤ 1000000000 → upInRange (baselineAtMarks b) ≡ true
@@ -107,18 +111,18 @@ up-at-marks b h = rw (no-heights (baselineAtMarks b) refl refl, le-leb (natAbs (
 range-at-marks : (b : Baseline) → baselineInRange b ≡ true → baselineInRange (baselineAtMarks b) ≡ true
 unfolding baselineInRange
 range-at-marks b e =
-    let t = each (observedFits (b .east) ∷ observedFits (b .north) ∷ upInRange b ∷ weightsInRange (weightMatrixOf b) ∷ []) e in
+    let t = each (observedFits (b .east) ∷ observedFits (b .north) ∷ upInRange b ∷ weightsInRange (weightMatrixOf (baseline b)) ∷ []) e in
     and-both _ _ (and-both _ _ (and-both _ _ (t .0) (t .1 .0)) (up-at-marks b (baseline-range b e .reduced))) (t .1 .1 .1 .0)
 
-closes-at-marks : (c : List ℤ) (b : Baseline) → misclosureFits c (baseline b) ≡ true → misclosureFits c (baseline (baselineAtMarks b)) ≡ true
-unfolding misclosureFits atMarks
-closes-at-marks c b e = rw (marks-misclosures c (baseline b)) e
+closes-at-marks : (c : List ℤ) (r : Record) → misclosureFits c r ≡ true → misclosureFits c (atMarks r) ≡ true
+unfolding misclosureFits
+closes-at-marks c r e = rw (marks-misclosures c r) e
 
 baseline-accepted : (net : Network) (b : Baseline) → recordNo net (baseline b) ≡ 0 → recordNo net (baseline (baselineAtMarks b)) ≡ 0
-unfolding recordNo recordNoOver
+unfolding recordNo recordNoOver recordEndsFit recordMatrixFits inRange observations isEmpty atMarks
 baseline-accepted net b e =
-    let g = baseline-fits net b (accepted-fits net (baseline b) e) in
-    rw (g .ends, range-at-marks b (g .range), g .matrix, closes-at-marks (coordinates (net .stations)) b (g .closes)) refl
+    let g = fits-passed net (baseline b) (accepted-fits net (baseline b) e) refl in
+    rw (g .ends, range-at-marks b (g .range), g .matrix, closes-at-marks (coordinates (net .stations)) (baseline b) (g .closes)) refl
 
 pub marks-accepted : (net : Network) (r : Record) → recordNo net r ≡ 0 → recordNo net (atMarks r) ≡ 0
 unfolding atMarks

@@ -11,7 +11,7 @@ use Rattle.words.specs.SignedLaws.{between-size}
 use Rattle.lists.specs.All.{each}
 use Rattle.lists.specs.Sizes.{small-at}
 use Rattle.weights.specs.Rules.{weightFits, weightsInRange}
-use Rattle.weights.specs.Ranges.{Weight, WeightsRange, weight-range, weights-range}
+use Rattle.weights.specs.Ranges.{Weight, WeightsRange, SmallWeights, weight-range, weights-range, small-weights}
 use Rattle.network.specs.Records.{weightMatrixOf, reducedUp, reduced}
 use Rattle.network.specs.Rules.{observedFits, heightAboveMarkFits, upInRange, baselineInRange, heightInRange, inRange}
 use Rattle.network.specs.declared.Baseline.{Baseline}
@@ -26,7 +26,7 @@ pub record BaselineRange (b : Baseline) : Type 0 where
   pub hf : natAbs (b .hf) ≤ 300000
   pub ht : natAbs (b .ht) ≤ 300000
   pub reduced : natAbs (reducedUp b) ≤ 1000000000
-  pub weights : WeightsRange (weightMatrixOf b)
+  pub weights : WeightsRange (weightMatrixOf (baseline b))
 
 pub record HeightRange (h : Level) : Type 0 where
   pub up : natAbs (h .up) ≤ 1000000000
@@ -35,7 +35,7 @@ pub record HeightRange (h : Level) : Type 0 where
 pub baseline-range : (b : Baseline) → baselineInRange b ≡ true → BaselineRange b
 unfolding baselineInRange upInRange
 baseline-range b e =
-    let t = each (observedFits (b .east) ∷ observedFits (b .north) ∷ upInRange b ∷ weightsInRange (weightMatrixOf b) ∷ []) e in
+    let t = each (observedFits (b .east) ∷ observedFits (b .north) ∷ upInRange b ∷ weightsInRange (weightMatrixOf (baseline b)) ∷ []) e in
     let u = each (observedFits (b .up) ∷ heightAboveMarkFits (b .hf) ∷ heightAboveMarkFits (b .ht) ∷ observedFits (reducedUp b) ∷ []) (t .1 .1 .0) in
     record {
       east = leb-true (natAbs (b .east)) 1000000000 (t .0);
@@ -44,7 +44,7 @@ baseline-range b e =
       hf = between-size 0 300000 (b .hf) (u .1 .0);
       ht = between-size 0 300000 (b .ht) (u .1 .1 .0);
       reduced = leb-true (natAbs (reducedUp b)) 1000000000 (u .1 .1 .1 .0);
-      weights = weights-range (weightMatrixOf b) (t .1 .1 .1 .0);
+      weights = weights-range (weightMatrixOf (baseline b)) (t .1 .1 .1 .0);
     }
 
 pub height-range : (h : Level) → heightInRange h ≡ true → HeightRange h
@@ -61,3 +61,10 @@ unfolding inRange reduced
 values-small Empty e = small-at 1000000000 (reduced Empty) (zero-le, (zero-le, (zero-le, tt)))
 values-small (baseline b) e = let v = baseline-range b e in small-at 1000000000 (reduced (baseline b)) (v .east, (v .north, (v .reduced, tt)))
 values-small (height h) e = small-at 1000000000 (reduced (height h)) (zero-le, (zero-le, (height-range h e .up, tt)))
+
+-- and so are its weights
+pub weights-small : (r : Record) → inRange r ≡ true → SmallWeights (weightMatrixOf r)
+unfolding inRange
+weights-small Empty e = record { ee = zero-le; en = zero-le; eu = zero-le; nn = zero-le; nu = zero-le; uu = zero-le }
+weights-small (baseline b) e = small-weights (baseline-range b e .weights)
+weights-small (height h) e = record { ee = zero-le; en = zero-le; eu = zero-le; nn = zero-le; nu = zero-le; uu = height-range h e .weight .most }

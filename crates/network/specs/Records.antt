@@ -5,7 +5,7 @@ use mathlib.Core.List.{List, [], _∷_}
 use native.Mathlib.Omega.{arith}
 use lib.Dec.{eqb}
 use lib.ListN.{getD}
-use lib.IntN.{ℤ, pos, natAbs, _+ℤ_, _-ℤ_}
+use lib.IntN.{ℤ, pos, natAbs, _+ℤ_, _-ℤ_, _*ℤ_}
 use Rattle.words.specs.Signed.{indexIn}
 use Rattle.weights.specs.Rules.{matrixRows}
 use Rattle.weights.specs.declared.WeightMatrix.{WeightMatrix}
@@ -92,15 +92,15 @@ joins-one Empty = let h : 0 ≤ 1 = omega arith in h
 joins-one (baseline b) = let h : 1 ≤ 1 = omega arith in h
 joins-one (height h) = let h : 1 ≤ 1 = omega arith in h
 
--- ════ the weights of a baseline as a matrix
-abbrev pub weightMatrixOf : Baseline → WeightMatrix
-weightMatrixOf b = record { ee = b .ee; en = b .en; eu = b .eu; nn = b .nn; nu = b .nu; uu = b .uu }
+-- ════ its weights: a symmetric 3×3 matrix; of a height difference the one weight at U; an empty place has the weights 0
+abbrev pub weightMatrixOf : Record → WeightMatrix
+weightMatrixOf Empty = record { ee = pos 0; en = pos 0; eu = pos 0; nn = pos 0; nu = pos 0; uu = pos 0 }
+weightMatrixOf (baseline b) = record { ee = b .ee; en = b .en; eu = b .eu; nn = b .nn; nu = b .nu; uu = b .uu }
+weightMatrixOf (height h) = record { ee = pos 0; en = pos 0; eu = pos 0; nn = pos 0; nu = pos 0; uu = h .weight }
 
--- ════ its weights by rows: a symmetric 3×3 matrix; of a height difference the one weight at U; an empty place has the weights 0
+-- by rows
 unfoldable pub weights : Record → List ℤ
-weights Empty = pos 0 ∷ pos 0 ∷ pos 0 ∷ pos 0 ∷ pos 0 ∷ pos 0 ∷ pos 0 ∷ pos 0 ∷ pos 0 ∷ []
-weights (baseline b) = matrixRows (weightMatrixOf b)
-weights (height h) = pos 0 ∷ pos 0 ∷ pos 0 ∷ pos 0 ∷ pos 0 ∷ pos 0 ∷ pos 0 ∷ pos 0 ∷ h .weight ∷ []
+weights r = matrixRows (weightMatrixOf r)
 
 -- ════ its reduced differences, to minus from, in E, N, U: those between the marks, as observed but for the U of a baseline, which comes antenna to antenna
 -- document 02, request 4: "the reduced U difference is the observed one plus the from-height minus the to-height"
@@ -112,13 +112,14 @@ reduced Empty = pos 0 ∷ pos 0 ∷ pos 0 ∷ []
 reduced (baseline b) = b .east ∷ b .north ∷ reducedUp b ∷ []
 reduced (height h) = pos 0 ∷ pos 0 ∷ h .up ∷ []
 
--- "Misclosure = observed minus the provisional difference", "taken from the reduced value": c holds the provisional coordinates, a is the component
-unfoldable pub misclosureAt : List ℤ → ℕ → ℕ → ℕ → ℤ → ℤ
-misclosureAt c f t a o = o -ℤ (getD c (t * 3 + a) (pos 0) -ℤ getD c (f * 3 + a) (pos 0))
+-- "Misclosure = observed minus the provisional difference", "taken from the reduced value": c holds the provisional coordinates, a is the component, f and t are the stations at the ends; j is 0
+-- where there is no from end
+unfoldable pub misclosureAt : List ℤ → ℕ → ℕ → ℤ → ℕ → ℤ → ℤ
+misclosureAt c f t j a o = o -ℤ (getD c (t * 3 + a) (pos 0) -ℤ j *ℤ getD c (f * 3 + a) (pos 0))
 
 -- the misclosure of a record in component a, 0 in one that it does not observe
 unfoldable pub misclosureIn : List ℤ → Record → ℕ → ℤ
-misclosureIn c r a = cond (acts a r) (misclosureAt c (fromOf r) (toOf r) a (getD (reduced r) a (pos 0))) (pos 0)
+misclosureIn c r a = cond (acts a r) (misclosureAt c (fromOf r) (toOf r) (joins r) a (getD (reduced r) a (pos 0))) (pos 0)
 
 -- in E, N, U
 unfoldable pub misclosures : List ℤ → Record → List ℤ

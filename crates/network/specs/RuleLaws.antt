@@ -1,6 +1,6 @@
 -- What the rules give: all that later crates use of them, so that a new rule or a new kind of record changes nothing above. Assumes nothing.
 use Prim.Native.Nat.{ℕ, zero, suc, _<_, _≤_, zero-le}
-use mathlib.Core.Path.{_≡_, refl, sym, ap, _∙_}
+use mathlib.Core.Path.{_≡_, refl, sym, ap, _∙_, subst}
 use mathlib.Core.Bool.{Bool, true, false, cond, not}
 use mathlib.Core.List.{List, [], _∷_}
 use mathlib.Core.Logic.{_⊎_, inl, inr}
@@ -11,7 +11,7 @@ use lib.ListN.{length, getD}
 use lib.IntN.{ℤ, pos, negsuc, natAbs}
 use lib.Signed.{leZ}
 use Rattle.integers.specs.Tables.{Within, within-inside, within-tabulate}
-use Rattle.words.specs.Bools.{clash, and-left, and-right}
+use Rattle.words.specs.Bools.{clash, true-or-false, and-left, and-right}
 use Rattle.words.specs.Signed.{indexIn, eqZ}
 use Rattle.words.specs.SignedLaws.{index-suc, index-number, eqZ-false}
 use Rattle.lists.specs.Sizes.{small-at}
@@ -20,15 +20,14 @@ use Rattle.weights.specs.Rules.{matrixFits}
 use Rattle.weights.specs.Ranges.{Weight, WeightsRange}
 use Rattle.weights.specs.Positive.{PositiveMatrix, positive-matrix}
 use Rattle.weights.specs.Determinants.{weight-some}
-use Rattle.network.specs.Ranges.{baseline-range, height-range}
+use Rattle.weights.specs.declared.WeightMatrix.{WeightMatrix}
+use Rattle.network.specs.Ranges.{baseline-range, height-range, weights-small}
 use Rattle.network.specs.Stations.{coordinates, coordinate, unknownCount, countFits, coordinatesFit, unknownsFit, blankBeyond, networkFits}
 use Rattle.network.specs.Records.{weightMatrixOf, fromOf, toOf, joins, weights, misclosureIn, misclosures, l, observations, actsOf, acts, isEmpty}
 use Rattle.network.specs.RecordLaws.{Observed}
-use Rattle.network.specs.Rules.{inList, endsFit, baselineInRange, heightInRange, inRange, misclosureFits, recordNoOver, recordNo, recordFitsOver, recordFits}
+use Rattle.network.specs.Rules.{inList, endsFit, recordEndsFit, inRange, recordMatrixFits, misclosureFits, recordNoOver, recordNo, recordFitsOver, recordFits}
 use Rattle.network.specs.declared.Station.{Station}
 use Rattle.network.specs.declared.Network.{Network}
-use Rattle.network.specs.declared.Baseline.{Baseline}
-use Rattle.network.specs.declared.Level.{Level}
 use Rattle.network.specs.declared.Record.{Record}
 use Rattle.network.specs.declared.Record.the-variants.{Empty, Baseline as baseline, Height as height}
 
@@ -70,35 +69,23 @@ module _ (net : Network) (e : networkFits net ≡ true) where
       }
 
 -- ════ the tests that a record not refused has passed
-pub record BaselineFits (count : ℕ) (c : List ℤ) (b : Baseline) : Type 0 where
-  pub ends : endsFit count (b .from) (b .to) ≡ true
-  pub range : baselineInRange b ≡ true
-  pub matrix : matrixFits (weightMatrixOf b) ≡ true
-  pub closes : misclosureFits c (baseline b) ≡ true
-
-pub record HeightFits (count : ℕ) (c : List ℤ) (h : Level) : Type 0 where
-  pub ends : endsFit count (h .from) (h .to) ≡ true
-  pub range : heightInRange h ≡ true
-  pub closes : misclosureFits c (height h) ≡ true
+pub record RecordPassed (count : ℕ) (c : List ℤ) (r : Record) : Type 0 where
+  pub ends : recordEndsFit count r ≡ true
+  pub range : inRange r ≡ true
+  pub matrix : recordMatrixFits r ≡ true
+  pub closes : misclosureFits c r ≡ true
 
 not-refused : (b : Bool) (m k : ℕ) → cond b m (suc k) ≡ 0 → (b ≡ true) × (m ≡ 0)
 not-refused true m k e = (refl, e)
 not-refused false m k e = absurd (let z : suc k ≡ 0 = e in omega arith)
 
-baseline-passed : (count : ℕ) (c : List ℤ) (b : Baseline) → recordNoOver count c (baseline b) ≡ 0 → BaselineFits count c b
+record-passed : (count : ℕ) (c : List ℤ) (r : Record) → recordNoOver count c r ≡ 0 → RecordPassed count c r
 unfolding recordNoOver
-baseline-passed count c b e =
-    let x = not-refused (endsFit count (b .from) (b .to)) _ 2 e in
-    let y = not-refused (baselineInRange b) _ 3 (x .1) in
-    let z = not-refused (matrixFits (weightMatrixOf b)) _ 4 (y .1) in
-    record { ends = x .0; range = y .0; matrix = z .0; closes = not-refused (misclosureFits c (baseline b)) 0 5 (z .1) .0 }
-
-height-passed : (count : ℕ) (c : List ℤ) (h : Level) → recordNoOver count c (height h) ≡ 0 → HeightFits count c h
-unfolding recordNoOver
-height-passed count c h e =
-    let x = not-refused (endsFit count (h .from) (h .to)) _ 2 e in
-    let y = not-refused (heightInRange h) _ 3 (x .1) in
-    record { ends = x .0; range = y .0; closes = not-refused (misclosureFits c (height h)) 0 5 (y .1) .0 }
+record-passed count c r e =
+    let x = not-refused (recordEndsFit count r) _ 2 e in
+    let y = not-refused (inRange r) _ 3 (x .1) in
+    let z = not-refused (recordMatrixFits r) _ 4 (y .1) in
+    record { ends = x .0; range = y .0; matrix = z .0; closes = not-refused (misclosureFits c r) 0 5 (z .1) .0 }
 
 -- ════ the ends of a record that is not refused
 pub in-list : (count : ℕ) (v : ℤ) → count ≤ 32 → inList count v ≡ true → indexIn v 32 < count
@@ -125,6 +112,22 @@ module _ (count : ℕ) (from to : ℤ) (few : count ≤ 32) (e : endsFit count f
       eqZ-false from to (not-true (eqZ from to) (ends-each .1 .1 .0))
       (index-number from 32 from-in-list ∙ ap (λ (k : ℕ). pos (suc k)) q ∙ sym (index-number to 32 to-in-list))
 
+-- they are in the list, and apart where the record joins two
+pub record EndsListed (count : ℕ) (r : Record) : Type 0 where
+  pub from : fromOf r < count
+  pub to : toOf r < count
+  pub apart : (joins r ≡ pos 0) ⊎ (fromOf r ≡ toOf r → ⊥)
+
+pub ends-listed : (count : ℕ) (r : Record) → count ≤ 32 → recordEndsFit count r ≡ true → EndsListed count r
+unfolding recordEndsFit fromOf toOf
+ends-listed count Empty few e = clash e refl
+ends-listed count (baseline b) few e =
+    let t = ends-each count (b .from) (b .to) few e in
+    record { from = in-list count (b .from) few (t .0); to = in-list count (b .to) few (t .1 .0); apart = inr (ends-apart count (b .from) (b .to) few e) }
+ends-listed count (height h) few e =
+    let t = ends-each count (h .from) (h .to) few e in
+    record { from = in-list count (h .from) few (t .0); to = in-list count (h .to) few (t .1 .0); apart = inr (ends-apart count (h .from) (h .to) few e) }
+
 -- ════ a record by the rules
 pub record SoundRecord (stations : List Station) (r : Record) : Type 0 where
   pub from : fromOf r < 32
@@ -134,15 +137,13 @@ pub record SoundRecord (stations : List Station) (r : Record) : Type 0 where
   pub weight : (k : ℕ) → natAbs (getD (weights r) k (pos 0)) ≤ 10000
   pub misclosure : (a : ℕ) → natAbs (l stations r a) ≤ 100000
 
--- the same of a record whose misclosures are not judged yet
-module _ (count : ℕ) (c : List ℤ) (few : count ≤ 32) (w : Within 96 500000000 c) where
-  pub baseline-observed : (b : Baseline) → endsFit count (b .from) (b .to) ≡ true → baselineInRange b ≡ true → Observed c (baseline b)
-  unfolding fromOf toOf inRange
-  baseline-observed b e g = record { from = from-in-list count (b .from) (b .to) few e; to = to-in-list count (b .from) (b .to) few e; values = g; provisional = w }
-
-  pub height-observed : (h : Level) → endsFit count (h .from) (h .to) ≡ true → heightInRange h ≡ true → Observed c (height h)
-  unfolding fromOf toOf inRange
-  height-observed h e g = record { from = from-in-list count (h .from) (h .to) few e; to = to-in-list count (h .from) (h .to) few e; values = g; provisional = w }
+-- what the code of misclosures asks, of a record whose misclosures are not judged yet
+pub judged-observed : (count : ℕ) (c : List ℤ) → count ≤ 32 → Within 96 500000000 c → (r : Record) → recordEndsFit count r ≡ true → inRange r ≡ true → Observed c r
+judged-observed count c few w r e g =
+    let l = ends-listed count r few e in
+    let f = l .from in
+    let t = l .to in
+    record { from = omega arith; to = omega arith; values = g; provisional = w }
 
 misclosures-length : (c : List ℤ) (r : Record) → length (misclosures c r) ≡ 3
 unfolding misclosures
@@ -167,38 +168,20 @@ module _ (net : Network) (few : net .count ≤ 32) where
         misclosure = small-at 100000 (misclosures (coordinates (net .stations)) Empty) (zero-le, (zero-le, (zero-le, tt)));
       }
 
-  sound-baseline : (w : Within 96 500000000 (coordinates (net .stations))) (b : Baseline) → BaselineFits (net .count) (coordinates (net .stations)) b
-      → SoundRecord (net .stations) (baseline b)
-  unfolding fromOf toOf weights
-  sound-baseline w b g =
-      let m = baseline-range b (g .range) .weights in
-      let o = baseline-observed (net .count) (coordinates (net .stations)) few w b (g .ends) (g .range) in
+  sound-passed : (r : Record) → RecordPassed (net .count) (coordinates (net .stations)) r → SoundRecord (net .stations) r
+  unfolding weights
+  sound-passed r g =
+      let l = ends-listed (net .count) r few (g .ends) in
+      let f = l .from in
+      let t = l .to in
+      let m = weights-small r (g .range) in
       record {
-        from = o .from;
-        to = o .to;
-        apart = inr (ends-apart (net .count) (b .from) (b .to) few (g .ends));
-        values = o .values;
-        weight =
-            small-at 10000 (weights (baseline b))
-            (m .ee .most, (m .en, (m .eu, (m .en, (m .nn .most, (m .nu, (m .eu, (m .nu, (m .uu .most, tt)))))))));
-        misclosure = closes-within (coordinates (net .stations)) (baseline b) (g .closes) .bound;
-      }
-
-  sound-height : (w : Within 96 500000000 (coordinates (net .stations))) (h : Level) → HeightFits (net .count) (coordinates (net .stations)) h
-      → SoundRecord (net .stations) (height h)
-  unfolding fromOf toOf weights
-  sound-height w h g =
-      let v = height-range h (g .range) in
-      let o = height-observed (net .count) (coordinates (net .stations)) few w h (g .ends) (g .range) in
-      record {
-        from = o .from;
-        to = o .to;
-        apart = inr (ends-apart (net .count) (h .from) (h .to) few (g .ends));
-        values = o .values;
-        weight =
-            small-at 10000 (weights (height h))
-            (zero-le, (zero-le, (zero-le, (zero-le, (zero-le, (zero-le, (zero-le, (zero-le, (v .weight .most, tt)))))))));
-        misclosure = closes-within (coordinates (net .stations)) (height h) (g .closes) .bound;
+        from = omega arith;
+        to = omega arith;
+        apart = l .apart;
+        values = g .range;
+        weight = small-at 10000 (weights r) (m .ee, (m .en, (m .eu, (m .en, (m .nn, (m .nu, (m .eu, (m .nu, (m .uu, tt)))))))));
+        misclosure = closes-within (coordinates (net .stations)) r (g .closes) .bound;
       }
 
 -- ════ the facade
@@ -214,12 +197,6 @@ accepted-fits net r e = go (isEmpty r)
     go true = refl
     go false = eq-eqb (recordNo net r) 0 e
 
-pub accepted-filled : (net : Network) (r : Record) → recordNo net r ≡ 0 → isEmpty r ≡ false
-unfolding recordNo recordNoOver isEmpty observations
-accepted-filled net Empty e = absurd (let z : _≡_ {A = ℕ} 3 0 = e in omega arith)
-accepted-filled net (baseline b) e = refl
-accepted-filled net (height h) e = refl
-
 pub filled-accepted : (net : Network) (r : Record) → recordFits net r ≡ true → isEmpty r ≡ false → recordNo net r ≡ 0
 unfolding recordFits recordFitsOver recordNo
 filled-accepted net r e f = eqb-true (recordNo net r) 0 (go (isEmpty r) f e)
@@ -234,6 +211,17 @@ empty-is Empty e = refl
 empty-is (baseline b) e = clash refl (sym e)
 empty-is (height h) e = clash refl (sym e)
 
+refused-empty : (net : Network) → recordNo net Empty ≡ 3
+unfolding recordNo recordNoOver recordEndsFit
+refused-empty net = refl
+
+pub accepted-filled : (net : Network) (r : Record) → recordNo net r ≡ 0 → isEmpty r ≡ false
+accepted-filled net r e = go (true-or-false (isEmpty r))
+  where
+    go : (isEmpty r ≡ true) ⊎ (isEmpty r ≡ false) → isEmpty r ≡ false
+    go (inl t) = let z : _≡_ {A = ℕ} 3 0 = sym (refused-empty net) ∙ ap (recordNo net) (sym (empty-is r t)) ∙ e in absurd (omega arith)
+    go (inr f) = f
+
 -- the numbers are 0 and 3 to 6
 pick : (b : Bool) (m n : ℕ) → m ≤ 6 → n ≤ 6 → cond b m n ≤ 6
 pick true m n p q = p
@@ -241,35 +229,36 @@ pick false m n p q = q
 
 pub record-no-small : (net : Network) (r : Record) → recordNo net r ≤ 6
 unfolding recordNo recordNoOver
-record-no-small net Empty = lit≤ tt
-record-no-small net (baseline b) =
-    pick (endsFit (net .count) (b .from) (b .to)) _ 3
-    (pick (baselineInRange b) _ 4 (pick (matrixFits (weightMatrixOf b)) _ 5 (pick (misclosureFits (coordinates (net .stations)) (baseline b)) 0 6 zero-le (lit≤ tt)) (lit≤ tt)) (lit≤ tt))
-    (lit≤ tt)
-record-no-small net (height h) =
-    pick (endsFit (net .count) (h .from) (h .to)) _ 3
-    (pick (heightInRange h) _ 4 (pick (misclosureFits (coordinates (net .stations)) (height h)) 0 6 zero-le (lit≤ tt)) (lit≤ tt))
+record-no-small net r =
+    pick (recordEndsFit (net .count) r) _ 3
+    (pick (inRange r) _ 4 (pick (recordMatrixFits r) _ 5 (pick (misclosureFits (coordinates (net .stations)) r) 0 6 zero-le (lit≤ tt)) (lit≤ tt)) (lit≤ tt))
     (lit≤ tt)
 
-pub baseline-fits : (net : Network) (b : Baseline) → recordFits net (baseline b) ≡ true → BaselineFits (net .count) (coordinates (net .stations)) b
-unfolding recordNo isEmpty observations
-baseline-fits net b e = baseline-passed (net .count) (coordinates (net .stations)) b (filled-accepted net (baseline b) e refl)
-
-pub height-fits : (net : Network) (h : Level) → recordFits net (height h) ≡ true → HeightFits (net .count) (coordinates (net .stations)) h
-unfolding recordNo isEmpty observations
-height-fits net h e = height-passed (net .count) (coordinates (net .stations)) h (filled-accepted net (height h) e refl)
+pub fits-passed : (net : Network) (r : Record) → recordFits net r ≡ true → isEmpty r ≡ false → RecordPassed (net .count) (coordinates (net .stations)) r
+unfolding recordNo
+fits-passed net r e f = record-passed (net .count) (coordinates (net .stations)) r (filled-accepted net r e f)
 
 pub sound-record : (net : Network) (r : Record) → networkFits net ≡ true → recordFits net r ≡ true → SoundRecord (net .stations) r
-sound-record net Empty n e = sound-empty net (network-few net n)
-sound-record net (baseline b) n e = sound-baseline net (network-few net n) (sound-stations net n .provisional) b (baseline-fits net b e)
-sound-record net (height h) n e = sound-height net (network-few net n) (sound-stations net n .provisional) h (height-fits net h e)
+sound-record net r n e = go (true-or-false (isEmpty r))
+  where
+    few : net .count ≤ 32
+    few = network-few net n
 
--- ════ the weights of a record by the rules
-pub baseline-weights : (net : Network) (b : Baseline) → recordFits net (baseline b) ≡ true → WeightsRange (weightMatrixOf b) × PositiveMatrix (weightMatrixOf b)
-baseline-weights net b e =
-    let g = baseline-fits net b e in
-    let v = baseline-range b (g .range) .weights in
-    (v, positive-matrix (weightMatrixOf b) (weight-some (v .nn)) (g .matrix))
+    go : (isEmpty r ≡ true) ⊎ (isEmpty r ≡ false) → SoundRecord (net .stations) r
+    go (inl t) = subst (SoundRecord (net .stations)) (sym (empty-is r t)) (sound-empty net few)
+    go (inr f) = sound-passed net few r (fits-passed net r e f)
 
-pub height-weight : (net : Network) (h : Level) → recordFits net (height h) ≡ true → Weight (h .weight)
-height-weight net h e = height-range h (height-fits net h e .range) .weight
+-- ════ the weights of a record by the rules, by the number of components that it observes: none, one weight at U, or a matrix
+abbrev pub WeightsByRules : ℕ → WeightMatrix → Type 0
+WeightsByRules zero m = Unit {0}
+WeightsByRules (suc zero) m = Weight (m .uu)
+WeightsByRules (suc (suc n)) m = WeightsRange m × PositiveMatrix m
+
+matrix-by-rules : (m : WeightMatrix) → WeightsRange m → matrixFits m ≡ true → WeightsRange m × PositiveMatrix m
+matrix-by-rules m v e = (v, positive-matrix m (weight-some (v .nn)) e)
+
+pub weights-by-rules : (net : Network) (r : Record) → recordFits net r ≡ true → WeightsByRules (observations r) (weightMatrixOf r)
+unfolding observations isEmpty inRange recordMatrixFits
+weights-by-rules net Empty e = tt
+weights-by-rules net (baseline b) e = let g = fits-passed net (baseline b) e refl in matrix-by-rules (weightMatrixOf (baseline b)) (baseline-range b (g .range) .weights) (g .matrix)
+weights-by-rules net (height h) e = height-range h (fits-passed net (height h) e refl .range) .weight

@@ -1,6 +1,6 @@
 -- What a record is refused for: 3, 4, 5, 6 of document 01's table, in their order; 0 for none. Assumes nothing.
 use Prim.Native.Nat.{ℕ}
-use mathlib.Core.Bool.{Bool, true, cond, not, _&&_}
+use mathlib.Core.Bool.{Bool, true, false, cond, not, _&&_}
 use mathlib.Core.List.{List}
 use lib.Dec.{eqb, leb}
 use lib.ListN.{getD}
@@ -11,7 +11,7 @@ use Rattle.lists.specs.All.{allBelow}
 use Rattle.weights.specs.Rules.{weightFits, weightsInRange, matrixFits}
 use Rattle.network.specs.Units.{mostObserved, mostMisclosure, mostHeightAboveMark}
 use Rattle.network.specs.Stations.{coordinates}
-use Rattle.network.specs.Records.{weightMatrixOf, reducedUp, misclosures, isEmpty}
+use Rattle.network.specs.Records.{weightMatrixOf, observations, reducedUp, misclosures, isEmpty}
 use Rattle.network.specs.declared.Network.{Network}
 use Rattle.network.specs.declared.Baseline.{Baseline}
 use Rattle.network.specs.declared.Level.{Level}
@@ -24,6 +24,12 @@ inList count v = leZ (pos 1) v && leZ v (pos count)
 
 unfoldable pub endsFit : ℕ → ℤ → ℤ → Bool
 endsFit count from to = inList count from && inList count to && not (eqZ from to)
+
+-- of what a place holds; nothing has no ends in the list
+unfoldable pub recordEndsFit : ℕ → Record → Bool
+recordEndsFit count Empty = false
+recordEndsFit count (baseline b) = endsFit count (b .from) (b .to)
+recordEndsFit count (height h) = endsFit count (h .from) (h .to)
 
 -- ════ 4: "observed component or a weight out of range"
 -- "Each observed component lies within ±1,000,000,000"
@@ -40,7 +46,7 @@ upInRange b = observedFits (b .up) && heightAboveMarkFits (b .hf) && heightAbove
 
 -- "Diagonal and single weights 1 to 10,000; off-diagonals within ±10,000": `weightFits` and `weightsInRange`, in crate weights
 unfoldable pub baselineInRange : Baseline → Bool
-baselineInRange b = observedFits (b .east) && observedFits (b .north) && upInRange b && weightsInRange (weightMatrixOf b)
+baselineInRange b = observedFits (b .east) && observedFits (b .north) && upInRange b && weightsInRange (weightMatrixOf (baseline b))
 
 unfoldable pub heightInRange : Level → Bool
 heightInRange h = observedFits (h .up) && weightFits (h .weight)
@@ -52,19 +58,17 @@ inRange (baseline b) = baselineInRange b
 inRange (height h) = heightInRange h
 
 -- ════ 5: "A matrix needs all three leading minors positive, and each diagonal entry of its adjugate at most 16 times its determinant":
--- `matrixFits`, in crate weights
+-- `matrixFits`, in crate weights; of a record that has a matrix, which observes three components
+unfoldable pub recordMatrixFits : Record → Bool
+recordMatrixFits r = cond (eqb (observations r) 3) (matrixFits (weightMatrixOf r)) true
 
 -- ════ 6: "misclosure too large": "each component within ±100,000". A component that is not observed has the misclosure 0. c holds the provisional coordinates
 unfoldable pub misclosureFits : List ℤ → Record → Bool
 misclosureFits c r = allBelow 3 (λ a. leb (natAbs (getD (misclosures c r) a (pos 0))) mostMisclosure)
 
--- ════ the number, by the count of stations and their provisional coordinates. An Empty record has no ends in the list
+-- ════ the number, by the count of stations and their provisional coordinates
 unfoldable pub recordNoOver : ℕ → List ℤ → Record → ℕ
-recordNoOver count c Empty = 3
-recordNoOver count c (baseline b) =
-    cond (endsFit count (b .from) (b .to)) (cond (baselineInRange b) (cond (matrixFits (weightMatrixOf b)) (cond (misclosureFits c (baseline b)) 0 6) 5) 4) 3
-recordNoOver count c (height h) =
-    cond (endsFit count (h .from) (h .to)) (cond (heightInRange h) (cond (misclosureFits c (height h)) 0 6) 4) 3
+recordNoOver count c r = cond (recordEndsFit count r) (cond (inRange r) (cond (recordMatrixFits r) (cond (misclosureFits c r) 0 6) 5) 4) 3
 
 unfoldable pub recordNo : Network → Record → ℕ
 recordNo net r = recordNoOver (net .count) (coordinates (net .stations)) r

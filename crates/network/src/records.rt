@@ -2,13 +2,14 @@
 use super::Baseline;
 use super::Record;
 use super::Unit;
+use weights::WeightMatrix;
 ghost use mathlib.Core.Path.{_≡_};
 ghost use mathlib.Core.Bool.{true, cond};
 ghost use Prim.Native.Nat.{_≤_, _<_};
 ghost use lib.IntN.{pos, natAbs};
 ghost use Rattle.integers.specs.Tables.{Within};
 ghost use Rattle.network.specs.Units.{mostStations, mostComponents, mostCoordinate, mostObserved, mostHeightAboveMark};
-ghost use Rattle.network.specs.Records.{observations, acts, isEmpty, fromOf, toOf, joins, weights, reducedUp, reduced, misclosureAt, misclosures};
+ghost use Rattle.network.specs.Records.{observations, acts, isEmpty, fromOf, toOf, joins, weightMatrixOf, weights, reducedUp, reduced, misclosureAt, misclosures};
 ghost use Rattle.network.specs.Rules.{inRange};
 ghost use Rattle.network.specs.RecordLaws.{Observed};
 
@@ -73,15 +74,44 @@ pub fn joins_of(r: Record) -> i64
     }
 }
 
-// The weight matrix by rows.
+// The weights as a symmetric 3×3 matrix; of a height difference the one weight at U.
+pub fn weight_matrix_of(r: Record) -> WeightMatrix
+    ensures { λ w. ⌜ w ≡ weightMatrixOf r ⌝ }
+{
+    match r {
+        Record::Empty => WeightMatrix {
+            ee: 0,
+            en: 0,
+            eu: 0,
+            nn: 0,
+            nu: 0,
+            uu: 0,
+        },
+        Record::Baseline(b) => WeightMatrix {
+            ee: b.ee,
+            en: b.en,
+            eu: b.eu,
+            nn: b.nn,
+            nu: b.nu,
+            uu: b.uu,
+        },
+        Record::Height(h) => WeightMatrix {
+            ee: 0,
+            en: 0,
+            eu: 0,
+            nn: 0,
+            nu: 0,
+            uu: h.weight,
+        },
+    }
+}
+
+// The same by rows.
 pub fn weights_of(r: Record) -> [i64; 9]
     ensures { λ s. ⌜ s ≡ weights r ⌝ }
 {
-    match r {
-        Record::Empty => [0, 0, 0, 0, 0, 0, 0, 0, 0],
-        Record::Baseline(b) => [b.ee, b.en, b.eu, b.en, b.nn, b.nu, b.eu, b.nu, b.uu],
-        Record::Height(h) => [0, 0, 0, 0, 0, 0, 0, 0, h.weight],
-    }
+    let w = weight_matrix_of(r);
+    [w.ee, w.en, w.eu, w.en, w.nn, w.nu, w.eu, w.nu, w.uu]
 }
 
 // The U difference of a baseline from mark to mark.
@@ -107,24 +137,25 @@ fn reduced_of(r: Record) -> [i64; 3]
     }
 }
 
-// Reduced minus the provisional difference in component a between the stations f and t; 0 of a record that does not act there.
+// Reduced minus the provisional difference in component a between the stations f and t; 0 of a record that does not act there. g is 1 where there is a from end.
 fn misclosure(
     coordinate: &[i64; Unit::COMPONENTS],
     f: usize,
     t: usize,
+    g: i64,
     a: usize,
     acts: bool,
     reduced: i64,
 ) -> i64
-    requires { ⌜ (f < mostStations) × (t < mostStations) × (a < 3) × (natAbs reduced ≤ mostObserved) × Within mostComponents mostCoordinate (now coordinate) ⌝ }
-    ensures { λ r. ⌜ r ≡ cond acts (misclosureAt (now (coordinate .entry)) f t a reduced) (pos 0) ⌝ }
+    requires { ⌜ (f < mostStations) × (t < mostStations) × (natAbs g ≤ 1) × (a < 3) × (natAbs reduced ≤ mostObserved) × Within mostComponents mostCoordinate (now coordinate) ⌝ }
+    ensures { λ r. ⌜ r ≡ cond acts (misclosureAt (now (coordinate .entry)) f t g a reduced) (pos 0) ⌝ }
 {
     if !acts {
         return 0;
     }
     let i = f * 3 + a;
     let j = t * 3 + a;
-    reduced - (coordinate[j] - coordinate[i])
+    reduced - (coordinate[j] - g * coordinate[i])
 }
 
 // Reduced minus the provisional differences, in E, N, U; 0 where the record observes nothing.
@@ -134,12 +165,13 @@ pub fn misclosures_of(coordinate: &[i64; Unit::COMPONENTS], r: Record) -> [i64; 
 {
     let f = from_of(r);
     let t = to_of(r);
+    let g = joins_of(r);
     let d = reduced_of(r);
     let e = acts_in(r, 0);
     let n = acts_in(r, 1);
     let u = acts_in(r, 2);
-    let x = misclosure(coordinate, f, t, 0, e, d[0]);
-    let y = misclosure(coordinate, f, t, 1, n, d[1]);
-    let z = misclosure(coordinate, f, t, 2, u, d[2]);
+    let x = misclosure(coordinate, f, t, g, 0, e, d[0]);
+    let y = misclosure(coordinate, f, t, g, 1, n, d[1]);
+    let z = misclosure(coordinate, f, t, g, 2, u, d[2]);
     [x, y, z]
 }

@@ -6,17 +6,17 @@ use super::Record;
 use super::Unit;
 use super::records::is_empty;
 use super::records::misclosures_of;
+use super::records::observations_of;
 use super::records::reduced_up;
+use super::records::weight_matrix_of;
 use super::stations::coordinates_of;
-use weights::WeightMatrix;
 ghost use mathlib.Core.Path.{_≡_};
 ghost use mathlib.Core.Bool.{true};
 ghost use Prim.Native.Nat.{_≤_};
 ghost use Rattle.integers.specs.Tables.{Within};
 ghost use Rattle.network.specs.Units.{mostStations, mostComponents, mostCoordinate};
 ghost use Rattle.network.specs.Stations.{coordinatesFit};
-ghost use Rattle.network.specs.Records.{weightMatrixOf};
-ghost use Rattle.network.specs.Rules.{inList, endsFit, upInRange, baselineInRange, heightInRange, misclosureFits, recordNoOver, recordNo, recordFitsOver, recordFits};
+ghost use Rattle.network.specs.Rules.{inList, endsFit, recordEndsFit, upInRange, baselineInRange, heightInRange, inRange, recordMatrixFits, misclosureFits, recordNoOver, recordNo, recordFitsOver, recordFits};
 ghost use Rattle.network.specs.RecordLaws.{Observed};
 
 // v is the number of a station.
@@ -33,17 +33,14 @@ pub fn ends_fit(count: usize, from: i64, to: i64) -> bool
     in_list(count, from) & in_list(count, to) & !words::same(from, to)
 }
 
-// The weight matrix of a baseline.
-pub fn weight_matrix_of(b: Baseline) -> WeightMatrix
-    ensures { λ w. ⌜ w ≡ weightMatrixOf b ⌝ }
+// The ends of what a place holds are in the list, and not the same; nothing has none there.
+fn record_ends_fit(count: usize, r: Record) -> bool
+    ensures { λ t. ⌜ t ≡ recordEndsFit count r ⌝ }
 {
-    WeightMatrix {
-        ee: b.ee,
-        en: b.en,
-        eu: b.eu,
-        nn: b.nn,
-        nu: b.nu,
-        uu: b.uu,
+    match r {
+        Record::Empty => false,
+        Record::Baseline(b) => ends_fit(count, b.from, b.to),
+        Record::Height(h) => ends_fit(count, h.from, h.to),
     }
 }
 
@@ -66,13 +63,34 @@ fn baseline_in_range(b: Baseline) -> bool
     words::within(b.east, Unit::OBSERVED)
         & words::within(b.north, Unit::OBSERVED)
         & up_in_range(b)
-        & weights::weights_in_range(weight_matrix_of(b))
+        & weights::weights_in_range(weight_matrix_of(Record::Baseline(b)))
 }
 
 fn height_in_range(h: Level) -> bool
     ensures { λ t. ⌜ t ≡ heightInRange h ⌝ }
 {
     words::within(h.up, Unit::OBSERVED) & words::between(h.weight, 1, Unit::WEIGHT)
+}
+
+fn in_range(r: Record) -> bool
+    ensures { λ t. ⌜ t ≡ inRange r ⌝ }
+{
+    match r {
+        Record::Empty => true,
+        Record::Baseline(b) => baseline_in_range(b),
+        Record::Height(h) => height_in_range(h),
+    }
+}
+
+// The rules on a matrix, of a record that has one.
+fn record_matrix_fits(r: Record) -> bool
+    requires { ⌜ inRange r ≡ true ⌝ }
+    ensures { λ t. ⌜ t ≡ recordMatrixFits r ⌝ }
+{
+    if observations_of(r) != 3 {
+        return true;
+    }
+    weights::matrix_fits(weight_matrix_of(r))
 }
 
 fn misclosure_fits(coordinate: &[i64; Unit::COMPONENTS], r: Record) -> bool
@@ -85,51 +103,24 @@ fn misclosure_fits(coordinate: &[i64; Unit::COMPONENTS], r: Record) -> bool
         & words::within(m[2], Unit::MISCLOSURE)
 }
 
-fn baseline_no(count: usize, coordinate: &[i64; Unit::COMPONENTS], b: Baseline) -> u64
-    requires { ⌜ (count ≤ mostStations) × Within mostComponents mostCoordinate (now coordinate) ⌝ }
-    ensures { λ n. ⌜ n ≡ recordNoOver count (now (coordinate .entry)) (Record.Baseline b) ⌝ }
-{
-    if !ends_fit(count, b.from, b.to) {
-        return 3;
-    }
-    if !baseline_in_range(b) {
-        return 4;
-    }
-    if !weights::matrix_fits(weight_matrix_of(b)) {
-        return 5;
-    }
-    if !misclosure_fits(coordinate, Record::Baseline(b)) {
-        return 6;
-    }
-    0
-}
-
-fn height_no(count: usize, coordinate: &[i64; Unit::COMPONENTS], h: Level) -> u64
-    requires { ⌜ (count ≤ mostStations) × Within mostComponents mostCoordinate (now coordinate) ⌝ }
-    ensures { λ n. ⌜ n ≡ recordNoOver count (now (coordinate .entry)) (Record.Height h) ⌝ }
-{
-    if !ends_fit(count, h.from, h.to) {
-        return 3;
-    }
-    if !height_in_range(h) {
-        return 4;
-    }
-    if !misclosure_fits(coordinate, Record::Height(h)) {
-        return 6;
-    }
-    0
-}
-
 // The refusal number of a record over a list of count stations with these provisional coordinates; 0 where it is not refused.
 pub fn record_no_over(count: usize, coordinate: &[i64; Unit::COMPONENTS], r: Record) -> u64
     requires { ⌜ (count ≤ mostStations) × Within mostComponents mostCoordinate (now coordinate) ⌝ }
     ensures { λ n. ⌜ n ≡ recordNoOver count (now (coordinate .entry)) r ⌝ }
 {
-    match r {
-        Record::Empty => 3,
-        Record::Baseline(b) => baseline_no(count, coordinate, b),
-        Record::Height(h) => height_no(count, coordinate, h),
+    if !record_ends_fit(count, r) {
+        return 3;
     }
+    if !in_range(r) {
+        return 4;
+    }
+    if !record_matrix_fits(r) {
+        return 5;
+    }
+    if !misclosure_fits(coordinate, r) {
+        return 6;
+    }
+    0
 }
 
 pub fn record_no(net: Network, r: Record) -> u64

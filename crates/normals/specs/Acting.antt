@@ -1,22 +1,18 @@
 -- Where a record acts its row of A has −1 at from and +1 at to; where it does not, its row of A, its weights and its misclosure are 0, so that nothing there counts. Assumes nothing.
 use Prim.Native.Nat.{ℕ, _+_, _*_, _<_}
-use mathlib.Core.Path.{_≡_, refl, ap₂, _∙_}
+use mathlib.Core.Path.{_≡_, ap₂, _∙_}
 use mathlib.Core.Bool.{true, false}
 use mathlib.Core.List.{List, [], _∷_}
 use mathlib.Core.Logic.{_⊎_, inl, inr}
-use native.Mathlib.Omega.{arith}
-use borrow.Author.Tests.{eqb-false}
-use lib.ListN.{replicate, getD-replicate, List·getD-append}
 use lib.IntN.{ℤ, pos, _-ℤ_, _*ℤ_}
 use Rattle.integers.specs.Solvers.{ring, shapes}
 use Rattle.integers.specs.Sums.{sum, sum-ext}
-use Rattle.words.specs.Bools.{clash, true-or-false}
+use Rattle.words.specs.Bools.{true-or-false}
 use Rattle.network.specs.Stations.{coordinates}
-use Rattle.network.specs.Records.{acts, fromOf, toOf, joins, weights, l, observations, actsOf}
-use Rattle.network.specs.RecordLaws.{misclosure-at, misclosure-not-acting}
+use Rattle.network.specs.Records.{acts, fromOf, toOf, joins, l}
+use Rattle.network.specs.RecordLaws.{weight-not-acting, misclosure-at, misclosure-not-acting}
 use Rattle.network.specs.declared.Station.{Station}
 use Rattle.network.specs.declared.Record.{Record}
-use Rattle.network.specs.declared.Record.the-variants.{Empty, Baseline as baseline, Height as height}
 use Rattle.normals.specs.Formulas.{P, isUnknown, A}
 use Rattle.normals.specs.Symmetry.{P-sym}
 
@@ -30,12 +26,7 @@ module _ (st : List Station) (r : Record) (a i : ℕ) where
   A-not-acting e = rw e
 
 pub P-not-acting : (r : Record) (a b : ℕ) → a < 3 → b < 3 → acts a r ≡ false → P r a b ≡ pos 0
-unfolding acts weights observations actsOf
-P-not-acting Empty a b p q e = getD-replicate 9 (a * 3 + b) (pos 0) (pos 0) (omega arith)
-P-not-acting (baseline x) a b p q e = clash refl e
-P-not-acting (height x) a b p q e =
-    let k : a * 3 + b < 8 = omega (arith, eqb-false a 2 e) in
-    List·getD-append (replicate 8 (pos 0)) (x .weight ∷ []) (pos 0) (a * 3 + b) k ∙ getD-replicate 8 (a * 3 + b) (pos 0) (pos 0) k
+P-not-acting = weight-not-acting
 
 pub l-not-acting : (st : List Station) (r : Record) (a : ℕ) → a < 3 → acts a r ≡ false → l st r a ≡ pos 0
 l-not-acting st r a h e = misclosure-at (coordinates st) r a h ∙ misclosure-not-acting (coordinates st) r a e

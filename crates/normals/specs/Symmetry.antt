@@ -7,11 +7,10 @@ use lib.ListN.{getD}
 use lib.IntN.{ℤ, pos, _*ℤ_}
 use Rattle.integers.specs.Solvers.{ring, shapes}
 use Rattle.integers.specs.Sums.{sum-ext, sum-swap}
-use Rattle.network.specs.Records.{weights, recordAt}
+use Rattle.network.specs.Records.{weightMatrixOf, weights, recordAt}
 use Rattle.network.specs.declared.Station.{Station}
 use Rattle.network.specs.declared.Place.{Place}
 use Rattle.network.specs.declared.Record.{Record}
-use Rattle.network.specs.declared.Record.the-variants.{Empty, Baseline as baseline, Height as height}
 use Rattle.normals.specs.Formulas.{P, A, shareN, entryN}
 
 -- a symmetric 3×3 matrix by rows
@@ -36,9 +35,7 @@ flip e f g h i j (suc (suc zero)) (suc (suc (suc b))) p q = absurd (omega arith)
 
 pub P-sym : (r : Record) (a b : ℕ) → a < 3 → b < 3 → P r a b ≡ P r b a
 unfolding weights rows
-P-sym Empty a b p q = flip (pos 0) (pos 0) (pos 0) (pos 0) (pos 0) (pos 0) a b p q
-P-sym (baseline x) a b p q = flip (x .ee) (x .en) (x .eu) (x .nn) (x .nu) (x .uu) a b p q
-P-sym (height x) a b p q = flip (pos 0) (pos 0) (pos 0) (pos 0) (pos 0) (x .weight) a b p q
+P-sym r a b p q = let w = weightMatrixOf r in flip (w .ee) (w .en) (w .eu) (w .nn) (w .nu) (w .uu) a b p q
 
 pub share-sym : (st : List Station) (r : Record) (i j : ℕ) → shareN st r i j ≡ shareN st r j i
 unfolding shareN

@@ -5,10 +5,9 @@ use mathlib.Core.List.{List}
 use lib.IntN.{ℤ}
 use Rattle.network.specs.Records.{isEmpty}
 use Rattle.network.specs.Stations.{coordinates}
-use Rattle.network.specs.AtMarks.{atMarks, marks-observations, marks-acts, marks-from, marks-to, marks-joins, marks-weights, marks-misclosures}
+use Rattle.network.specs.AtMarks.{atMarks, marks-observations, marks-acts, marks-from, marks-to, marks-joins, marks-matrix, marks-weights, marks-misclosures}
 use Rattle.network.specs.declared.Station.{Station}
 use Rattle.network.specs.declared.Record.{Record}
-use Rattle.network.specs.declared.Record.the-variants.{Empty, Baseline as baseline, Height as height}
 use Rattle.normals.specs.AtMarks.{marks-A}
 use Rattle.residuals.specs.Residuals.{residual, unknownAtEnd, inAdjustment, weightedSquares, shareT, shareD, isRecord, observationVariance, differenceVariance, residualVariance}
 
@@ -17,10 +16,8 @@ unfolding isRecord isEmpty
 marks-record r = rw (marks-observations r) refl
 
 observation-at-marks : (r : Record) (a : ℕ) → observationVariance (atMarks r) a ≡ observationVariance r a
-unfolding atMarks observationVariance
-observation-at-marks Empty a = refl
-observation-at-marks (baseline b) a = refl
-observation-at-marks (height h) a = refl
+unfolding observationVariance
+observation-at-marks r a = rw (marks-observations r, marks-matrix r) refl
 
 module _ (stations : List Station) (r : Record) where
   pub marks-variance : (m : List ℤ) (a : ℕ) → residualVariance stations m (atMarks r) a ≡ residualVariance stations m r a

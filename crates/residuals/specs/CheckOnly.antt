@@ -11,15 +11,15 @@ use lib.Dec.{eqb}
 use lib.IntN.{ℤ, pos, _-ℤ_, _*ℤ_, *ℤ-zero, zero-*ℤ}
 use Rattle.integers.specs.Solvers.{ring, shapes}
 use Rattle.integers.specs.Sums.{sum, sum-ext, sum-0, δ, δ-same, δ-other}
-use Rattle.words.specs.Bools.{clash, true-or-false, and-no-left, and-no-right, neither}
+use Rattle.words.specs.Bools.{true-or-false, and-no-left, and-no-right, neither}
 use Rattle.words.specs.SignedLaws.{eqZ-false}
 use Rattle.network.specs.Stations.{unknown, number, unknownCount}
 use Rattle.network.specs.StationLaws.{unknown-cases, number-below, number-apart}
-use Rattle.network.specs.Records.{acts, fromOf, toOf, joins, l, observations, actsOf}
+use Rattle.network.specs.Records.{acts, fromOf, toOf, joins, l}
+use Rattle.network.specs.RecordLaws.{joins-are}
 use Rattle.network.specs.RuleLaws.{SoundRecord}
 use Rattle.network.specs.declared.Station.{Station}
 use Rattle.network.specs.declared.Record.{Record}
-use Rattle.network.specs.declared.Record.the-variants.{Empty, Baseline as baseline, Height as height}
 use Rattle.normals.specs.Formulas.{A, P, isUnknown, shareN, shareU}
 use Rattle.normals.specs.Acting.{A-acting, A-not-acting}
 use Rattle.residuals.specs.Residuals.{residual, unknownAtEnd, inAdjustment, observationVariance, differenceVariance, residualVariance}
@@ -36,13 +36,6 @@ pub record CheckOnly (st : List Station) (r : Record) : Type 0 where
   pub residuals : (x : List ℤ) (a : ℕ) → a < 3 → residual st x r a ≡ l st r a
   -- no M changes what they are held against
   pub variances : (m : List ℤ) (a : ℕ) → a < 3 → acts a r ≡ true → residualVariance st m r a ≡ observationVariance r a
-
--- a record that acts has two ends
-joins-acting : (r : Record) (a : ℕ) → acts a r ≡ true → joins r ≡ pos 1
-unfolding acts joins observations actsOf
-joins-acting Empty a e = clash e refl
-joins-acting (baseline b) a e = refl
-joins-acting (height h) a e = refl
 
 none : (a b c : Bool) → a || b || c ≡ false → (a ≡ false) × (b ≡ false) × (c ≡ false)
 none a b c e = let p = neither (a || b) c e in let q = neither a b (p .0) in (q .0, q .1, p .1)
@@ -128,28 +121,43 @@ module _ (st : List Station) (r : Record) where
         go (inr v) = ap (λ (z : ℤ). pos (unknown st p) *ℤ z) (δ-other (number st p) (number st q) (number-apart st p q ne v u)) ∙ *ℤ-zero (pos (unknown st p))
 
     module _ (a : ℕ) (h : a < 3) (e : acts a r ≡ true) where
-      apart : fromOf r * 3 + a ≡ toOf r * 3 + a → ⊥
-      apart q = go (g .apart)
+      abbrev to : ℕ
+      to = toOf r * 3 + a
+
+      abbrev from : ℕ
+      from = fromOf r * 3 + a
+
+      apart : joins r ≡ pos 1 → from ≡ to → ⊥
+      apart one q = go (g .apart)
         where
           go : (joins r ≡ pos 0) ⊎ (fromOf r ≡ toOf r → ⊥) → ⊥
-          go (inl j) = eqZ-false (pos 1) (pos 0) refl (sym (joins-acting r a e) ∙ j)
+          go (inl j) = eqZ-false (pos 1) (pos 0) refl (sym one ∙ j)
           go (inr ne) = ne (omega arith)
 
       -- row a of A at the unknown i, from what stands at the two ends
-      row-at : (i : ℕ) (t f : ℤ) → isUnknown st (toOf r * 3 + a) i ≡ t → isUnknown st (fromOf r * 3 + a) i ≡ f → A st r a i ≡ t -ℤ pos 1 *ℤ f
-      row-at i t f p q = A-acting st r a i e ∙ rw (p, q, joins-acting r a e)
+      row-at : (i : ℕ) (j t f : ℤ) → joins r ≡ j → isUnknown st to i ≡ t → isUnknown st from i ≡ f → A st r a i ≡ t -ℤ j *ℤ f
+      row-at i j t f o p q = A-acting st r a i e ∙ rw (o, p, q)
 
-      to-held : eqb (unknown st (toOf r * 3 + a)) 1 ≡ false
-      to-held = ne-eqb _ 1 (λ u.
-          eqZ-false (pos 1) (pos 0) refl
-          (sym (row-at (number st (toOf r * 3 + a)) (pos 1) (pos 0) (at-self _ u) (at-other _ _ apart u))
-          ∙ zeros a h (number st (toOf r * 3 + a)) (let b = g .to in number-below st (toOf r * 3 + a) 96 (omega arith) u)))
+      -- where the row is 0 at both
+      to-held : eqb (unknown st to) 1 ≡ false
+      to-held = ne-eqb _ 1 (λ u. eqZ-false (pos 1) (pos 0) refl (sym (at-to u (joins-are r)) ∙ zeros a h (number st to) (below u)))
+        where
+          below : unknown st to ≡ 1 → number st to < unknownCount st
+          below u = let b = g .to in number-below st (toOf r * 3 + a) 96 (omega arith) u
 
-      from-held : eqb (unknown st (fromOf r * 3 + a)) 1 ≡ false
-      from-held = ne-eqb _ 1 (λ u.
-          eqZ-false (pos 1) (pos 0) refl
-          (ap (λ (z : ℤ). pos 0 -ℤ z) (sym (row-at (number st (fromOf r * 3 + a)) (pos 0) (pos 1) (at-other _ _ (λ q. apart (sym q)) u) (at-self _ u))
-          ∙ zeros a h (number st (fromOf r * 3 + a)) (let b = g .from in number-below st (fromOf r * 3 + a) 96 (omega arith) u))))
+          at-to : unknown st to ≡ 1 → (joins r ≡ pos 1) ⊎ ((joins r ≡ pos 0) × (fromOf r ≡ toOf r)) → A st r a (number st to) ≡ pos 1
+          at-to u (inl one) = row-at (number st to) (pos 1) (pos 1) (pos 0) one (at-self _ u) (at-other _ _ (apart one) u)
+          at-to u (inr none) = row-at (number st to) (pos 0) (pos 1) _ (none .0) (at-self _ u) refl ∙ ring (isUnknown st from (number st to) ∷ []) (search shapes) tt
+
+      from-held : eqb (unknown st from) 1 ≡ false
+      from-held = go (joins-are r)
+        where
+          go : (joins r ≡ pos 1) ⊎ ((joins r ≡ pos 0) × (fromOf r ≡ toOf r)) → eqb (unknown st (fromOf r * 3 + a)) 1 ≡ false
+          go (inl one) = ne-eqb _ 1 (λ u.
+              eqZ-false (pos 1) (pos 0) refl
+              (ap (λ (z : ℤ). pos 0 -ℤ z) (sym (row-at (number st from) (pos 1) (pos 0) (pos 1) one (at-other _ _ (λ q. apart one (sym q)) u) (at-self _ u))
+              ∙ zeros a h (number st from) (let b = g .from in number-below st (fromOf r * 3 + a) 96 (omega arith) u))))
+          go (inr none) = ap (λ (s : ℕ). eqb (unknown st (s * 3 + a)) 1) (none .1) ∙ to-held
 
     no-end : (a : ℕ) → a < 3 → unknownAtEnd st r a ≡ false
     unfolding unknownAtEnd

@@ -33,8 +33,8 @@ abbrev pub adjustedIn : List ℤ → List ℤ → ℕ → ℤ
 adjustedIn coordinate corrections q = getD coordinate q (pos 0) +ℤ getD corrections q (pos 0)
 
 -- the three of station s
-unfoldable pub positionIn : List ℤ → List ℤ → ℕ → List ℤ
-positionIn coordinate corrections s =
+unfoldable pub adjustedStationIn : List ℤ → List ℤ → ℕ → List ℤ
+adjustedStationIn coordinate corrections s =
     adjustedIn coordinate corrections (s * 3) ∷ adjustedIn coordinate corrections (s * 3 + 1) ∷ adjustedIn coordinate corrections (s * 3 + 2) ∷ []
 
 pub adjusted-in : (stations : List Station) (x : List ℤ) (q : ℕ) → q < mostComponents → adjustedIn (coordinates stations) (correctionsOf stations x) q ≡ adjusted stations x q

@@ -15,15 +15,15 @@ use Rattle.words.specs.Bools.{clash, true-or-false}
 use Rattle.words.specs.SignedLaws.{eqZ-false}
 use Rattle.lists.specs.All.{passed}
 use Rattle.weights.specs.Rules.{adjugateE, adjugateN, adjugateU, adjugate, determinant}
+use Rattle.weights.specs.declared.WeightMatrix.{WeightMatrix}
 use Rattle.weights.specs.Determinants.{weight-some, weight-most, determinant-E, determinant-N, determinant-U}
 use Rattle.network.specs.Records.{weightMatrixOf, acts, observations, actsOf}
 use Rattle.network.specs.Rules.{recordFits}
-use Rattle.network.specs.RuleLaws.{baseline-weights, height-weight}
+use Rattle.network.specs.RuleLaws.{WeightsByRules, weights-by-rules}
 use Rattle.network.specs.declared.Network.{Network}
 use Rattle.network.specs.declared.Record.{Record}
-use Rattle.network.specs.declared.Record.the-variants.{Empty, Baseline as baseline, Height as height}
 use Rattle.integers.specs.Inverses.{S}
-use Rattle.residuals.specs.Residuals.{residual, inAdjustment, observationVariance, residualVariance}
+use Rattle.residuals.specs.Residuals.{residual, inAdjustment, weightsVariance, observationVariance, residualVariance}
 use Rattle.residuals.specs.Verdicts.{verdictWord, localVerdict}
 use Rattle.residuals.specs.CheckOnly.{check-only}
 use Rattle.residuals.specs.declared.Verdict.the-variants.{Loose}
@@ -37,17 +37,18 @@ quotient-least a d p h k =
     ≤-floorDiv (S *ℤ a) (pos (2 ^ 14)) (natAbs d) some
     (subst (λ (y : ℤ). (pos (2 ^ 14) *ℤ y) ≤ℤ (S *ℤ a)) (sym e) (zle ρ (search shapes) (omega (zarith, lez ρ (search shapes) h, lez ρ (search shapes) k))))
 
+weights-least : (n : ℕ) (w : WeightMatrix) (a : ℕ) → a < 3 → WeightsByRules n w → actsOf n a ≡ true → pos (2 ^ 14) ≤ℤ weightsVariance n w a
+unfolding actsOf weightsVariance adjugate
+weights-least zero w a l g h = clash h refl
+weights-least (suc zero) w a l g h = quotient-least (pos 1) (w .uu) (weight-some g) (record { le = tt }) (weight-most g)
+weights-least (suc (suc n)) w zero l g h = let m = g .1 in quotient-least (adjugateE w) (determinant w) (m .third) (<ℤ→≤ℤ (m .positiveE)) (determinant-E w (g .0) m)
+weights-least (suc (suc n)) w (suc zero) l g h = let m = g .1 in quotient-least (adjugateN w) (determinant w) (m .third) (<ℤ→≤ℤ (m .positiveN)) (determinant-N w (g .0) m)
+weights-least (suc (suc n)) w (suc (suc zero)) l g h = let m = g .1 in quotient-least (adjugateU w) (determinant w) (m .third) (<ℤ→≤ℤ (m .second)) (determinant-U w (g .0) m)
+weights-least (suc (suc n)) w (suc (suc (suc a))) l g h = absurd (omega arith)
+
 variance-least : (net : Network) (r : Record) (a : ℕ) → a < 3 → recordFits net r ≡ true → acts a r ≡ true → pos (2 ^ 14) ≤ℤ observationVariance r a
-unfolding acts observationVariance adjugate observations actsOf
-variance-least net Empty a l e h = clash h refl
-variance-least net (baseline b) zero l e h =
-    let w = baseline-weights net b e in let m = w .1 in quotient-least (adjugateE (weightMatrixOf b)) (determinant (weightMatrixOf b)) (m .third) (<ℤ→≤ℤ (m .positiveE)) (determinant-E (weightMatrixOf b) (w .0) m)
-variance-least net (baseline b) (suc zero) l e h =
-    let w = baseline-weights net b e in let m = w .1 in quotient-least (adjugateN (weightMatrixOf b)) (determinant (weightMatrixOf b)) (m .third) (<ℤ→≤ℤ (m .positiveN)) (determinant-N (weightMatrixOf b) (w .0) m)
-variance-least net (baseline b) (suc (suc zero)) l e h =
-    let w = baseline-weights net b e in let m = w .1 in quotient-least (adjugateU (weightMatrixOf b)) (determinant (weightMatrixOf b)) (m .third) (<ℤ→≤ℤ (m .second)) (determinant-U (weightMatrixOf b) (w .0) m)
-variance-least net (baseline b) (suc (suc (suc a))) l e h = absurd (omega arith)
-variance-least net (height h) a l e q = let w = height-weight net h e in quotient-least (pos 1) (h .weight) (weight-some w) (record { le = tt }) (weight-most w)
+unfolding acts observationVariance
+variance-least net r a l e h = weights-least (observations r) (weightMatrixOf r) a l (weights-by-rules net r e) h
 
 -- ════ the verdict
 tight : (v q : ℤ) → pos (2 ^ 14) ≤ℤ q → localVerdict v q ≡ Loose → ⊥

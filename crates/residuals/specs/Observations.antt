@@ -1,8 +1,10 @@
 -- The observed components of a record as the local test takes them, and their verdicts over the tables of components. Assumes nothing.
-use Prim.Native.Nat.{ℕ, _+_, _*_, _<_, _≤_}
+use Prim.Native.Nat.{ℕ, zero, suc, _+_, _*_, _<_, _≤_}
 use mathlib.Core.Path.{_≡_, refl}
 use mathlib.Core.Bool.{Bool, true, false, cond}
 use mathlib.Core.List.{List, [], _∷_}
+use native.Mathlib.Omega.{arith}
+use borrow.Author.Tests.{eqb-true}
 use lib.Dec.{eqb}
 use lib.ListN.{getD}
 use lib.IntN.{ℤ, pos, natAbs, _-ℤ_, _*ℤ_}
@@ -13,11 +15,9 @@ use Rattle.weights.specs.Rules.{adjugateE, adjugateN, adjugateU, adjugate, dete
 use Rattle.weights.specs.declared.WeightMatrix.{WeightMatrix}
 use Rattle.weights.specs.declared.adjugate.Adjugate.{Adjugate}
 use Rattle.network.specs.Records.{weightMatrixOf, acts, actsOf, observations, isEmpty, fromOf, toOf, joins}
-use Rattle.network.specs.declared.Baseline.{Baseline}
 use Rattle.network.specs.declared.Record.{Record}
-use Rattle.network.specs.declared.Record.the-variants.{Empty, Baseline as baseline, Height as height}
 use Rattle.integers.specs.Inverses.{S}
-use Rattle.residuals.specs.Residuals.{observationVariance}
+use Rattle.residuals.specs.Residuals.{weightsVariance, observationVariance}
 use Rattle.residuals.specs.Verdicts.{verdictWord, localVerdict}
 use Rattle.residuals.specs.Components.{differenceIn}
 use Rattle.residuals.specs.declared.Observation.{Observation}
@@ -55,18 +55,24 @@ matrix-quotient m q a = go (eqb a 0) (eqb a 1)
     go false true = q .north
     go false false = q .up
 
-pub matrix-divided : (b : Baseline) (w : Adjugate) → MatrixQuotients (weightMatrixOf b)
-    → w .east ≡ adjugateE (weightMatrixOf b) → w .north ≡ adjugateN (weightMatrixOf b) → w .up ≡ adjugateU (weightMatrixOf b) → w .determinant ≡ determinant (weightMatrixOf b)
-    → Divided (baseline b) w
+more-weights : (n : ℕ) (w : WeightMatrix) (a : ℕ) → (n ≡ 0 → ⊥) → (n ≡ 1 → ⊥) → weightsVariance n w a ≡ floorDiv (S *ℤ adjugate w a) (natAbs (determinant w))
+unfolding weightsVariance
+more-weights zero w a p q = absurd (p refl)
+more-weights (suc zero) w a p q = absurd (q refl)
+more-weights (suc (suc n)) w a p q = refl
+
+pub matrix-divided : (r : Record) (w : Adjugate) → (observations r ≡ 0 → ⊥) → (observations r ≡ 1 → ⊥) → MatrixQuotients (weightMatrixOf r)
+    → w .east ≡ adjugateE (weightMatrixOf r) → w .north ≡ adjugateN (weightMatrixOf r) → w .up ≡ adjugateU (weightMatrixOf r) → w .determinant ≡ determinant (weightMatrixOf r)
+    → Divided r w
 unfolding observationVariance
-matrix-divided b w q e n u d =
+matrix-divided r w p o q e n u d =
     record {
-      quotient = λ a. rw (entry-is a, d) (matrix-quotient (weightMatrixOf b) q a);
-      variance = λ a. rw (entry-is a, d);
+      quotient = λ a. rw (entry-is a, d) (matrix-quotient (weightMatrixOf r) q a);
+      variance = λ a. rw (entry-is a, d) (more-weights (observations r) (weightMatrixOf r) a p o);
     }
   where
-    entry-is : (a : ℕ) → adjugateEntry w a ≡ adjugate (weightMatrixOf b) a
-    entry-is a = entries w (weightMatrixOf b) e n u a
+    entry-is : (a : ℕ) → adjugateEntry w a ≡ adjugate (weightMatrixOf r) a
+    entry-is a = entries w (weightMatrixOf r) e n u a
 
 -- of one quotient for every component
 pub single-divided : {r : Record} {z d : ℤ} → Quotient z d → ((a : ℕ) → observationVariance r a ≡ floorDiv (S *ℤ z) (natAbs d))
@@ -109,27 +115,38 @@ module _ (numbers : List ℕ) (unknowns m : List ℤ) (n : ℕ) where
   unfolding verdictOf verdictIn
   observed-verdict w = rw (w .residual-is, w .variance-is, w .to-is, w .from-is, w .joins-is)
 
-  -- of a record in E, N, U, with the residuals v; 0 where it does not act
+  -- of a record that observes so many components in E, N, U, with the residuals v; 0 where it does not act
+  unfoldable pub verdictsOver : ℕ → Record → List ℤ → List ℤ
+  verdictsOver zero r v = pos 0 ∷ pos 0 ∷ pos 0 ∷ []
+  verdictsOver (suc zero) r v = pos 0 ∷ pos 0 ∷ verdictIn r 2 (getD v 2 (pos 0)) ∷ []
+  verdictsOver (suc (suc n)) r v = verdictIn r 0 (getD v 0 (pos 0)) ∷ verdictIn r 1 (getD v 1 (pos 0)) ∷ verdictIn r 2 (getD v 2 (pos 0)) ∷ []
+
   unfoldable pub verdictsIn : Record → List ℤ → List ℤ
-  verdictsIn Empty v = pos 0 ∷ pos 0 ∷ pos 0 ∷ []
-  verdictsIn (baseline b) v = verdictIn (baseline b) 0 (getD v 0 (pos 0)) ∷ verdictIn (baseline b) 1 (getD v 1 (pos 0)) ∷ verdictIn (baseline b) 2 (getD v 2 (pos 0)) ∷ []
-  verdictsIn (height h) v = pos 0 ∷ pos 0 ∷ verdictIn (height h) 2 (getD v 2 (pos 0)) ∷ []
+  verdictsIn r v = verdictsOver (observations r) r v
 
   -- by the shape of the record
   pub verdicts-none : (r : Record) (v : List ℤ) → isEmpty r ≡ true → pos 0 ∷ pos 0 ∷ pos 0 ∷ [] ≡ verdictsIn r v
-  unfolding verdictsIn isEmpty observations
-  verdicts-none Empty v e = refl
-  verdicts-none (baseline b) v e = clash e refl
-  verdicts-none (height h) v e = clash e refl
+  unfolding verdictsIn verdictsOver isEmpty
+  verdicts-none r v e = go (observations r) e
+    where
+      go : (n : ℕ) → eqb n 0 ≡ true → pos 0 ∷ pos 0 ∷ pos 0 ∷ [] ≡ verdictsOver n r v
+      go zero e = refl
+      go (suc n) e = let z = eqb-true (suc n) 0 e in absurd (omega arith)
 
   pub verdicts-three : (r : Record) (v : List ℤ) → acts 0 r ≡ true → verdictIn r 0 (getD v 0 (pos 0)) ∷ verdictIn r 1 (getD v 1 (pos 0)) ∷ verdictIn r 2 (getD v 2 (pos 0)) ∷ [] ≡ verdictsIn r v
-  unfolding verdictsIn acts actsOf observations
-  verdicts-three Empty v e = clash e refl
-  verdicts-three (baseline b) v e = refl
-  verdicts-three (height h) v e = clash e refl
+  unfolding verdictsIn verdictsOver acts actsOf
+  verdicts-three r v e = go (observations r) e
+    where
+      go : (n : ℕ) → actsOf n 0 ≡ true → verdictIn r 0 (getD v 0 (pos 0)) ∷ verdictIn r 1 (getD v 1 (pos 0)) ∷ verdictIn r 2 (getD v 2 (pos 0)) ∷ [] ≡ verdictsOver n r v
+      go zero e = clash e refl
+      go (suc zero) e = clash e refl
+      go (suc (suc n)) e = refl
 
   pub verdicts-up : (r : Record) (v : List ℤ) → isEmpty r ≡ false → acts 0 r ≡ false → pos 0 ∷ pos 0 ∷ verdictIn r 2 (getD v 2 (pos 0)) ∷ [] ≡ verdictsIn r v
-  unfolding verdictsIn isEmpty acts actsOf observations
-  verdicts-up Empty v e f = clash refl e
-  verdicts-up (baseline b) v e f = clash refl f
-  verdicts-up (height h) v e f = refl
+  unfolding verdictsIn verdictsOver isEmpty acts actsOf
+  verdicts-up r v e f = go (observations r) e f
+    where
+      go : (n : ℕ) → eqb n 0 ≡ false → actsOf n 0 ≡ false → pos 0 ∷ pos 0 ∷ verdictIn r 2 (getD v 2 (pos 0)) ∷ [] ≡ verdictsOver n r v
+      go zero e f = clash refl e
+      go (suc zero) e f = refl
+      go (suc (suc n)) e f = clash refl f

@@ -1,5 +1,5 @@
 -- The weights of a record by the rules, as the code of its variances asks for them. Assumes nothing.
-use Prim.Native.Nat.{_≤_, _^_}
+use Prim.Native.Nat.{ℕ, zero, suc, _≤_, _^_}
 use mathlib.Core.Path.{_≡_, sym, ap, _∙_, subst}
 use mathlib.Core.Bool.{true}
 use mathlib.Core.List.{[], _∷_}
@@ -11,11 +11,11 @@ use Rattle.integers.specs.Order.{*ℤ-mono, *ℤ-nonneg, ≤ℤ-trans, between-
 use Rattle.integers.specs.Division.{floorDiv, floorDiv-mono, floorDiv-multiple, floorDiv-quot, ≤-floorDiv}
 use Rattle.weights.specs.Quotients.{Quotient, divisor, divisor-some, weight-quotient, MatrixQuotients, matrix-quotients}
 use Rattle.network.specs.Rules.{recordFits}
-use Rattle.network.specs.Records.{weightMatrixOf}
-use Rattle.network.specs.RuleLaws.{baseline-weights, height-weight}
+use Rattle.weights.specs.declared.WeightMatrix.{WeightMatrix}
+use Rattle.network.specs.Records.{weightMatrixOf, observations}
+use Rattle.network.specs.RuleLaws.{WeightsByRules, weights-by-rules}
 use Rattle.network.specs.declared.Network.{Network}
 use Rattle.network.specs.declared.Record.{Record}
-use Rattle.network.specs.declared.Record.the-variants.{Empty, Baseline as baseline, Height as height}
 use Rattle.integers.specs.Inverses.{S}
 
 -- ════ the variance of an observation, from an entry of the adjugate and the determinant
@@ -43,13 +43,19 @@ module _ {adj det : ℤ} (q : Quotient adj det) where
   quotient = floorDiv-quot (natAbs det) dividend ∙ ap (λ (d : ℤ). quotZ (S *ℤ adj) d) (divisor q)
 
 -- ════ a record by the rules: its weights are by the rules
--- of a baseline the three quotients of its matrix, of a height difference one
-abbrev pub RecordWeights : Record → Type 0
-RecordWeights Empty = Unit {0}
-RecordWeights (baseline b) = MatrixQuotients (weightMatrixOf b)
-RecordWeights (height h) = Quotient (pos 1) (h .weight)
+-- the three quotients of a matrix, or the one of a single weight
+abbrev pub WeightQuotients : ℕ → WeightMatrix → Type 0
+WeightQuotients zero w = Unit {0}
+WeightQuotients (suc zero) w = Quotient (pos 1) (w .uu)
+WeightQuotients (suc (suc n)) w = MatrixQuotients w
 
-pub weights-by-rules : (net : Network) (r : Record) → recordFits net r ≡ true → RecordWeights r
-weights-by-rules net Empty e = tt
-weights-by-rules net (baseline b) e = let w = baseline-weights net b e in matrix-quotients (weightMatrixOf b) (w .0) (w .1)
-weights-by-rules net (height h) e = weight-quotient (height-weight net h e)
+abbrev pub RecordWeights : Record → Type 0
+RecordWeights r = WeightQuotients (observations r) (weightMatrixOf r)
+
+quotients : (n : ℕ) (w : WeightMatrix) → WeightsByRules n w → WeightQuotients n w
+quotients zero w g = tt
+quotients (suc zero) w g = weight-quotient g
+quotients (suc (suc n)) w g = matrix-quotients w (g .0) (g .1)
+
+pub record-quotients : (net : Network) (r : Record) → recordFits net r ≡ true → RecordWeights r
+record-quotients net r e = quotients (observations r) (weightMatrixOf r) (weights-by-rules net r e)

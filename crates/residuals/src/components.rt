@@ -9,7 +9,7 @@ ghost use lib.ListN.{getD};
 ghost use Rattle.integers.specs.Tables.{Within};
 ghost use Rattle.network.specs.Units.{mostStations, mostComponents, mostCoordinate};
 ghost use Rattle.network.specs.Stations.{unknownCount};
-ghost use Rattle.residuals.specs.Components.{correctionsOf, adjustedIn, positionIn, residualsIn, Closes};
+ghost use Rattle.residuals.specs.Components.{correctionsOf, adjustedIn, adjustedStationIn, residualsIn, Closes};
 
 // The correction of each component, 0 for a held one.
 pub fn corrections_of(stations: [Station; Unit::STATIONS], x: &[i64]) -> [i64; Unit::COMPONENTS]
@@ -43,13 +43,13 @@ pub fn adjusted(
 }
 
 // The adjusted coordinates E, N, U of station s.
-pub fn position_of(
+pub fn adjusted_station(
     coordinate: &[i64; Unit::COMPONENTS],
     correction: &[i64; Unit::COMPONENTS],
     s: usize,
 ) -> [i64; 3]
     requires { ⌜ (s < mostStations) × Within mostComponents mostCoordinate (now coordinate) × Within mostComponents 100000 (now correction) ⌝ }
-    ensures { λ r. ⌜ r ≡ positionIn (now (coordinate .entry)) (now (correction .entry)) s ⌝ }
+    ensures { λ r. ⌜ r ≡ adjustedStationIn (now (coordinate .entry)) (now (correction .entry)) s ⌝ }
 {
     let q = s * 3;
     let x = adjusted(coordinate, correction, q);

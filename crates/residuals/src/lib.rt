@@ -5,8 +5,8 @@ mod variances;
 mod verdicts;
 
 pub use components::adjusted;
+pub use components::adjusted_station;
 pub use components::corrections_of;
-pub use components::position_of;
 pub use components::residuals_of;
 pub use observations::verdicts_of;
 pub use variances::variances_of;

@@ -1,7 +1,6 @@
 // The observed components of a record, and their verdicts.
 use super::Observation;
 use super::variances;
-use network::Level;
 use network::Record;
 use network::Unit;
 use weights::Adjugate;
@@ -17,33 +16,26 @@ ghost use Rattle.residuals.specs.Components.{Lookup};
 ghost use Rattle.residuals.specs.Weights.{RecordWeights};
 ghost use Rattle.residuals.specs.Observations.{Divided, adjugateEntry, Observes, verdictsIn};
 
-// A single weight as an adjugate: 1 over it in whichever component.
-fn single(h: Level) -> Adjugate
-    requires { ⌜ Quotient (pos 1) (h .weight) ⌝ }
-    ensures { λ w. ⌜ Divided (Record.Height h) w ⌝ }
-{
-    Adjugate {
-        east: 1,
-        north: 1,
-        up: 1,
-        determinant: h.weight,
-    }
-}
-
-// What a record's variances are worked out from; 0 over 1 where there is no record.
+// What a record's variances are worked out from: of a matrix its adjugate and determinant, of a single weight 1 over it, and 0 over 1 where there is no record.
 fn adjugate_in(r: Record) -> Adjugate
     requires { ⌜ RecordWeights r ⌝ }
     ensures { λ w. ⌜ Divided r w ⌝ }
 {
-    match r {
-        Record::Empty => Adjugate {
+    let w = network::weight_matrix_of(r);
+    match network::observations_of(r) {
+        0 => Adjugate {
             east: 0,
             north: 0,
             up: 0,
             determinant: 1,
         },
-        Record::Baseline(b) => weights::adjugate_of(network::weight_matrix_of(b)),
-        Record::Height(h) => single(h),
+        1 => Adjugate {
+            east: 1,
+            north: 1,
+            up: 1,
+            determinant: w.uu,
+        },
+        _ => weights::adjugate_of(w),
     }
 }
 

@@ -2,8 +2,9 @@
 use Prim.Native.Nat.{ℕ, zero, suc, _+_, _*_, _<_, _≤_}
 use mathlib.Core.Path.{_≡_, refl, sym, ap, ap₂, _∙_}
 use mathlib.Core.List.{List, [], _∷_, _++_}
+use mathlib.Core.Bool.{cond}
 use native.Mathlib.Omega.{arith}
-use lib.Dec.{lit<}
+use lib.Dec.{eqb, lit<}
 use lib.ListN.{getD, length, length-append}
 use lib.IntN.{ℤ, pos}
 use Rattle.integers.specs.Sums.{sumN, sumN-suc, sumN-ext, sumN-first}
@@ -11,14 +12,14 @@ use Rattle.lists.specs.Pasted.{pasted, pasted-none, pasted-then}
 use Rattle.words.specs.Concat.{concatBelow, concatBelow-none, concatBelow-+1, length-concatBelow, concatBelow-ext}
 use Rattle.network.specs.Stations.{unknownCount, coordinate, coordinates, unknownTable, indexTable}
 use Rattle.network.specs.Records.{acts, fromOf, toOf, recordAt, observations, actsOf, isEmpty}
+use Rattle.network.specs.RecordLaws.{by-observations}
 use Rattle.network.specs.declared.Station.{Station}
 use Rattle.network.specs.declared.Place.{Place}
 use Rattle.network.specs.declared.Record.{Record}
-use Rattle.network.specs.declared.Record.the-variants.{Empty, Baseline as baseline, Height as height}
 use Rattle.residuals.specs.Residuals.{residual, residualVariance}
-use Rattle.sheet.specs.Sheet.{stationLineWords, stationLinesWords, recordLineWords, recordLinesWords, verdictAt, lineLength}
-use Rattle.residuals.specs.Components.{correctionsOf, positionIn, adjusted-in, variancesIn, covariance-in, difference-in, residualsIn, residual-in}
-use Rattle.residuals.specs.Observations.{verdictIn, verdictsIn}
+use Rattle.sheet.specs.Sheet.{stationLineWords, stationLinesWords, lineWords, recordLineWords, recordLinesWords, verdictAt, lineLength}
+use Rattle.residuals.specs.Components.{correctionsOf, adjustedStationIn, adjusted-in, variancesIn, covariance-in, difference-in, residualsIn, residual-in}
+use Rattle.residuals.specs.Observations.{verdictIn, verdictsOver, verdictsIn}
 
 -- ════ lines one after the other
 length-lines : (k : ℕ) (f : ℕ → List ℤ) → length (concatBelow k f) ≡ sumN k (λ i. length (f i))
@@ -62,22 +63,17 @@ lineOf (suc zero) p v w = threeWords p v w
 lineOf (suc (suc n)) p v w = sevenWords p v w
 
 pub line-length : (r : Record) (p : ℕ) (v w : List ℤ) → length (lineOf (observations r) p v w) ≡ lineLength r
-unfolding lineOf sevenWords threeWords lineLength isEmpty observations
-line-length Empty p v w = refl
-line-length (baseline b) p v w = refl
-line-length (height h) p v w = refl
+unfolding lineOf sevenWords threeWords lineLength isEmpty
+line-length r p v w = by-observations r (λ n. length (lineOf n p v w) ≡ cond (eqb n 0) 0 (1 + 2 * n)) refl refl refl
 
 -- a record that observes more than one component observes three
 pub three-observed : (r : Record) → (observations r ≡ 0 → ⊥) → (observations r ≡ 1 → ⊥) → observations r ≡ 3
-unfolding observations
-three-observed Empty f g = absurd (f refl)
-three-observed (baseline b) f g = refl
-three-observed (height h) f g = absurd (g refl)
+three-observed r = by-observations r (λ n. (n ≡ 0 → ⊥) → (n ≡ 1 → ⊥) → n ≡ 3) (λ f g. absurd (f refl)) (λ f g. absurd (g refl)) (λ f g. refl)
 
 -- ════ the line of a station
 module _ (coordinate corrections : List ℤ) (numbers : List ℕ) (unknowns m : List ℤ) (n : ℕ) where
   unfoldable pub stationLineWordsIn : ℕ → List ℤ
-  stationLineWordsIn s = sevenWords s (positionIn coordinate corrections s) (variancesIn numbers unknowns m n s)
+  stationLineWordsIn s = sevenWords s (adjustedStationIn coordinate corrections s) (variancesIn numbers unknowns m n s)
 
   pub station-length : (s : ℕ) → length (stationLineWordsIn s) ≡ 7
   unfolding stationLineWordsIn sevenWords
@@ -143,7 +139,7 @@ module _ (coordinate corrections : List ℤ) (numbers : List ℕ) (unknowns m : 
 module _ (stations : List Station) (x m : List ℤ) where
   station-in : (s : ℕ) → s < 32
       → stationLineWordsIn (coordinates stations) (correctionsOf stations x) (indexTable stations) (unknownTable stations) m (unknownCount stations) s ≡ stationLineWords stations x m s
-  unfolding stationLineWordsIn sevenWords positionIn variancesIn stationLineWords
+  unfolding stationLineWordsIn sevenWords adjustedStationIn variancesIn stationLineWords
   station-in s h =
       let e : s * 3 < 96 = omega arith in let n : s * 3 + 1 < 96 = omega arith in let u : s * 3 + 2 < 96 = omega arith in
       rw (
@@ -163,18 +159,23 @@ module _ (stations : List Station) (x m : List ℤ) where
   record-in : (p : ℕ) (r : Record) → fromOf r < 32 → toOf r < 32
       → recordLineWordsIn (indexTable stations) (unknownTable stations) m (unknownCount stations) p r (residualsIn (coordinates stations) (correctionsOf stations x) r)
       ≡ recordLineWords stations x m p r
-  unfolding recordLineWordsIn lineOf sevenWords threeWords verdictsIn recordLineWords acts observations actsOf
-  record-in p Empty f t = refl
-  record-in p (baseline b) f t =
-      rw (
-        residual-in stations x (baseline b) f t 0 (lit< tt) refl,
-        residual-in stations x (baseline b) f t 1 (lit< tt) refl,
-        residual-in stations x (baseline b) f t 2 (lit< tt) refl,
-        verdict-in (baseline b) f t 0 (lit< tt),
-        verdict-in (baseline b) f t 1 (lit< tt),
-        verdict-in (baseline b) f t 2 (lit< tt),
-      )
-  record-in p (height h) f t = rw (residual-in stations x (height h) f t 2 (lit< tt) refl, verdict-in (height h) f t 2 (lit< tt))
+  unfolding recordLineWordsIn lineOf sevenWords threeWords verdictsIn verdictsOver recordLineWords lineWords acts actsOf
+  record-in p r f t = go (observations r) refl
+    where
+      go : (n : ℕ) → observations r ≡ n
+          → lineOf n p (residualsIn (coordinates stations) (correctionsOf stations x) r) (verdictsOver (indexTable stations) (unknownTable stations) m (unknownCount stations) n r (residualsIn (coordinates stations) (correctionsOf stations x) r))
+          ≡ lineWords stations x m n p r
+      go zero o = refl
+      go (suc zero) o = rw (residual-in stations x r f t 2 (lit< tt) (rw o refl), verdict-in r f t 2 (lit< tt))
+      go (suc (suc n)) o =
+          rw (
+            residual-in stations x r f t 0 (lit< tt) (rw o refl),
+            residual-in stations x r f t 1 (lit< tt) (rw o refl),
+            residual-in stations x r f t 2 (lit< tt) (rw o refl),
+            verdict-in r f t 0 (lit< tt),
+            verdict-in r f t 1 (lit< tt),
+            verdict-in r f t 2 (lit< tt),
+          )
 
   pub station-lines : (k : ℕ) → stationLinesWords stations x m k ≡ concatBelow k (stationLineWords stations x m)
   unfolding stationLinesWords concatBelow

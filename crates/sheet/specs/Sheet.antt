@@ -12,7 +12,6 @@ use Rattle.network.specs.declared.Station.{Station}
 use Rattle.network.specs.declared.Network.{Network}
 use Rattle.network.specs.declared.Place.{Place}
 use Rattle.network.specs.declared.Record.{Record}
-use Rattle.network.specs.declared.Record.the-variants.{Empty, Baseline as baseline, Height as height}
 use Rattle.residuals.specs.Residuals.{adjusted, variance, residual, residualVariance, recordCount, T, D}
 use Rattle.residuals.specs.Verdicts.{verdictWord, localVerdict, globalVerdict}
 
@@ -29,15 +28,18 @@ module _ (stations : List Station) (x m : List ℤ) where
   unfoldable pub verdictAt : Record → ℕ → ℤ
   verdictAt r a = verdictWord (localVerdict (residual stations x r a) (residualVariance stations m r a))
 
-  -- a record's line: "a baseline's line is place, three residuals, three verdicts"; a height difference's is place, residual, verdict
-  unfoldable pub recordLineWords : ℕ → Record → List ℤ
-  recordLineWords p Empty = []
-  recordLineWords p (baseline b) =
+  -- a record's line, by the number of components that it observes: "a baseline's line is place, three residuals, three verdicts"; a height difference's is place, residual, verdict
+  unfoldable pub lineWords : ℕ → ℕ → Record → List ℤ
+  lineWords zero p r = []
+  lineWords (suc zero) p r = pos (p + 1) ∷ residual stations x r 2 ∷ verdictAt r 2 ∷ []
+  lineWords (suc (suc n)) p r =
       pos (p + 1)
-      ∷ residual stations x (baseline b) 0 ∷ residual stations x (baseline b) 1 ∷ residual stations x (baseline b) 2
-      ∷ verdictAt (baseline b) 0 ∷ verdictAt (baseline b) 1 ∷ verdictAt (baseline b) 2
+      ∷ residual stations x r 0 ∷ residual stations x r 1 ∷ residual stations x r 2
+      ∷ verdictAt r 0 ∷ verdictAt r 1 ∷ verdictAt r 2
       ∷ []
-  recordLineWords p (height h) = pos (p + 1) ∷ residual stations x (height h) 2 ∷ verdictAt (height h) 2 ∷ []
+
+  unfoldable pub recordLineWords : ℕ → Record → List ℤ
+  recordLineWords p r = lineWords (observations r) p r
 
   -- "Stations, then records, print by rising number": the first k of each
   unfoldable pub stationLinesWords : ℕ → List ℤ

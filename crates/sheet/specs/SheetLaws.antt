@@ -2,19 +2,21 @@
 use Prim.Native.Nat.{ℕ, zero, suc, _+_, _*_, _≤_}
 use mathlib.Core.Path.{_≡_, refl, sym, ap, _∙_, subst}
 use mathlib.Core.List.{List, [], _∷_, _++_}
+use mathlib.Core.Bool.{cond}
 use native.Mathlib.Omega.{arith}
+use lib.Dec.{eqb}
 use lib.ListN.{length, drop, length-append}
 use lib.IntN.{ℤ, pos}
 use Rattle.integers.specs.Sums.{sumN}
 use Rattle.network.specs.Stations.{unknownCount}
 use Rattle.network.specs.Records.{recordAt, isEmpty, observations}
+use Rattle.network.specs.RecordLaws.{by-observations}
 use Rattle.network.specs.declared.Station.{Station}
 use Rattle.network.specs.declared.Network.{Network}
 use Rattle.network.specs.declared.Place.{Place}
 use Rattle.network.specs.declared.Record.{Record}
-use Rattle.network.specs.declared.Record.the-variants.{Empty, Baseline as baseline, Height as height}
 use Rattle.residuals.specs.Residuals.{recordCount}
-use Rattle.sheet.specs.Sheet.{stationLineWords, stationLinesWords, recordLineWords, recordLinesWords, globalWords, sheetWords, lineLength, room}
+use Rattle.sheet.specs.Sheet.{stationLineWords, stationLinesWords, lineWords, recordLineWords, recordLinesWords, globalWords, sheetWords, lineLength, room}
 use Rattle.lists.specs.Pasted.{pasted, pasted-then, pasted-front}
 
 -- ════ lengths
@@ -23,10 +25,8 @@ unfolding stationLineWords
 station-length stations x m s = refl
 
 record-length : (stations : List Station) (x m : List ℤ) (p : ℕ) (r : Record) → length (recordLineWords stations x m p r) ≡ lineLength r
-unfolding recordLineWords lineLength isEmpty observations
-record-length stations x m p Empty = refl
-record-length stations x m p (baseline b) = refl
-record-length stations x m p (height h) = refl
+unfolding recordLineWords lineWords lineLength isEmpty
+record-length stations x m p r = by-observations r (λ n. length (lineWords stations x m n p r) ≡ cond (eqb n 0) 0 (1 + 2 * n)) refl refl refl
 
 module _ (stations : List Station) (x m : List ℤ) where
   pub stations-long : (k : ℕ) → length (stationLinesWords stations x m k) ≡ 7 * k

@@ -25,7 +25,6 @@ use Rattle.network.specs.declared.Station.{Station}
 use Rattle.network.specs.declared.Network.{Network}
 use Rattle.network.specs.declared.Place.{Place}
 use Rattle.network.specs.declared.Record.{Record}
-use Rattle.network.specs.declared.Record.the-variants.{Empty, Baseline as baseline, Height as height}
 use Rattle.normals.specs.Formulas.{P}
 use Rattle.normals.specs.Acting.{acting-only}
 use Rattle.normals.specs.ByRules.{ByRules, record-sound}
@@ -112,22 +111,22 @@ unfoldable pub inAdjustmentIn : List ℤ → Record → Bool
 inAdjustmentIn unknowns r = acts 2 r && (eqZ (getD unknowns (fromOf r * 3 + 2) (pos 0)) (pos 1) || eqZ (getD unknowns (toOf r * 3 + 2) (pos 0)) (pos 1))
 
 -- every record acts in U, and every kind of station that has an unknown has one in U
-by-kinds : (r : Record) (f t : Kind)
-    → (acts 0 r && (eqb (unknownIn f 0) 1 || eqb (unknownIn t 0) 1)) || (acts 1 r && (eqb (unknownIn f 1) 1 || eqb (unknownIn t 1) 1)) || (acts 2 r && (eqb (unknownIn f 2) 1 || eqb (unknownIn t 2) 1))
-    ≡ acts 2 r && (eqb (unknownIn f 2) 1 || eqb (unknownIn t 2) 1)
-unfolding acts unknownIn observations actsOf
-by-kinds Empty f t = refl
-by-kinds (baseline b) Known Known = refl
-by-kinds (baseline b) Known Free = refl
-by-kinds (baseline b) Known Height = refl
-by-kinds (baseline b) Free t = refl
-by-kinds (baseline b) Height Known = refl
-by-kinds (baseline b) Height Free = refl
-by-kinds (baseline b) Height Height = refl
-by-kinds (height h) f t = refl
+by-kinds : (n : ℕ) (f t : Kind)
+    → (actsOf n 0 && (eqb (unknownIn f 0) 1 || eqb (unknownIn t 0) 1)) || (actsOf n 1 && (eqb (unknownIn f 1) 1 || eqb (unknownIn t 1) 1)) || (actsOf n 2 && (eqb (unknownIn f 2) 1 || eqb (unknownIn t 2) 1))
+    ≡ actsOf n 2 && (eqb (unknownIn f 2) 1 || eqb (unknownIn t 2) 1)
+unfolding unknownIn actsOf
+by-kinds zero f t = refl
+by-kinds (suc zero) f t = refl
+by-kinds (suc (suc n)) Known Known = refl
+by-kinds (suc (suc n)) Known Free = refl
+by-kinds (suc (suc n)) Known Height = refl
+by-kinds (suc (suc n)) Free t = refl
+by-kinds (suc (suc n)) Height Known = refl
+by-kinds (suc (suc n)) Height Free = refl
+by-kinds (suc (suc n)) Height Height = refl
 
 pub in-adjustment-in : (stations : List Station) (r : Record) → fromOf r < 32 → toOf r < 32 → inAdjustmentIn (unknownTable stations) r ≡ inAdjustment stations r
-unfolding inAdjustmentIn inAdjustment unknownAtEnd
+unfolding inAdjustmentIn inAdjustment unknownAtEnd acts
 in-adjustment-in stations r f t =
     rw (
       getD-tabulate 96 (λ q. pos (unknown stations q)) (fromOf r * 3 + 2) (pos 0) (omega arith),
@@ -139,7 +138,7 @@ in-adjustment-in stations r f t =
       unknown-at stations (toOf r) 1 (omega arith),
       unknown-at stations (toOf r) 2 (omega arith),
     )
-    (sym (by-kinds r (stationAt stations (fromOf r) .kind) (stationAt stations (toOf r) .kind)))
+    (sym (by-kinds (observations r) (stationAt stations (fromOf r) .kind) (stationAt stations (toOf r) .kind)))
 
 -- ════ D
 abbrev pub shareDIn : List ℤ → Record → ℕ
@@ -261,9 +260,7 @@ residuals-within {coordinate} {corrections} {r} c = record { long = refl; bound 
 
 weights-length : (r : Record) → length (weights r) ≡ 9
 unfolding weights
-weights-length Empty = refl
-weights-length (baseline b) = refl
-weights-length (height h) = refl
+weights-length r = refl
 
 pub weights-within : {coordinate corrections : List ℤ} {r : Record} → Weighed coordinate corrections r → Within 9 10000 (weights r)
 weights-within {r} g = record { long = weights-length r; bound = g .weight }

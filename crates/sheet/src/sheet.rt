@@ -31,7 +31,7 @@ fn put_stations(sheet: &mut [i64], from: usize, net: Network, x: &[i64], m: &[i6
     let mut at = from;
     let mut s = 0;
     while s < count {
-        let x = residuals::position_of(&coordinate, &correction, s);
+        let x = residuals::adjusted_station(&coordinate, &correction, s);
         let e = residuals::variances_of(&number, &unknown, m, n, s);
         let line = lines::seven_words(s, x, e);
         at = lines::put_line(sheet, at, &line);

@@ -6,6 +6,7 @@ use lib.IntN.{ℤ}
 use mir.Syntax.{w64}
 use mir.ValLaws.{toZ-ofZ}
 use Rattle.weights.specs.Rules.{weightsInRange}
+use Rattle.network.specs.declared.Record.the-variants.{Baseline as baseline}
 use Rattle.network.specs.Records.{weightMatrixOf}
 use Rattle.network.specs.Rules.{observedFits, baselineInRange}
 use Rattle.network.proofs.rules.baseline_in_range.Statement.{statement}
@@ -32,7 +33,7 @@ east-is c = c .within .ensures ∙ ap (λ (z : ℤ). observedFits z) (toZ-ofZ w6
 north-is : (c : tie.After-within2) → c .within2 .result ≡ observedFits (c .before .before .before .before .args .b .north)
 north-is c = c .within2 .ensures ∙ ap (λ (z : ℤ). observedFits z) (toZ-ofZ w64 (c .before .before .before .before .args .b .north) (search needs))
 
-weights-are : (c : tie.After-weights-in-range) → c .weights-in-range .result ≡ weightsInRange (weightMatrixOf (c .before .before .before .before .before .before .before .args .b))
+weights-are : (c : tie.After-weights-in-range) → c .weights-in-range .result ≡ weightsInRange (weightMatrixOf (baseline (c .before .before .before .before .before .before .before .args .b)))
 weights-are c = c .weights-in-range .ensures ∙ ap weightsInRange (c .before .weight-matrix-of .ensures)
 
 returns : tie.Need-returns

@@ -13,7 +13,7 @@ use Rattle.network.specs.declared.Place.{Place}
 use Rattle.network.specs.declared.Record.{Record}
 use Rattle.residuals.specs.Components.{Closes, residualsIn}
 use Rattle.residuals.specs.Ranges.{some-unknowns, lookup, sound-at, closes-at}
-use Rattle.residuals.specs.Weights.{weights-by-rules}
+use Rattle.residuals.specs.Weights.{record-quotients}
 use Rattle.sheet.specs.Sheet.{lineLength}
 use Rattle.sheet.specs.Totals.{residuals-within}
 use Rattle.sheet.specs.Lines.{lineOf, recordLineWordsIn, record-length, recordLinesWordsIn, record-words-none, record-words-more, record-words-room, records-in, Put, put-none, put-more}
@@ -87,7 +87,7 @@ verdicts-of-requires c κs =
     rw (v .residuals-of .ensures, a .record-at .ensures) (
       g .from,
       g .to,
-      weights-by-rules (s .args .net) (now-at t) (s .pre .1 .records (t .loop .p) h),
+      record-quotients (s .args .net) (now-at t) (s .pre .1 .records (t .loop .p) h),
       residuals-within (closes t h),
       rw (t .before .before .before .before .numbers-of .ensures, t .before .before .before .unknowns-of .ensures, t .before .before .before .before .before .number-of .ensures) (lookup (s .pre .1 .moved) (s .args .m .now) (s .pre .2)),
     )

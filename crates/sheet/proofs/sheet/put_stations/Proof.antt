@@ -32,7 +32,7 @@ long t = station-words-length (t .before .before .coordinates-of .result) (t .be
 
 line : (c : tie.After-seven-words Inv-loop μ-loop) → c .seven-words .result ≡ lineAt (c .before .before .before .before .before .before .before .before) (c .before .before .before .before .before .before .before .before .loop .s)
 unfolding stationLineWordsIn
-line c = c .seven-words .ensures ∙ ap₂ (sevenWords (c .before .before .before .before .before .before .before .before .loop .s)) (c .before .before .before .before .position-of .ensures) (c .before .variances-of .ensures)
+line c = c .seven-words .ensures ∙ ap₂ (sevenWords (c .before .before .before .before .before .before .before .before .loop .s)) (c .before .before .before .before .adjusted-station .ensures) (c .before .variances-of .ensures)
 
 line-long : (c : tie.After-seven-words Inv-loop μ-loop) → length (c .seven-words .result) ≡ 7
 line-long c = let t = c .before .before .before .before .before .before .before .before in ap length (line c) ∙ station-length (t .before .before .coordinates-of .result) (t .before .corrections-of .result) (t .before .before .before .before .numbers-of .result) (t .before .before .before .unknowns-of .result) (t .before .before .before .before .before .before .before .args .m .now) (t .before .before .before .before .before .number-of .result) (t .loop .s)
@@ -65,8 +65,8 @@ loop-holds c =
           (put-none (s .args .sheet .now) (s .args .from)),
     )
 
-position-of-requires : tie.Need-position-of-requires Inv-loop μ-loop
-position-of-requires c κs =
+adjusted-station-requires : tie.Need-adjusted-station-requires Inv-loop μ-loop
+adjusted-station-requires c κs =
     let i = c .before .before in let t = i .before in let s = t .before .before .before .before .before .before .before in (
       few i,
       rw (t .before .before .coordinates-of .ensures) (sound-stations (s .args .net) (s .pre .0 .network) .provisional),
@@ -127,7 +127,7 @@ put-stations-spec =
     coordinates-of-requires
     corrections-of-requires
     loop-holds
-    position-of-requires
+    adjusted-station-requires
     variances-of-requires
     seven-words-requires
     slice-aggregate-put-line

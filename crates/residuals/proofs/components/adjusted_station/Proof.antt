@@ -4,9 +4,9 @@ use mathlib.Core.Path.{refl, ap₂, _∙_}
 use mathlib.Core.List.{_∷_}
 use mir.Syntax.{w64}
 use mir.ValLaws.{toZ-ofZ}
-use Rattle.residuals.specs.Components.{positionIn}
-use Rattle.residuals.proofs.components.position_of.Statement.{statement}
-use Rattle.residuals.proofs.components.position_of.Tie as tie
+use Rattle.residuals.specs.Components.{adjustedStationIn}
+use Rattle.residuals.proofs.components.adjusted_station.Statement.{statement}
+use Rattle.residuals.proofs.components.adjusted_station.Tie as tie
 
 mul-q : tie.Need-mul-q
 mul-q c = search needs
@@ -27,15 +27,15 @@ adjusted-requires-3 : tie.Need-adjusted-requires-3
 adjusted-requires-3 c κs = search needs
 
 returns : tie.Need-returns
-unfolding positionIn
+unfolding adjustedStationIn
 returns c =
     let x = c .before .before .adjusted in let y = c .before .adjusted2 in let z = c .adjusted3 in
     ap₂ _∷_ (toZ-ofZ w64 (x .result) (sfits-of (x .ok)) ∙ x .ensures)
     (ap₂ _∷_ (toZ-ofZ w64 (y .result) (sfits-of (y .ok)) ∙ y .ensures)
     (ap₂ _∷_ (toZ-ofZ w64 (z .result) (sfits-of (z .ok)) ∙ z .ensures) refl))
 
-pub position-of-spec : {M : Type 1} → statement M
-position-of-spec =
+pub adjusted-station-spec : {M : Type 1} → statement M
+adjusted-station-spec =
     tie.close
     (tie.spec
     mul-q
