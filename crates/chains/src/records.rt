@@ -12,13 +12,13 @@ ghost use mathlib.Core.Bool.{true, cond};
 ghost use Prim.Native.Nat.{_<_, _≤_};
 ghost use lib.Dec.{eqb};
 ghost use lib.ListN.{length};
-ghost use Rattle.network.specs.Units.{mostStations, mostComponents};
+ghost use Rattle.network.specs.Units.{mostStations, mostComponents, placeCount};
 ghost use Rattle.network.specs.Stations.{unknownIn};
-ghost use Rattle.network.specs.Records.{fromOf, toOf};
+ghost use Rattle.network.specs.Records.{isPosition, fromOf, toOf};
 ghost use Rattle.network.specs.Places.{placesLength, placesIn};
 ghost use Rattle.chains.specs.Bits.{bit, setBit, setOf};
 ghost use Rattle.chains.specs.Scans.{firstFailing};
-ghost use Rattle.chains.specs.Chains.{edge, edges, isHeld, isTied};
+ghost use Rattle.chains.specs.Chains.{edge, edges, isHeld, withPositions, isTied};
 ghost use Rattle.chains.specs.ChainLaws.{EndsLow, EndsInRange, SameSet, heldOrIn};
 
 // A record's ends in one number, those of station 0 twice where it does not act.
@@ -75,6 +75,32 @@ fn held_in(n: usize, stations: [Station; Unit::STATIONS], c: usize) -> u32
     w
 }
 
+// The set w, with the station of r put in where r is a position.
+fn with_position(w: u32, r: Record) -> u32
+    requires { ⌜ toOf r < mostStations ⌝ }
+    ensures { λ v. ⌜ v ≡ cond (isPosition r) (setBit w (toOf r)) w ⌝ }
+{
+    if network::is_position(r) {
+        return with(w, network::to_of(r));
+    }
+    w
+}
+
+// The set w, with the stations of the positions among lent places put in.
+fn with_positions(places: &[i64], w: u32) -> u32
+    requires { ⌜ (placesLength ≤ length (now places)) × EndsLow (placesIn (now places)) ⌝ }
+    ensures { λ r. ⌜ r ≡ withPositions (placesIn (now (places .entry))) placeCount w ⌝ }
+{
+    let mut v = w;
+    let mut p: usize = 0;
+    while p < Unit::PLACES {
+        let r = network::record_at(places, p);
+        v = with_position(v, r);
+        p += 1;
+    }
+    v
+}
+
 // The stations that are tied in component c.
 fn tied_in(net: Network, places: &[i64], c: usize) -> u32
     requires { ⌜ (placesLength ≤ length (now places)) × EndsInRange net (placesIn (now places)) × (c < 3) ⌝ }
@@ -84,7 +110,8 @@ fn tied_in(net: Network, places: &[i64], c: usize) -> u32
     let n = net.count;
     let stations = net.stations;
     let h = held_in(n, stations, c);
-    search(&e, h)
+    let start = with_positions(places, h);
+    search(&e, start)
 }
 
 // Whether a station's kind holds component c, or the station s is in the set w.

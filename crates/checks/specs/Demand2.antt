@@ -54,7 +54,7 @@ M b m = byRows (n b) m
 unfoldable pub Test : Book → List ℤ → List ℤ → Bool → ℕ → Type 0
 -- 1. "lengths are n and n·n, and the sheet, where one is lent, has room"
 Test b x m fits zero = lengthsFit (n b) x m fits ≡ true
--- 2. "for every component, each station unknown in it is joined, by a chain of records acting in it, to a station held in it"
+-- 2. "for every component, each station unknown in it is joined, by a chain of records acting in it, to a station held in it", or (document 02, request 5) to "a station with a position record"
 Test b x m fits (suc zero) = EachTied (b .network) (b .places)
 -- 3. "|x| ≤ 100,000 throughout"
 Test b x m fits (suc (suc zero)) = correctionsSmall x ≡ true
@@ -109,7 +109,7 @@ pub record Demand (b : Book) (x m : List ℤ) (fits : Bool) (number unknown : �
 pub record SheetDemand (b : Book) (x m before after : List ℤ) (number : ℕ) : Type 0 where
   -- an accepted pair becomes a sheet; "Words beyond stay"
   pub written : number ≡ 0 → after ≡ sheetWords (b .network) (b .places) x m ++ drop (room (b .network) (b .places)) before
-  -- "5 words, 7 per station, 7 per baseline, 3 per height difference"
+  -- "5 words, 7 per station, 7 per baseline, 3 per height difference"; a position "fills the sheet as a baseline does"
   pub long : length (sheetWords (b .network) (b .places) x m) ≡ room (b .network) (b .places)
   -- "A refusal … changes neither book, history nor sheet"
   pub kept : (number ≡ 0 → ⊥) → after ≡ before

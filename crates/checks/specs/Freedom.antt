@@ -1,4 +1,4 @@
--- "Degrees of freedom D = 3 per baseline + 1 per height difference − n", over the records in the adjustment, are not negative where test 5 holds: they have at least as many observations
+-- "Degrees of freedom D = 3 per baseline + 1 per height difference − n", and 3 per position, over the records in the adjustment, are not negative where test 5 holds: they have at least as many observations
 -- as there are unknowns. Assumes nothing.
 -- Were there fewer, some z that is not 0 would have Az = 0, so Nz = AᵀPAz = 0: but test 5 makes N regular.
 use Prim.Native.Nat.{ℕ, zero, suc, _+_, _*_, _/_, _%_, _<_, _≤_}

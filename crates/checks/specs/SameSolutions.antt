@@ -11,17 +11,17 @@ use lib.Dec.{eqb}
 use lib.IntN.{ℤ, pos}
 use Rattle.words.specs.Bools.{same-test}
 use Rattle.network.specs.Stations.{unknown}
-use Rattle.network.specs.Records.{acts, fromOf, toOf, recordAt}
+use Rattle.network.specs.Records.{acts, isPosition, fromOf, toOf, recordAt}
 use Rattle.network.specs.Rules.{recordFits}
 use Rattle.network.specs.RuleLaws.{network-few, ends-listed, fits-passed}
-use Rattle.network.specs.RecordLaws.{acting-filled}
+use Rattle.network.specs.RecordLaws.{acting-filled, position-acts}
 use Rattle.network.specs.declared.Network.{Network}
 use Rattle.network.specs.declared.Place.{Place}
 use Rattle.network.specs.declared.Record.{Record}
 use Rattle.normals.specs.Formulas.{shareN, shareU, entryN, entryU}
 use Rattle.normals.specs.ByRules.{ByRules}
 use Rattle.chains.specs.Bits.{bit}
-use Rattle.chains.specs.Chains.{Tied, held, along, back, tiedSet, isTied}
+use Rattle.chains.specs.Chains.{Tied, held, positioned, along, back, tiedSet, isTied}
 use Rattle.chains.specs.ChainLaws.{tied-sound, tied-whole}
 use Rattle.acceptance.specs.Exactly.{answer, book-in-range}
 use Rattle.book.specs.declared.Book.{Book}
@@ -55,6 +55,11 @@ module _ (net : Network) (places others : List Place) (g : ByRules net places) (
 
   tied-too : {s : ℕ} → Tied net places c s → Tied net others c s
   tied-too (held l u) = held l u
+  tied-too (positioned {s = s} {p = p} h i t) = go (same p h)
+    where
+      go : SameAt net (recordAt places p) (recordAt others p) → Tied net others c s
+      go (inl q) = positioned h (ap isPosition (sym q) ∙ i) (ap toOf (sym q) ∙ t)
+      go (inr o) = rw t at (ends-tied p h (position-acts (recordAt places p) c i) (o .0) .1)
   tied-too (along {s = s} {t = t} {p = p} h a f e j) = go (tied-too j) (same p h)
     where
       go : Tied net others c s → SameAt net (recordAt places p) (recordAt others p) → Tied net others c t

@@ -7,7 +7,7 @@ use lib.Dec.{ltb, eqb}
 use lib.ListN.{length, getD}
 use lib.IntN.{ℤ, pos}
 use Rattle.words.specs.Signed.{eqZ}
-use Rattle.network.specs.Records.{baselineOf, heightOf}
+use Rattle.network.specs.Records.{baselineOf, heightOf, positionOf}
 use Rattle.network.specs.declared.Kind.{Kind}
 use Rattle.network.specs.declared.Kind.the-variants as kind
 use Rattle.book.specs.declared.Change.the-variants.{Enter, Strike}
@@ -31,6 +31,9 @@ letter-H = 72
 
 abbrev pub letter-B : ℕ
 letter-B = 66
+
+abbrev pub letter-P : ℕ
+letter-P = 80
 
 abbrev pub letter-R : ℕ
 letter-R = 82
@@ -66,7 +69,7 @@ unfoldable pub exactly : {A : Type 0} → ℕ → A → ((ℕ → ℤ) → A) �
 exactly k other f unreadable = other
 exactly k other f (numbers vs) = cond (eqb (length vs) k) (f (λ i. getD vs i (pos 0))) other
 
--- ════ H and B
+-- ════ H, B and P
 -- "H: place, from, to, difference, weight"
 abbrev pub levelEntry : (ℕ → ℤ) → Entry
 levelEntry v = entry.Of (v 0) (heightOf (v 1) (v 2) (v 3) (v 4))
@@ -85,18 +88,23 @@ withHeights v = baselineEntry (v 12 ∷ v 13 ∷ []) v
 abbrev pub baselineLine : FieldNumbers → Entry
 baselineLine ns = exactly 12 (exactly 14 entry.Unreadable withHeights ns) withoutHeights ns
 
+-- document 02, request 5: "Its line is P …: place, station, coordinates, weights"
+abbrev pub positionEntry : (ℕ → ℤ) → Entry
+positionEntry v = entry.Of (v 0) (positionOf (v 1) (v 2 ∷ v 3 ∷ v 4 ∷ []) (v 5 ∷ v 6 ∷ v 7 ∷ v 8 ∷ v 9 ∷ v 10 ∷ []))
+
 -- the fields after the letter
 unfoldable pub entryOf : ℕ → List (List ℕ) → Entry
 entryOf letter fields =
     cond (eqb letter letter-H) (exactly 5 entry.Unreadable levelEntry (numbersIn fields))
-    (cond (eqb letter letter-B) (baselineLine (numbersIn fields)) entry.Unreadable)
+    (cond (eqb letter letter-B) (baselineLine (numbersIn fields))
+    (cond (eqb letter letter-P) (exactly 11 entry.Unreadable positionEntry (numbersIn fields)) entry.Unreadable))
 
--- H or B enters (document 02, request 3: "One "enter" fills or overwrites")
+-- H, B or P enters (document 02, request 3: "One "enter" fills or overwrites")
 unfoldable pub entered : Entry → Command
 entered (entry.Of place r) = Call (Edit place (Enter r))
 entered entry.Unreadable = Unreadable
 
--- "A line's R then changes nothing": the fields after an R are an H or B and what comes with it, and enter too
+-- "A line's R then changes nothing", and P is "with or without R before it": the fields after an R are an H, B or P and what comes with it, and enter too
 unfoldable pub afterR : List (List ℕ) → Command
 afterR [] = Unreadable
 afterR (f ∷ fs) = entered (entryOf (letterOf f) fs)

@@ -62,6 +62,27 @@ one-height-alone : commandOf 2 false (baseline-line (32 ∷ 55 ∷ [])) ≡ Unre
 unfolding baseline-line commandOf fieldsCommand otherOf entered entryOf exactly letterOf restFields fieldsOf before numbersIn numberIn signedOf isDecimal allDigits valueAfter
 one-height-alone = refl
 
+-- `P 1 2 3 4 5 6 7 8 9 1 2`, with `R` before it or not; with a number more
+position-line : List ℕ → List ℕ
+position-line more =
+    80 ∷ 32 ∷ 49 ∷ 32 ∷ 50 ∷ 32 ∷ 51 ∷ 32 ∷ 52 ∷ 32 ∷ 53 ∷ 32 ∷ 54 ∷ 32 ∷ 55 ∷ 32 ∷ 56 ∷ 32 ∷ 57 ∷ 32 ∷ 49 ∷ 32 ∷ 50 ∷ more
+
+position : Command
+position =
+    Call (Edit (pos 1) (Enter (record-of.Position (record { station = pos 2; east = pos 3; north = pos 4; up = pos 5; ee = pos 6; en = pos 7; eu = pos 8; nn = pos 9; nu = pos 1; uu = pos 2 }))))
+
+enters-position : commandOf 2 false (position-line []) ≡ position
+unfolding position-line position commandOf fieldsCommand otherOf entered entryOf exactly letterOf restFields fieldsOf before numbersIn numberIn signedOf isDecimal allDigits valueAfter
+enters-position = refl
+
+enters-position-after-R : commandOf 2 false (82 ∷ 32 ∷ position-line []) ≡ position
+unfolding position-line position commandOf fieldsCommand otherOf afterR entered entryOf exactly letterOf restFields fieldsOf before numbersIn numberIn signedOf isDecimal allDigits valueAfter
+enters-position-after-R = refl
+
+one-number-more : commandOf 2 false (position-line (32 ∷ 55 ∷ [])) ≡ Unreadable
+unfolding position-line commandOf fieldsCommand otherOf entered entryOf exactly letterOf restFields fieldsOf before numbersIn numberIn signedOf isDecimal allDigits valueAfter
+one-number-more = refl
+
 -- `D 7`, `U`, `R D 7`, `R U`, `U `
 strikes : commandOf 2 false (68 ∷ 32 ∷ 55 ∷ []) ≡ Call (Edit (pos 7) Strike)
 unfolding commandOf fieldsCommand otherOf exactly letterOf restFields fieldsOf before numbersIn numberIn signedOf isDecimal allDigits valueAfter

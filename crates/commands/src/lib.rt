@@ -14,7 +14,7 @@ pub const LONGEST_LINE: usize = 50_000;
 pub enum Command {
     // S: the next station of the list
     Station(Station),
-    // H or B, with or without R before it: an enter; D: a strike; U: an undo
+    // H, B or P, with or without R before it: an enter; D: a strike; U: an undo
     Call(Call),
     // X: so many corrections
     Corrections(usize),
@@ -23,7 +23,7 @@ pub enum Command {
     Unreadable,
 }
 
-// What the fields of an H or B line say: a place, and the record for it.
+// What the fields of an H, B or P line say: a place, and the record for it.
 enum Entry {
     Of(i64, Record),
     Unreadable,

@@ -14,7 +14,7 @@ ghost use lib.IntN.{pos};
 ghost use lib.ListN.{length, drop, getD};
 ghost use Rattle.words.specs.Signed.{eqZ};
 ghost use Rattle.text.specs.Fields.{firstField, restFields, letterOf, numbersIn, storedIn};
-ghost use Rattle.commands.specs.Commands.{mostCorrections, mostEntries, exactly, levelEntry, withHeights, baselineLine, entryOf, entered, afterR, strikeOf, undoOf};
+ghost use Rattle.commands.specs.Commands.{mostCorrections, mostEntries, exactly, levelEntry, withHeights, baselineLine, positionEntry, entryOf, entered, afterR, strikeOf, undoOf};
 ghost use Rattle.commands.specs.Commands.{countedAs, correctionsIn, matrixIn, stationWith, stationOfKind, stationOf, otherOf, letterIn, isStationLine, Obeys};
 ghost use Rattle.commands.specs.declared.Entry.the-variants as entry;
 ghost use Rattle.commands.specs.declared.Command.the-variants as command;
@@ -66,6 +66,34 @@ fn baseline_line(line: &[u8], from: usize) -> Entry
     }
 }
 
+// The place and the position of these numbers.
+fn position_entry(a: &[i64; 11]) -> Entry
+    ensures { λ r. ⌜ r ≡ positionEntry (λ i. getD (now (a .entry)) i (pos 0)) ⌝ }
+{
+    let of = network::position_of(
+        a[1],
+        [a[2], a[3], a[4]],
+        [a[5], a[6], a[7], a[8], a[9], a[10]],
+    );
+    Entry::Of(a[0], of)
+}
+
+// The fields after the letter at `from`: place, station, three coordinates, six weights.
+fn position_line(line: &[u8], from: usize) -> Entry
+    ensures { λ r. ⌜ r ≡ exactly 11 entry.Unreadable positionEntry (numbersIn (restFields (drop from (now (line .entry))))) ⌝ }
+{
+    let mut a = [0i64; 11];
+    match text::read_rest(line, from, 11, &mut a) {
+        Count::Unreadable => Entry::Unreadable,
+        Count::Numbers(n) => {
+            if n != 11 {
+                return Entry::Unreadable;
+            }
+            position_entry(&a)
+        }
+    }
+}
+
 // The field at `from` is the letter of a record; what it says with the fields after it.
 fn entry_at(line: &[u8], from: usize) -> Entry
     ensures { λ r. ⌜ r ≡ entryOf (letterOf (firstField (drop from (now (line .entry))))) (restFields (drop from (now (line .entry)))) ⌝ }
@@ -76,6 +104,9 @@ fn entry_at(line: &[u8], from: usize) -> Entry
     }
     if letter == b'B' {
         return baseline_line(line, from);
+    }
+    if letter == b'P' {
+        return position_line(line, from);
     }
     Entry::Unreadable
 }

@@ -3,7 +3,7 @@ use book::Call;
 use book::Change;
 ghost use mathlib.Core.Path.{_≡_};
 ghost use mathlib.Core.List.{[], _∷_};
-ghost use Rattle.network.specs.Records.{baselineOf, heightOf};
+ghost use Rattle.network.specs.Records.{baselineOf, heightOf, positionOf};
 ghost use Rattle.dombrelat.specs.Calls.{editCall};
 
 // The book that the bytes hold, edited: 25 before all others.
@@ -63,6 +63,29 @@ pub extern "C" fn dombrelat_enter_height(
     ensures { λ _. ⌜ now (book .exit) ≡ editCall (now (book .entry)) (Call.Edit place (Change.Enter (heightOf from to up weight))) .bytes ⌝ }
 {
     let r = network::height_of(from, to, up, weight);
+    edit_bytes(book, Call::Edit(place, Change::Enter(r)))
+}
+
+// Enters a position at a place, be it empty or filled.
+#[no_mangle]
+pub extern "C" fn dombrelat_enter_position(
+    book: &mut [u8],
+    place: i64,
+    station: i64,
+    east: i64,
+    north: i64,
+    up: i64,
+    ee: i64,
+    en: i64,
+    eu: i64,
+    nn: i64,
+    nu: i64,
+    uu: i64,
+) -> i64
+    ensures { λ r. ⌜ r ≡ editCall (now (book .entry)) (Call.Edit place (Change.Enter (positionOf station (east ∷ north ∷ up ∷ []) (ee ∷ en ∷ eu ∷ nn ∷ nu ∷ uu ∷ [])))) .answer ⌝ }
+    ensures { λ _. ⌜ now (book .exit) ≡ editCall (now (book .entry)) (Call.Edit place (Change.Enter (positionOf station (east ∷ north ∷ up ∷ []) (ee ∷ en ∷ eu ∷ nn ∷ nu ∷ uu ∷ [])))) .bytes ⌝ }
+{
+    let r = network::position_of(station, [east, north, up], [ee, en, eu, nn, nu, uu]);
     edit_bytes(book, Call::Edit(place, Change::Enter(r)))
 }
 

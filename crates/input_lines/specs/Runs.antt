@@ -115,7 +115,7 @@ readAfter n (Corrections k) = n
 readAfter n (Matrix k) = n
 readAfter n Unreadable = n
 
--- H or B enters; "D and a place strikes; U undoes": the number of the refusal, or 0, and the book
+-- H, B or P enters; "D and a place strikes; U undoes": the number of the refusal, or 0, and the book
 abbrev pub unedited : Book → Edited
 unedited b = record { refusal = 0; book = b }
 

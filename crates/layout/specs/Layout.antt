@@ -70,7 +70,7 @@ reversalWords u = signed (u .place) ∷ recordWords (u .prior)
 -- ════ a book's words. A count is kept as the word with its bits
 -- the layout's number: 2 since words 12 and 13 of a record are antenna heights (document 02, request 4); in 1 they were 0
 abbrev pub layoutNumber : ℤ
-layoutNumber = pos 2
+layoutNumber = pos 3
 
 -- that number and the station count
 abbrev pub headWords : Book → List ℤ

@@ -20,13 +20,13 @@ use Rattle.weights.specs.Ranges.{small-weights}
 use Rattle.network.specs.Stations.{stationAt, coordinateIn, coordinate, coordinatesFit, networkFits}
 use Rattle.network.specs.Records.{recordAt, isEmpty, observations}
 use Rattle.network.specs.Rules.{endsFit, recordEndsFit, inRange, recordFits}
-use Rattle.network.specs.RuleLaws.{network-few, network-coordinates, fits-passed, from-in-list, to-in-list}
-use Rattle.network.specs.Ranges.{baseline-range, height-range}
+use Rattle.network.specs.RuleLaws.{network-few, network-coordinates, fits-passed, in-list, from-in-list, to-in-list}
+use Rattle.network.specs.Ranges.{baseline-range, height-range, position-range}
 use Rattle.network.specs.declared.Kind.{Kind}
 use Rattle.network.specs.declared.Kind.the-variants.{Known, Free, Height}
 use Rattle.network.specs.declared.Network.{Network}
 use Rattle.network.specs.declared.Record.{Record}
-use Rattle.network.specs.declared.Record.the-variants.{Empty, Baseline as baseline, Height as height}
+use Rattle.network.specs.declared.Record.the-variants.{Empty, Baseline as baseline, Height as height, Position as position}
 use Rattle.normals.specs.declared.Normals.{Normals}
 use Rattle.normals.specs.Formulas.{entryN, entryU, matrixOf, rightOf}
 use Rattle.normals.specs.Sizes.{N-entry, u-entry}
@@ -90,6 +90,13 @@ module _ (net : Network) (e : networkFits net ≡ true) where
       let g = height-range h (o .range) in
       let ends = ends-small (h .from) (h .to) (o .ends) in
       ((omega arith), (ends .0, (ends .1, (zero-le, (zero-le, (more (g .up) (omega arith), (zero-le, (zero-le, (zero-le, (zero-le, (zero-le, (more (g .weight .most) (omega arith), (zero-le, (zero-le, tt))))))))))))))
+  record-small (position p) f =
+      let o = fits-passed net (position p) f refl in
+      let g = position-range p (o .range) in
+      let w = small-weights (g .weights) in
+      let at = in-list (net .count) (p .station) (network-few net e) (o .ends) in
+      let few = network-few net e in
+      ((omega arith), (number-small (p .station) (omega arith), (zero-le, (more (g .east) (omega arith), (more (g .north) (omega arith), (more (g .up) (omega arith), (more (w .ee) (omega arith), (more (w .en) (omega arith), (more (w .eu) (omega arith), (more (w .nn) (omega arith), (more (w .nu) (omega arith), (more (w .uu) (omega arith), (zero-le, (zero-le, tt))))))))))))))
 
   reversal-small : (u : Reversal) → Restores net u → Small L (reversalWords u)
   unfolding reversalWords
@@ -142,7 +149,7 @@ module _ (b : Book) (o : SoundParts b) where
       let few = network-few (b .network) (o .network) in
       let next = o .journal .next in
       let count = o .journal .count in
-      let number : 2 ≤ L = omega arith in
+      let number : 3 ≤ L = omega arith in
       let tail : Small L (entriesPart b ++ (b .normals .matrix ++ b .normals .right)) =
       small-append (entriesPart b) _ (small-concatBelow journalSize _ (λ k h. reversal-small (b .network) (o .network) (getD (b .journal .entries) k free) (entry-restores b o k h)))
       (small-append (b .normals .matrix) (b .normals .right) matrix-small right-small) in

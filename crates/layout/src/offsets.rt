@@ -8,7 +8,7 @@ pub struct Layout {}
 
 impl Layout {
     // The layout's number, the first word of a book.
-    pub const NUMBER: i64 = 2;
+    pub const NUMBER: i64 = 3;
 
     // The words of a slot of the journal: the place, and the record to restore.
     pub const REVERSAL_LENGTH: usize = 1 + Record::LENGTH;

@@ -10,7 +10,7 @@ use Rattle.words.specs.Bools.{and-both}
 use Rattle.weights.specs.Rules.{matrixRows, weightsInRange}
 use Rattle.lists.specs.All.{each}
 use Rattle.network.specs.Stations.{coordinates}
-use Rattle.network.specs.Records.{weightMatrixOf, observations, isEmpty, acts, fromOf, toOf, joins, weights, reducedUp, reduced, misclosureIn, misclosures}
+use Rattle.network.specs.Records.{weightMatrixOf, observations, isEmpty, acts, fromOf, toOf, joins, isPosition, weights, reducedUp, reduced, misclosureIn, misclosures}
 use Rattle.network.specs.RecordLaws.{no-heights}
 use Rattle.network.specs.Rules.{observedFits, upInRange, baselineInRange, recordEndsFit, inRange, recordMatrixFits, misclosureFits, recordNoOver, recordNo}
 use Rattle.network.specs.Ranges.{baseline-range}
@@ -18,7 +18,7 @@ use Rattle.network.specs.RuleLaws.{accepted-fits, fits-passed}
 use Rattle.network.specs.declared.Network.{Network}
 use Rattle.network.specs.declared.Baseline.{Baseline}
 use Rattle.network.specs.declared.Record.{Record}
-use Rattle.network.specs.declared.Record.the-variants.{Empty, Baseline as baseline, Height as height}
+use Rattle.network.specs.declared.Record.the-variants.{Empty, Baseline as baseline, Height as height, Position as position}
 
 -- the baseline with heights 0 and the U difference u
 abbrev withUp : Baseline → ℤ → Baseline
@@ -46,6 +46,7 @@ unfoldable pub atMarks : Record → Record
 atMarks Empty = Empty
 atMarks (baseline b) = baseline (baselineAtMarks b)
 atMarks (height h) = height h
+atMarks (position p) = position p
 
 -- what is at the marks stays
 pub marks-again : (r : Record) → atMarks (atMarks r) ≡ atMarks r
@@ -53,6 +54,7 @@ unfolding atMarks
 marks-again Empty = refl
 marks-again (baseline b) = ap (λ (u : ℤ). baseline (withUp b u)) (no-heights (baselineAtMarks b) refl refl)
 marks-again (height h) = refl
+marks-again (position p) = refl
 
 -- ════ what a record says of the network
 pub marks-observations : (r : Record) → observations (atMarks r) ≡ observations r
@@ -60,30 +62,42 @@ unfolding atMarks observations
 marks-observations Empty = refl
 marks-observations (baseline b) = refl
 marks-observations (height h) = refl
+marks-observations (position p) = refl
 
 pub marks-from : (r : Record) → fromOf (atMarks r) ≡ fromOf r
 unfolding atMarks fromOf
 marks-from Empty = refl
 marks-from (baseline b) = refl
 marks-from (height h) = refl
+marks-from (position p) = refl
 
 pub marks-to : (r : Record) → toOf (atMarks r) ≡ toOf r
 unfolding atMarks toOf
 marks-to Empty = refl
 marks-to (baseline b) = refl
 marks-to (height h) = refl
+marks-to (position p) = refl
+
+pub marks-position : (r : Record) → isPosition (atMarks r) ≡ isPosition r
+unfolding atMarks isPosition
+marks-position Empty = refl
+marks-position (baseline b) = refl
+marks-position (height h) = refl
+marks-position (position p) = refl
 
 pub marks-joins : (r : Record) → joins (atMarks r) ≡ joins r
 unfolding atMarks joins
 marks-joins Empty = refl
 marks-joins (baseline b) = refl
 marks-joins (height h) = refl
+marks-joins (position p) = refl
 
 pub marks-matrix : (r : Record) → weightMatrixOf (atMarks r) ≡ weightMatrixOf r
 unfolding atMarks
 marks-matrix Empty = refl
 marks-matrix (baseline b) = refl
 marks-matrix (height h) = refl
+marks-matrix (position p) = refl
 
 pub marks-weights : (r : Record) → weights (atMarks r) ≡ weights r
 unfolding weights
@@ -94,6 +108,7 @@ unfolding atMarks reduced
 marks-reduced Empty = refl
 marks-reduced (baseline b) = ap (λ (u : ℤ). b .east ∷ b .north ∷ u ∷ []) (no-heights (baselineAtMarks b) refl refl)
 marks-reduced (height h) = refl
+marks-reduced (position p) = refl
 
 pub marks-acts : (a : ℕ) (r : Record) → acts a (atMarks r) ≡ acts a r
 unfolding acts
@@ -129,3 +144,4 @@ unfolding atMarks
 marks-accepted net Empty e = e
 marks-accepted net (baseline b) e = baseline-accepted net b e
 marks-accepted net (height h) e = e
+marks-accepted net (position p) e = e

@@ -15,12 +15,12 @@ use Rattle.integers.specs.Tables.{Within}
 use Rattle.network.specs.Units.{mostStations, mostComponents, mostCoordinate, mostObserved}
 use Rattle.network.specs.declared.Baseline.{Baseline}
 use Rattle.network.specs.declared.Record.{Record}
-use Rattle.network.specs.declared.Record.the-variants.{Empty, Baseline as baseline, Height as height}
+use Rattle.network.specs.declared.Record.the-variants.{Empty, Baseline as baseline, Height as height, Position as position}
 use Rattle.words.specs.Bools.{clash}
 use Rattle.lists.specs.Sizes.{small-at}
 use Rattle.network.specs.Rules.{inRange}
 use Rattle.network.specs.Ranges.{values-small}
-use Rattle.network.specs.Records.{observations, actsOf, acts, isEmpty, fromOf, toOf, joins, joins-one, weights, reducedUp, reduced, misclosureAt, misclosureIn, misclosures}
+use Rattle.network.specs.Records.{observations, actsOf, acts, isEmpty, isPosition, fromOf, toOf, joins, joins-one, weights, reducedUp, reduced, misclosureAt, misclosureIn, misclosures}
 
 -- ════ shape
 -- a record observes no component, one or three: what holds of these numbers holds of its own
@@ -29,6 +29,7 @@ unfolding observations
 by-observations Empty Q none one three = none
 by-observations (baseline b) Q none one three = three
 by-observations (height h) Q none one three = one
+by-observations (position p) Q none one three = three
 
 pub observations-few : (r : Record) → observations r ≤ 3
 observations-few r = by-observations r (λ n. n ≤ 3) (lit≤ tt) (lit≤ tt) (lit≤ tt)
@@ -42,12 +43,21 @@ acting-filled r a e = go (observations r) e
     go zero h = clash h refl
     go (suc n) h = ne-eqb (suc n) 0 (λ z. absurd (omega arith))
 
+-- a position acts in every component
+pub position-acts : (r : Record) (a : ℕ) → isPosition r ≡ true → acts a r ≡ true
+unfolding isPosition acts actsOf observations
+position-acts Empty a e = clash e refl
+position-acts (baseline b) a e = refl
+position-acts (height h) a e = clash e refl
+position-acts (position p) a e = refl
+
 -- it has two ends, or stands at one station, which is both
 pub joins-are : (r : Record) → (joins r ≡ pos 1) ⊎ ((joins r ≡ pos 0) × (fromOf r ≡ toOf r))
 unfolding joins fromOf toOf
 joins-are Empty = inr (refl, refl)
 joins-are (baseline b) = inl refl
 joins-are (height h) = inl refl
+joins-are (position p) = inr (refl, refl)
 
 -- its weights are 0 in a component in which it does not act
 pub weight-not-acting : (r : Record) (a b : ℕ) → a < 3 → b < 3 → acts a r ≡ false → getD (weights r) (a * 3 + b) (pos 0) ≡ pos 0
@@ -57,6 +67,7 @@ weight-not-acting (baseline x) a b p q e = clash refl e
 weight-not-acting (height x) a b p q e =
     let k : a * 3 + b < 8 = omega (arith, eqb-false a 2 e) in
     List·getD-append (replicate 8 (pos 0)) (x .weight ∷ []) (pos 0) (a * 3 + b) k ∙ getD-replicate 8 (a * 3 + b) (pos 0) (pos 0) k
+weight-not-acting (position x) a b p q e = clash refl e
 
 -- ════ misclosures
 -- without antenna heights the observed U difference is the reduced one

@@ -21,7 +21,7 @@ use Rattle.weights.specs.Ranges.{Weight, WeightsRange}
 use Rattle.weights.specs.Positive.{PositiveMatrix, positive-matrix}
 use Rattle.weights.specs.Determinants.{weight-some}
 use Rattle.weights.specs.declared.WeightMatrix.{WeightMatrix}
-use Rattle.network.specs.Ranges.{baseline-range, height-range, weights-small}
+use Rattle.network.specs.Ranges.{baseline-range, height-range, position-range, weights-small}
 use Rattle.network.specs.Stations.{coordinates, coordinate, unknownCount, countFits, coordinatesFit, unknownsFit, blankBeyond, networkFits}
 use Rattle.network.specs.Records.{weightMatrixOf, fromOf, toOf, joins, weights, misclosureIn, misclosures, l, observations, actsOf, acts, isEmpty}
 use Rattle.network.specs.RecordLaws.{Observed}
@@ -29,7 +29,7 @@ use Rattle.network.specs.Rules.{inList, endsFit, recordEndsFit, inRange,
 use Rattle.network.specs.declared.Station.{Station}
 use Rattle.network.specs.declared.Network.{Network}
 use Rattle.network.specs.declared.Record.{Record}
-use Rattle.network.specs.declared.Record.the-variants.{Empty, Baseline as baseline, Height as height}
+use Rattle.network.specs.declared.Record.the-variants.{Empty, Baseline as baseline, Height as height, Position as position}
 
 -- ════ stations
 -- a station list by the rules
@@ -119,7 +119,7 @@ pub record EndsListed (count : ℕ) (r : Record) : Type 0 where
   pub apart : (joins r ≡ pos 0) ⊎ (fromOf r ≡ toOf r → ⊥)
 
 pub ends-listed : (count : ℕ) (r : Record) → count ≤ 32 → recordEndsFit count r ≡ true → EndsListed count r
-unfolding recordEndsFit fromOf toOf
+unfolding recordEndsFit fromOf toOf joins
 ends-listed count Empty few e = clash e refl
 ends-listed count (baseline b) few e =
     let t = ends-each count (b .from) (b .to) few e in
@@ -127,6 +127,7 @@ ends-listed count (baseline b) few e =
 ends-listed count (height h) few e =
     let t = ends-each count (h .from) (h .to) few e in
     record { from = in-list count (h .from) few (t .0); to = in-list count (h .to) few (t .1 .0); apart = inr (ends-apart count (h .from) (h .to) few e) }
+ends-listed count (position p) few e = let l = in-list count (p .station) few e in record { from = l; to = l; apart = inl refl }
 
 -- ════ a record by the rules
 pub record SoundRecord (stations : List Station) (r : Record) : Type 0 where
@@ -210,6 +211,7 @@ unfolding isEmpty observations
 empty-is Empty e = refl
 empty-is (baseline b) e = clash refl (sym e)
 empty-is (height h) e = clash refl (sym e)
+empty-is (position p) e = clash refl (sym e)
 
 refused-empty : (net : Network) → recordNo net Empty ≡ 3
 unfolding recordNo recordNoOver recordEndsFit
@@ -262,3 +264,4 @@ unfolding observations isEmpty inRange recordMatrixFits
 weights-by-rules net Empty e = tt
 weights-by-rules net (baseline b) e = let g = fits-passed net (baseline b) e refl in matrix-by-rules (weightMatrixOf (baseline b)) (baseline-range b (g .range) .weights) (g .matrix)
 weights-by-rules net (height h) e = height-range h (fits-passed net (height h) e refl .range) .weight
+weights-by-rules net (position p) e = let g = fits-passed net (position p) e refl in matrix-by-rules (weightMatrixOf (position p)) (position-range p (g .range) .weights) (g .matrix)

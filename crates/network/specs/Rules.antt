@@ -9,14 +9,15 @@ use lib.Signed.{leZ}
 use Rattle.words.specs.Signed.{eqZ}
 use Rattle.lists.specs.All.{allBelow}
 use Rattle.weights.specs.Rules.{weightFits, weightsInRange, matrixFits}
-use Rattle.network.specs.Units.{mostObserved, mostMisclosure, mostHeightAboveMark}
+use Rattle.network.specs.Units.{mostCoordinate, mostObserved, mostMisclosure, mostHeightAboveMark}
 use Rattle.network.specs.Stations.{coordinates}
 use Rattle.network.specs.Records.{weightMatrixOf, observations, reducedUp, misclosures, isEmpty}
 use Rattle.network.specs.declared.Network.{Network}
 use Rattle.network.specs.declared.Baseline.{Baseline}
 use Rattle.network.specs.declared.Level.{Level}
+use Rattle.network.specs.declared.Position.{Position}
 use Rattle.network.specs.declared.Record.{Record}
-use Rattle.network.specs.declared.Record.the-variants.{Empty, Baseline as baseline, Height as height}
+use Rattle.network.specs.declared.Record.the-variants.{Empty, Baseline as baseline, Height as height, Position as position}
 
 -- ════ 3: "from or to not in the list, or equal"
 abbrev pub inList : ℕ → ℤ → Bool
@@ -25,11 +26,12 @@ inList count v = leZ (pos 1) v && leZ v (pos count)
 unfoldable pub endsFit : ℕ → ℤ → ℤ → Bool
 endsFit count from to = inList count from && inList count to && not (eqZ from to)
 
--- of what a place holds; nothing has no ends in the list
+-- of what a place holds; nothing has no ends in the list. Of a position "3 where the station isn't in the list" (document 02, request 5)
 unfoldable pub recordEndsFit : ℕ → Record → Bool
 recordEndsFit count Empty = false
 recordEndsFit count (baseline b) = endsFit count (b .from) (b .to)
 recordEndsFit count (height h) = endsFit count (h .from) (h .to)
+recordEndsFit count (position p) = inList count (p .station)
 
 -- ════ 4: "observed component or a weight out of range"
 -- "Each observed component lies within ±1,000,000,000"
@@ -51,11 +53,19 @@ baselineInRange b = observedFits (b .east) && observedFits (b .north) && upInRan
 unfoldable pub heightInRange : Level → Bool
 heightInRange h = observedFits (h .up) && weightFits (h .weight)
 
+-- document 02, request 5: "three observed coordinates within the station limits and a 3×3 weight matrix under the same rules"
+abbrev pub coordinateFits : ℤ → Bool
+coordinateFits v = leb (natAbs v) mostCoordinate
+
+unfoldable pub positionInRange : Position → Bool
+positionInRange p = coordinateFits (p .east) && coordinateFits (p .north) && coordinateFits (p .up) && weightsInRange (weightMatrixOf (position p))
+
 -- the range test of what a place holds
 unfoldable pub inRange : Record → Bool
 inRange Empty = true
 inRange (baseline b) = baselineInRange b
 inRange (height h) = heightInRange h
+inRange (position p) = positionInRange p
 
 -- ════ 5: "A matrix needs all three leading minors positive, and each diagonal entry of its adjugate at most 16 times its determinant":
 -- `matrixFits`, in crate weights; of a record that has a matrix, which observes three components

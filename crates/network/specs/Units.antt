@@ -18,7 +18,7 @@ mostUnknowns = 48
 abbrev pub placeCount : ℕ
 placeCount = 256
 
--- ════ how large: "Provisional coordinates lie within ±500,000,000"; "Each observed component lies within ±1,000,000,000", and so must the reduced U difference (document 02, request 4); "Misclosure …, each component within ±100,000"
+-- ════ how large: "Provisional coordinates lie within ±500,000,000", and so must the observed coordinates of a position (document 02, request 5); "Each observed component lies within ±1,000,000,000", and so must the reduced U difference (document 02, request 4); "Misclosure …, each component within ±100,000"
 abbrev pub mostCoordinate : ℕ
 mostCoordinate = 500000000
 

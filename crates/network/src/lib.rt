@@ -14,6 +14,7 @@ pub use as_words::kind_word;
 pub use as_words::station_words;
 pub use constructors::baseline_of;
 pub use constructors::height_of;
+pub use constructors::position_of;
 pub use opening::coordinates_fit;
 pub use opening::network_fits;
 pub use opening::network_of;
@@ -27,6 +28,7 @@ pub use record_codec::record_words;
 pub use records::acts_in;
 pub use records::from_of;
 pub use records::is_empty;
+pub use records::is_position;
 pub use records::joins_of;
 pub use records::misclosures_of;
 pub use records::observations_of;
@@ -94,11 +96,26 @@ pub struct Level {
     pub weight: i64,
 }
 
+// The position of a mark, with its uncertainty: the station by number, observed coordinates, and the symmetric 3×3 weight matrix.
+pub struct Position {
+    pub station: i64,
+    pub east: i64,
+    pub north: i64,
+    pub up: i64,
+    pub ee: i64,
+    pub en: i64,
+    pub eu: i64,
+    pub nn: i64,
+    pub nu: i64,
+    pub uu: i64,
+}
+
 // What a place holds.
 pub enum Record {
     Empty,
     Baseline(Baseline),
     Height(Level),
+    Position(Position),
 }
 
 // Document 01's place: where a record stands in the book.

@@ -9,7 +9,7 @@ ghost use Prim.Native.Nat.{_≤_, _<_};
 ghost use lib.IntN.{pos, natAbs};
 ghost use Rattle.integers.specs.Tables.{Within};
 ghost use Rattle.network.specs.Units.{mostStations, mostComponents, mostCoordinate, mostObserved, mostHeightAboveMark};
-ghost use Rattle.network.specs.Records.{observations, acts, isEmpty, fromOf, toOf, joins, weightMatrixOf, weights, reducedUp, reduced, misclosureAt, misclosures};
+ghost use Rattle.network.specs.Records.{observations, acts, isEmpty, isPosition, fromOf, toOf, joins, weightMatrixOf, weights, reducedUp, reduced, misclosureAt, misclosures};
 ghost use Rattle.network.specs.Rules.{inRange};
 ghost use Rattle.network.specs.RecordLaws.{Observed};
 
@@ -21,6 +21,7 @@ pub fn observations_of(r: Record) -> usize
         Record::Empty => 0,
         Record::Baseline(_) => 3,
         Record::Height(_) => 1,
+        Record::Position(_) => 3,
     }
 }
 
@@ -41,7 +42,19 @@ pub fn is_empty(r: Record) -> bool
     observations_of(r) == 0
 }
 
-// The index of the station at the from end, 32 where the record's number is no station's.
+// Whether it is a position, at which a chain of test 2 may end.
+pub fn is_position(r: Record) -> bool
+    ensures { λ t. ⌜ t ≡ isPosition r ⌝ }
+{
+    match r {
+        Record::Empty => false,
+        Record::Baseline(_) => false,
+        Record::Height(_) => false,
+        Record::Position(_) => true,
+    }
+}
+
+// The index of the station at the from end, 32 where the record's number is no station's. A position stands at one station, which is both.
 pub fn from_of(r: Record) -> usize
     ensures { λ s. ⌜ s ≡ fromOf r ⌝ }
 {
@@ -49,6 +62,7 @@ pub fn from_of(r: Record) -> usize
         Record::Empty => 0,
         Record::Baseline(b) => words::index_in(b.from, Unit::STATIONS),
         Record::Height(h) => words::index_in(h.from, Unit::STATIONS),
+        Record::Position(p) => words::index_in(p.station, Unit::STATIONS),
     }
 }
 
@@ -60,6 +74,7 @@ pub fn to_of(r: Record) -> usize
         Record::Empty => 0,
         Record::Baseline(b) => words::index_in(b.to, Unit::STATIONS),
         Record::Height(h) => words::index_in(h.to, Unit::STATIONS),
+        Record::Position(p) => words::index_in(p.station, Unit::STATIONS),
     }
 }
 
@@ -71,6 +86,7 @@ pub fn joins_of(r: Record) -> i64
         Record::Empty => 0,
         Record::Baseline(_) => 1,
         Record::Height(_) => 1,
+        Record::Position(_) => 0,
     }
 }
 
@@ -103,6 +119,14 @@ pub fn weight_matrix_of(r: Record) -> WeightMatrix
             nu: 0,
             uu: h.weight,
         },
+        Record::Position(p) => WeightMatrix {
+            ee: p.ee,
+            en: p.en,
+            eu: p.eu,
+            nn: p.nn,
+            nu: p.nu,
+            uu: p.uu,
+        },
     }
 }
 
@@ -122,7 +146,7 @@ pub fn reduced_up(b: Baseline) -> i64
     b.up + b.hf - b.ht
 }
 
-// The differences from mark to mark in E, N, U.
+// The differences from mark to mark in E, N, U; of a position its coordinates.
 fn reduced_of(r: Record) -> [i64; 3]
     requires { ⌜ inRange r ≡ true ⌝ }
     ensures { λ s. ⌜ s ≡ reduced r ⌝ }
@@ -134,6 +158,7 @@ fn reduced_of(r: Record) -> [i64; 3]
             [b.east, b.north, up]
         }
         Record::Height(h) => [0, 0, h.up],
+        Record::Position(p) => [p.east, p.north, p.up],
     }
 }
 

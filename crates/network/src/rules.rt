@@ -2,6 +2,7 @@
 use super::Baseline;
 use super::Level;
 use super::Network;
+use super::Position;
 use super::Record;
 use super::Unit;
 use super::records::is_empty;
@@ -16,7 +17,7 @@ ghost use Prim.Native.Nat.{_≤_};
 ghost use Rattle.integers.specs.Tables.{Within};
 ghost use Rattle.network.specs.Units.{mostStations, mostComponents, mostCoordinate};
 ghost use Rattle.network.specs.Stations.{coordinatesFit};
-ghost use Rattle.network.specs.Rules.{inList, endsFit, recordEndsFit, upInRange, baselineInRange, heightInRange, inRange, recordMatrixFits, misclosureFits, recordNoOver, recordNo, recordFitsOver, recordFits};
+ghost use Rattle.network.specs.Rules.{inList, endsFit, recordEndsFit, upInRange, baselineInRange, heightInRange, positionInRange, inRange, recordMatrixFits, misclosureFits, recordNoOver, recordNo, recordFitsOver, recordFits};
 ghost use Rattle.network.specs.RecordLaws.{Observed};
 
 // v is the number of a station.
@@ -41,6 +42,7 @@ fn record_ends_fit(count: usize, r: Record) -> bool
         Record::Empty => false,
         Record::Baseline(b) => ends_fit(count, b.from, b.to),
         Record::Height(h) => ends_fit(count, h.from, h.to),
+        Record::Position(p) => in_list(count, p.station),
     }
 }
 
@@ -72,6 +74,15 @@ fn height_in_range(h: Level) -> bool
     words::within(h.up, Unit::OBSERVED) & words::between(h.weight, 1, Unit::WEIGHT)
 }
 
+fn position_in_range(p: Position) -> bool
+    ensures { λ t. ⌜ t ≡ positionInRange p ⌝ }
+{
+    words::within(p.east, Unit::COORDINATE)
+        & words::within(p.north, Unit::COORDINATE)
+        & words::within(p.up, Unit::COORDINATE)
+        & weights::weights_in_range(weight_matrix_of(Record::Position(p)))
+}
+
 fn in_range(r: Record) -> bool
     ensures { λ t. ⌜ t ≡ inRange r ⌝ }
 {
@@ -79,6 +90,7 @@ fn in_range(r: Record) -> bool
         Record::Empty => true,
         Record::Baseline(b) => baseline_in_range(b),
         Record::Height(h) => height_in_range(h),
+        Record::Position(p) => position_in_range(p),
     }
 }
 

@@ -23,7 +23,7 @@ impl Unit {
     // Places for records.
     pub const PLACES: usize = 256;
 
-    // The size of a provisional coordinate, of an observed component and of the reduced U difference, of a misclosure.
+    // The size of a coordinate, provisional or of a position; of an observed component and of the reduced U difference, of a misclosure.
     pub const COORDINATE: u64 = 500_000_000;
 
     pub const OBSERVED: u64 = 1_000_000_000;

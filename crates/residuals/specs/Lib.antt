@@ -10,3 +10,4 @@ pub mod NotActing
 pub mod CheckOnly
 pub mod NeverLoose
 pub mod AtMarks
+pub mod Positions

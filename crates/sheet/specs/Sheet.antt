@@ -1,5 +1,5 @@
 -- The sheet (document 01's word for what an accepted solution becomes): "The lent sheet takes the night print's numbers in order as 64-bit words …:
--- 5 words, 7 per station, 7 per baseline, 3 per height difference." Assumes nothing.
+-- 5 words, 7 per station, 7 per baseline, 3 per height difference." A position "prints and fills the sheet as a baseline does" (document 02, request 5). Assumes nothing.
 use Prim.Native.Nat.{ℕ, zero, suc, _+_, _*_}
 use mathlib.Core.Bool.{cond}
 use mathlib.Core.List.{List, [], _∷_, _++_}
@@ -28,7 +28,7 @@ module _ (stations : List Station) (x m : List ℤ) where
   unfoldable pub verdictAt : Record → ℕ → ℤ
   verdictAt r a = verdictWord (localVerdict (residual stations x r a) (residualVariance stations m r a))
 
-  -- a record's line, by the number of components that it observes: "a baseline's line is place, three residuals, three verdicts"; a height difference's is place, residual, verdict
+  -- a record's line, by the number of components that it observes: "a baseline's line is place, three residuals, three verdicts"; a height difference's is place, residual, verdict; a position prints "as a baseline does"
   unfoldable pub lineWords : ℕ → ℕ → Record → List ℤ
   lineWords zero p r = []
   lineWords (suc zero) p r = pos (p + 1) ∷ residual stations x r 2 ∷ verdictAt r 2 ∷ []

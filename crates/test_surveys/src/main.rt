@@ -5,6 +5,7 @@ mod baselines_002_one_held;
 mod baselines_003;
 mod levelling;
 mod lines;
+mod positions_003;
 mod printing;
 mod records;
 mod solving;
@@ -14,4 +15,5 @@ fn main() {
     baselines_003::run();
     baselines_002::run();
     baselines_002_one_held::run();
+    positions_003::run();
 }

@@ -37,14 +37,25 @@ fn baseline(f: &[i64; 12]) -> Record {
     )
 }
 
+fn position(f: &[i64; 12]) -> Record {
+    network::position_of(
+        f[1],
+        [f[2], f[3], f[4]],
+        [f[5], f[6], f[7], f[8], f[9], f[10]],
+    )
+}
+
 fn level(f: &[i64; 12]) -> Record {
     network::height_of(f[1], f[2], f[3], Unit::weight_of(words::size(f[4])))
 }
 
-// The record of as many numbers; Empty, which no book takes, where it is neither.
+// The record of as many numbers; Empty, which no book takes, where no kind has that many.
 fn record_of(f: &[i64; 12], count: usize) -> Record {
     if count == 12 {
         return baseline(f);
+    }
+    if count == 11 {
+        return position(f);
     }
     if count == 5 {
         return level(f);

@@ -1,6 +1,6 @@
 -- By the letter, as `entryOf` goes through them. Assumes nothing.
 use Rattle.commands.specs.CommandLaws.{it-is, it-is-not}
-use Rattle.commands.specs.Commands.{letter-H, letter-B, entryOf}
+use Rattle.commands.specs.Commands.{letter-H, letter-B, letter-P, entryOf}
 use borrow.Author.Needs.{needs}
 use Rattle.commands.proofs.reading.entry_at.Statement.{statement}
 use Rattle.commands.proofs.reading.entry_at.Tie as tie
@@ -25,11 +25,21 @@ returns-2 c =
     let l = t .before .before .letter-at .ensures in
     rw (it-is-not l letter-H (t .before .if1 .left), it-is l letter-B (t .if2 .taken)) (c .baseline-line .ensures)
 
+position-line-requires : tie.Need-position-line-requires
+position-line-requires c κs = search needs
+
 returns-3 : tie.Need-returns-3
 unfolding entryOf
 returns-3 c =
-    let l = c .before .before .letter-at .ensures in
-    rw (it-is-not l letter-H (c .before .if1 .left), it-is-not l letter-B (c .if2 .left))
+    let t = c .before in
+    let l = t .before .before .before .letter-at .ensures in
+    rw (it-is-not l letter-H (t .before .before .if1 .left), it-is-not l letter-B (t .before .if2 .left), it-is l letter-P (t .if3 .taken)) (c .position-line .ensures)
+
+returns-4 : tie.Need-returns-4
+unfolding entryOf
+returns-4 c =
+    let l = c .before .before .before .letter-at .ensures in
+    rw (it-is-not l letter-H (c .before .before .if1 .left), it-is-not l letter-B (c .before .if2 .left), it-is-not l letter-P (c .if3 .left))
 
 pub entry-at-spec : {M : Type 1} → statement M
 entry-at-spec =
@@ -40,4 +50,6 @@ entry-at-spec =
     returns
     baseline-line-requires
     returns-2
-    returns-3)
+    position-line-requires
+    returns-3
+    returns-4)

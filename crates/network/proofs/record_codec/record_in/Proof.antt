@@ -1,4 +1,4 @@
--- The kind is read back from its bits; by it a baseline, a height difference, or else the empty record (`other-record`). Assumes nothing.
+-- The kind is read back from its bits; by it a baseline, a height difference, a position, or else the empty record (`other-record`). Assumes nothing.
 use borrow.Author.Needs.{needs, sfits-of}
 use mathlib.Core.Path.{_≡_, sym, ap, _∙_}
 use mir.Syntax.{w64}
@@ -13,6 +13,9 @@ use Rattle.network.proofs.RecordKinds.{other-record}
 use Rattle.network.proofs.record_codec.record_in.Statement.{statement}
 use Rattle.network.proofs.record_codec.record_in.Tie as tie
 
+kind-is : (c : tie.After-index-in) → c .index-in .result ≡ indexIn (getD (now (c .before .before .args .w)) (c .before .before .args .at) (pos 0)) 4
+kind-is c = c .index-in .ensures ∙ ap (λ (z : ℤ). indexIn z 4) (toZ-ofZ {w = w64} (sfits-of (c .before .index-in-arg .given)))
+
 mul-index-in : tie.Need-mul-index-in
 mul-index-in c = search needs
 
@@ -24,9 +27,6 @@ index-in-requires c κs = search needs
 
 baseline-in-requires : tie.Need-baseline-in-requires
 baseline-in-requires c κs = search needs
-
-kind-is : (c : tie.After-index-in) → c .index-in .result ≡ indexIn (getD (now (c .before .before .args .w)) (c .before .before .args .at) (pos 0)) 2
-kind-is c = c .index-in .ensures ∙ ap (λ (z : ℤ). indexIn z 2) (toZ-ofZ {w = w64} (sfits-of (c .before .index-in-arg .given)))
 
 returns : tie.Need-returns
 returns c =
@@ -41,11 +41,19 @@ returns-2 c =
     let s = c .before .before .before .before .before in
     c .height-in .ensures ∙ ap (λ (k : ℕ). recordOf k (now (s .args .w)) (s .args .at)) (sym (c .before .if2 .taken) ∙ kind-is (c .before .before .before))
 
+position-in-requires : tie.Need-position-in-requires
+position-in-requires c κs = search needs
+
 returns-3 : tie.Need-returns-3
 returns-3 c =
-    let s = c .before .before .before .before in
-    other-record _ (now (s .args .w)) (s .args .at) (c .before .if1 .left) (c .if2 .left)
-    ∙ ap (λ (k : ℕ). recordOf k (now (s .args .w)) (s .args .at)) (kind-is (c .before .before))
+    let s = c .before .before .before .before .before .before in
+    c .position-in .ensures ∙ ap (λ (k : ℕ). recordOf k (now (s .args .w)) (s .args .at)) (sym (c .before .if3 .taken) ∙ kind-is (c .before .before .before .before))
+
+returns-4 : tie.Need-returns-4
+returns-4 c =
+    let s = c .before .before .before .before .before in
+    other-record _ (now (s .args .w)) (s .args .at) (c .before .before .if1 .left) (c .before .if2 .left) (c .if3 .left)
+    ∙ ap (λ (k : ℕ). recordOf k (now (s .args .w)) (s .args .at)) (kind-is (c .before .before .before))
 
 pub record-in-spec : {M : Type 1} → statement M
 record-in-spec =
@@ -58,4 +66,6 @@ record-in-spec =
     returns
     height-in-requires
     returns-2
-    returns-3)
+    position-in-requires
+    returns-3
+    returns-4)

@@ -1,4 +1,4 @@
--- `observations_of` is `observations`, case by case. Assumes nothing.
+-- By the record, case by case. Assumes nothing.
 use borrow.Author.Needs.{needs}
 use Rattle.network.specs.Records.{observations}
 use Rattle.network.proofs.records.observations_of.Statement.{statement}
@@ -13,6 +13,9 @@ enum-told-2 c = search needs
 enum-told-3 : tie.Need-enum-told-3
 enum-told-3 c = search needs
 
+enum-told-4 : tie.Need-enum-told-4
+enum-told-4 c = search needs
+
 returns : tie.Need-returns
 unfolding observations
 returns c = rw (c .enum-told .given .1)
@@ -25,6 +28,11 @@ returns-3 : tie.Need-returns-3
 unfolding observations
 returns-3 c = rw (c .enum-told3 .given .1)
 
+returns-4 : tie.Need-returns-4
+unfolding observations
+returns-4 c = rw (c .enum-told4 .given .1)
+
 pub observations-of-spec : {M : Type 1} → statement M
 observations-of-spec =
-    tie.close (tie.spec enum-told enum-told-2 enum-told-3 returns returns-2 returns-3)
+    tie.close
+    (tie.spec enum-told enum-told-2 enum-told-3 enum-told-4 returns returns-2 returns-3 returns-4)
