@@ -3,8 +3,10 @@
     documents.py NAME         writes the survey as input of the program
 
 Document 01's unit is 0.01 mm, and weight 1 a standard deviation of 1,000 units. A survey whose lengths do not fit that unit, or whose weights would round to 0, is entered in another
-unit here: then lengths are whole numbers of that unit, weight 1 is a standard deviation of 1,000 of them, and T over 1,000,000 is still the sum of squares of the document.
+unit here: then lengths are whole numbers of that unit, weight 1 is a standard deviation of 1,000 of them, and T over 1,000,000 is still the sum of squares of the document. That holds
+also where E and N are in one unit and U in another: in an adjustment lengths in E, N and U meet only through a weight, which then has the units of its two components.
 """
+import math
 import sys
 from fractions import Fraction
 
@@ -59,8 +61,19 @@ TABLE_003 = '''
 23 24 576.4315 515.9078 -203.8178 1.415800e-06 -9.109323e-07 1.185005e-06 9.537250e-07 -9.403620e-07 1.468584e-06
 '''
 
-# Document 003, Tables 1 and 2: heights of the marks, and levelled differences with their standard deviations, in metres.
-HEIGHTS_003 = {'21': '103.70', '22': '104.20', '23': '104.10', '24': '103.60', '25': '102.80'}
+SCALARS_003 = {('26', '23'): (1.0, 1.0, 5.0)}      # section 6.1.1: partial scalars in E, N and U that rescale the variance matrix of this baseline; the others stay
+
+# Document 003, Tables 1 and 4: latitude and longitude of the marks, their AHD height H and geoid separation N in metres; H + N is the height above the ellipsoid.
+MARKS_003 = '''
+21 -35 58 47.8625 142 54 36.5997 103.70 4.512
+22 -35 58 49.2624 142 54 48.7240 104.20 4.515
+23 -35 58 51.1156 142 55 04.9316 104.10 4.518
+24 -35 58 59.3020 142 54 34.6274 103.60 4.507
+25 -35 59 03.0482 142 55 02.8142 102.80 4.512
+26 -35 59 07.5727 142 54 46.2340 112.897 4.506
+'''
+
+# Document 003, Table 2: levelled differences with their standard deviations, in metres.
 LEVELS_003 = '''
 21 22 0.506 0.010
 22 23 -0.045 0.011
@@ -74,10 +87,26 @@ LEVELS_003 = '''
 24 25 -0.740 0.015
 '''
 
+# Document 003, Table 10 and its text, the constraints. Mark 26 has X, Y, Z in metres and the lower triangle of its variance matrix, which is scaled by 7.5. Mark 23 has latitude and
+# longitude with standard deviations of 0.0008", "approximately 0.025 m" in both, and, for want of a height above the ellipsoid, its AHD height with a standard deviation of 0.2 m.
+POINT_26 = ('-4121849.2711', '3115877.9599', '-3726953.1897')
+VARIANCES_26 = ('1.526881e-06', '-5.463696e-07', '1.407678e-06', '3.250046e-07', '-1.977427e-07', '1.250715e-06')
+SCALARS_26 = (7.5, 7.5, 7.5)
+POINT_23 = ('-35', '58', '51.1179', '142', '55', '04.9337', '104.1000')
+DEVIATIONS_23 = ('0.025', '0.025', '0.200')
+# Document 003, Table 12: 95% uncertainties of the marks in E, N and Up, in millimetres.
+UNCERTAINTIES_003 = {'21': (6, 6, 9), '22': (5, 6, 8), '23': (5, 6, 8), '24': (5, 6, 8), '25': (6, 9, 10), '26': (5, 6, 8)}
+
+SEMI_MAJOR_AXIS, FLATTENING = 6_378_137, 1 / 298.257222101      # GRS80, the ellipsoid of GDA2020; document 003 names the datum alone
+UPPER = ((0, 0), (0, 1), (0, 2), (1, 1), (1, 2), (2, 2))        # the upper triangle of a matrix, by rows
+
+
+def nearest(v):
+    return solve.nearest(v.numerator, v.denominator)
+
 
 def whole(metres, unit):
-    v = Fraction(metres) / unit
-    return solve.nearest(v.numerator, v.denominator)
+    return nearest(Fraction(metres) / unit)
 
 
 def inverse(xx, xy, xz, yy, yz, zz):
@@ -87,14 +116,23 @@ def inverse(xx, xy, xz, yy, yz, zz):
     return [v / det for v in adj]
 
 
-def weight_numbers(covariance, unit, factor):
-    """The weights of a variance matrix in square metres, times the factor, rounded."""
-    scaled = [v * factor * (1000 * unit) ** 2 for v in inverse(*map(Fraction, covariance))]
-    return tuple(solve.nearest(v.numerator, v.denominator) for v in scaled)
+def weight_numbers(covariance, units, factor=1):
+    """The weights of a variance matrix in square metres, in the units of its components, times the factor, rounded. The rules have no weight below 1 on the diagonal."""
+    numbers = [nearest(v * factor * 1000 ** 2 * units[a] * units[b]) for v, (a, b) in zip(inverse(*map(Fraction, covariance)), UPPER)]
+    return tuple(max(1, v) if a == b else v for v, (a, b) in zip(numbers, UPPER))
+
+
+def level_weight(deviation, unit, factor=1):
+    return nearest(factor * (1000 * unit / Fraction(deviation)) ** 2)
 
 
 def rows_of(table):
     return [line.split() for line in table.strip().split('\n')]
+
+
+def upper(xx, yx, yy, zx, zy, zz):
+    """The upper triangle of a symmetric matrix, of its lower one."""
+    return xx, yx, zx, yy, zy, zz
 
 
 def baselines_002(factor=1, held='AB'):
@@ -109,7 +147,7 @@ def baselines_002(factor=1, held='AB'):
             return [whole(Fraction(v) - o, unit) for v, o in zip(CONTROL_002[name], a)]
         return [10_000 * whole(Fraction(v) - o, 1) for v, o in zip(ADJUSTED_002[name], a)]
     stations = [(survey.KNOWN if name in held else survey.FREE, *coordinates(name)) for name in names]
-    records = [survey.Baseline(names.index(f) + 1, names.index(t) + 1, tuple(whole(v, unit) for v in seen), weight_numbers(covariance, unit, factor))
+    records = [survey.Baseline(names.index(f) + 1, names.index(t) + 1, tuple(whole(v, unit) for v in seen), weight_numbers(covariance, (unit,) * 3, factor))
                for f, t, *rest in rows_of(TABLE_002) for seen, covariance in [(rest[:3], rest[3:])]]
     return stations, dict(enumerate(records, 1))
 
@@ -129,8 +167,8 @@ def baselines_003():
     unit = Fraction(1, 100_000)
     names = ['22', '23', '24', '26']
     records = []
-    for f, t, x, y, z, xx, yx, yy, zx, zy, zz in rows_of(TABLE_003):
-        records.append(survey.Baseline(names.index(f) + 1, names.index(t) + 1, tuple(whole(v, unit) for v in (x, y, z)), weight_numbers((xx, yx, zx, yy, zy, zz), unit, 1)))
+    for f, t, x, y, z, *variances in rows_of(TABLE_003):
+        records.append(survey.Baseline(names.index(f) + 1, names.index(t) + 1, tuple(whole(v, unit) for v in (x, y, z)), weight_numbers(upper(*variances), (unit,) * 3)))
     stations = [(survey.KNOWN, 0, 0, 0)]
     for name in names[1:]:
         r, sign = next((r, sign) for r in records for sign, ends in ((1, (1, names.index(name) + 1)), (-1, (names.index(name) + 1, 1))) if (r.start, r.end) == ends)
@@ -141,13 +179,93 @@ def baselines_003():
 def levels_003():
     """Document 003's levelling in units of 0.1 mm (10 mm would be weight 1 in document 01's unit), mark 22 held."""
     unit = Fraction(1, 10_000)
-    names = list(HEIGHTS_003)
-    stations = [(survey.KNOWN if name == '22' else survey.HEIGHT, 0, 0, whole(up, unit)) for name, up in HEIGHTS_003.items()]
-    records = []
-    for f, t, up, deviation in rows_of(LEVELS_003):
-        weight = (1000 * unit / Fraction(deviation)) ** 2
-        records.append(survey.Level(names.index(f) + 1, names.index(t) + 1, whole(up, unit), solve.nearest(weight.numerator, weight.denominator)))
+    heights = {name: height for name, *_, height, _ in rows_of(MARKS_003) if name != '26'}
+    names = list(heights)
+    stations = [(survey.KNOWN if name == '22' else survey.HEIGHT, 0, 0, whole(up, unit)) for name, up in heights.items()]
+    records = [survey.Level(names.index(f) + 1, names.index(t) + 1, whole(up, unit), level_weight(deviation, unit)) for f, t, up, deviation in rows_of(LEVELS_003)]
     return stations, dict(enumerate(records, 1))
+
+
+def radians(degrees, minutes, seconds):
+    size = abs(Fraction(degrees)) + Fraction(minutes) / 60 + Fraction(seconds) / 3600
+    return math.radians(-size if degrees.startswith('-') else size)
+
+
+def geocentric(latitude, longitude, height):
+    """X, Y, Z of a point at a height above the ellipsoid, in metres."""
+    squared_eccentricity = FLATTENING * (2 - FLATTENING)
+    radius = SEMI_MAJOR_AXIS / math.sqrt(1 - squared_eccentricity * math.sin(latitude) ** 2)       # of curvature, in the prime vertical
+    from_axis = (radius + height) * math.cos(latitude)
+    return from_axis * math.cos(longitude), from_axis * math.sin(longitude), (radius * (1 - squared_eccentricity) + height) * math.sin(latitude)
+
+
+def axes(latitude, longitude):
+    """E, N and U at a point, as directions in X, Y, Z."""
+    sin_lat, cos_lat, sin_lon, cos_lon = math.sin(latitude), math.cos(latitude), math.sin(longitude), math.cos(longitude)
+    return (-sin_lon, cos_lon, 0.0), (-sin_lat * cos_lon, -sin_lat * sin_lon, cos_lat), (cos_lat * cos_lon, cos_lat * sin_lon, sin_lat)
+
+
+class Site:
+    """The site frame of document 003's constrained adjustment: E, N, U at mark 26, from its X, Y, Z of Table 10. E and N are in units of 1/40 mm, in which mark 23's 25 mm is weight 1,
+    and U in units of 1/12 mm, in which the largest weight of a baseline is 9,499. Mark 23's 0.2 m is then weight 0.17 in U, and becomes 1, the least, which is 83 mm: no unit has room
+    for both. A refinement makes the units so many times smaller and all weights its square times as large: with a large one lengths and weights are as the document has them."""
+
+    def __init__(self, refinement=1):
+        self.units = tuple(unit / refinement for unit in (Fraction(1, 40_000), Fraction(1, 40_000), Fraction(1, 12_000)))
+        self.factor = refinement ** 4
+        marks = {name: values for name, *values in rows_of(MARKS_003)}
+        self.names = list(marks)
+        self.angles = {name: (radians(*values[:3]), radians(*values[3:6])) for name, values in marks.items()}
+        self.heights = {name: Fraction(values[6]) for name, values in marks.items()}
+        self.separations = {name: Fraction(values[7]) for name, values in marks.items()}
+        self.axes = axes(*self.angles['26'])
+
+    def number(self, name):
+        return self.names.index(name) + 1
+
+    def vector(self, xyz):
+        """A difference in X, Y, Z, in metres, as whole numbers in E, N, U."""
+        return tuple(whole(sum(a * float(v) for a, v in zip(axis, xyz)), unit) for axis, unit in zip(self.axes, self.units))
+
+    def point(self, latitude, longitude, height):
+        return self.vector([v - float(o) for v, o in zip(geocentric(latitude, longitude, height), POINT_26)])
+
+    def covariance(self, lower, scalars):
+        """A variance matrix of X, Y, Z as one of E, N, U, rescaled there by partial scalars."""
+        xx, xy, xz, yy, yz, zz = map(float, upper(*lower))
+        full = (xx, xy, xz), (xy, yy, yz), (xz, yz, zz)
+        turned = [sum(self.axes[a][i] * full[i][j] * self.axes[b][j] for i in range(3) for j in range(3)) for a, b in UPPER]
+        return [v * math.sqrt(scalars[a] * scalars[b]) for v, (a, b) in zip(turned, UPPER)]
+
+    def weights(self, covariance):
+        return weight_numbers(covariance, self.units, self.factor)
+
+
+def constraints_003(site):
+    """The positions of marks 26 and 23. Mark 23's AHD height is taken with its geoid separation: by the baselines from mark 26 it is then 0.12 m too low, and 4.64 m without."""
+    *angles, height = POINT_23
+    point = site.point(radians(*angles[:3]), radians(*angles[3:]), Fraction(height) + site.separations['23'])
+    east, north, up = (Fraction(v) ** 2 for v in DEVIATIONS_23)
+    return [survey.Position(site.number('26'), site.vector((0, 0, 0)), site.weights(site.covariance(VARIANCES_26, SCALARS_26))),
+            survey.Position(site.number('23'), point, site.weights((east, 0, 0, north, 0, up)))]
+
+
+def positions_003(refinement=1):
+    """Document 003's constrained adjustment as far as a book takes it: the baselines, the levelled differences and the two constraints, without slope distances and angles. No station
+    is known. Marks 21 and 25, which no baseline joins, are height stations. Provisional coordinates, and E and N of these two, are those of Table 1. A levelled difference has in U
+    the misclosure that it has in AHD heights: geoid separations and curvature are in the provisional coordinates."""
+    site = Site(refinement)
+    stations = [(survey.HEIGHT if name in ('21', '25') else survey.FREE, *site.point(*site.angles[name], site.heights[name] + site.separations[name])) for name in site.names]
+    records = []
+    for f, t, x, y, z, *variances in rows_of(TABLE_003):
+        covariance = site.covariance(variances, SCALARS_003.get((f, t), (1.0, 1.0, 1.0)))
+        records.append(survey.Baseline(site.number(f), site.number(t), site.vector((x, y, z)), site.weights(covariance)))
+    for f, t, up, deviation in rows_of(LEVELS_003):
+        start, end = site.number(f), site.number(t)
+        misclosure = whole(Fraction(up) - (site.heights[t] - site.heights[f]), site.units[2])
+        provisional = stations[end - 1][3] - stations[start - 1][3]
+        records.append(survey.Level(start, end, provisional + misclosure, level_weight(deviation, site.units[2], site.factor)))
+    return stations, dict(enumerate(records + constraints_003(site), 1))
 
 
 def exact_sheet(stations, records):
@@ -166,16 +284,15 @@ def exact_sheet(stations, records):
 
 
 SURVEYS = {'baselines_document_002': baselines_002, 'baselines_document_002_one_held': lambda: baselines_002(held='A'), 'baselines_document_003': baselines_003,
-           'levelling_document_003': levels_003}
+           'levelling_document_003': levels_003, 'positions_document_003': positions_003}
+LETTERS = {survey.Baseline: 'B', survey.Level: 'H', survey.Position: 'P'}
 
 
 def text(stations, records):
     lines = ['S %d %s %d %d %d' % (k, ' KFV'[row[0]], *row[1:]) for k, row in enumerate(stations, 1)]
     for place, r in records.items():
-        if isinstance(r, survey.Baseline):
-            lines.append('B ' + ' '.join(map(str, (place, r.start, r.end, *r.observed, *r.weights))))
-        else:
-            lines.append('H %d %d %d %d %d' % (place, r.start, r.end, r.up, r.single))
+        numbers = (r.up, r.single) if isinstance(r, survey.Level) else (*r.observed, *r.weights)
+        lines.append(' '.join(map(str, (LETTERS[type(r)], place, *(s for s, _ in r.ends), *numbers))))
     return '\n'.join(lines) + '\n'
 
 

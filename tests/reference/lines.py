@@ -1,8 +1,9 @@
-"""The program's language, from document 01 "The night print" and requests 3 and 4 of document 02: bytes in, bytes out."""
+"""The program's language, from document 01 "The night print" and requests 3, 4 and 5 of document 02: bytes in, bytes out."""
 import survey
 
 LETTERS = {b'K': survey.KNOWN, b'F': survey.FREE, b'V': survey.HEIGHT}
 WORDS = ('PASS', 'FAIL', 'LOOSE', 'LOW', 'HIGH', 'NONE')
+ENTERS = (b'H', b'B', b'P')
 
 
 class Unreadable(Exception):
@@ -29,20 +30,23 @@ def numbers(fields, count):
 
 
 def record(kind, fields):
-    """(place, record) of the fields after H or B. A B line without antenna heights has heights of 0."""
+    """(place, record) of the fields after H, B or P. A B line without antenna heights has heights of 0."""
     if kind == b'H':
         place, start, end, up, weight = numbers(fields, 5)
         return place, survey.Level(start, end, up, weight)
+    if kind == b'P':
+        place, station, *values = numbers(fields, 11)
+        return place, survey.Position(station, tuple(values[:3]), tuple(values[3:]))
     values = numbers(fields, 14 if len(fields) == 14 else 12)
     return values[0], survey.Baseline(values[1], values[2], tuple(values[3:6]), tuple(values[6:12]), tuple(values[12:]) or (0, 0))
 
 
 def edit_of(fields):
-    """The ledger's call and its arguments, of an edit's fields; None where the line is no edit. R before H or B changes nothing."""
-    if fields[0] == b'R' and fields[1:2] in ([b'H'], [b'B']):
+    """The ledger's call and its arguments, of an edit's fields; None where the line is no edit. R before H, B or P changes nothing."""
+    if fields[0] == b'R' and len(fields) > 1 and fields[1] in ENTERS:
         fields = fields[1:]
     head, *rest = fields
-    if head in (b'H', b'B'):
+    if head in ENTERS:
         return 'enter', *record(head, rest)
     if head == b'D':
         return 'strike', *numbers(rest, 1)

@@ -1,7 +1,8 @@
-"""An independent implementation of document 01, as requests 1 (check distances), 2 (records that are a check only), 3 (enter) and 4 (antenna heights) of document 02 amend it, for
-the tests: stations, records, the ledger, the check, the sheet. Written from the documents alone, in whole numbers, with no thought for speed. Numbers of stations, places and
-unknowns count from 1 as in the document; lists from 0."""
+"""An independent implementation of document 01, as requests 1 (check distances), 2 (records that are a check only), 3 (enter), 4 (antenna heights) and 5 (positions) of document 02
+amend it, for the tests: stations, records, the ledger, the check, the sheet. Written from the documents alone, in whole numbers, with no thought for speed. Numbers of stations, places
+and unknowns count from 1 as in the document; lists from 0."""
 from dataclasses import dataclass
+from itertools import permutations
 
 KNOWN, FREE, HEIGHT = 1, 2, 3          # kinds of station, as words
 S = 2 ** 30
@@ -12,7 +13,9 @@ CHI_SQUARE = [  # 95% limits in thousandths, D = 1 to 30
     (9591, 34170), (10283, 35479), (10982, 36781), (11689, 38076), (12401, 39364), (13120, 40646), (13844, 41923), (14573, 43195),
     (15308, 44461), (16047, 45722), (16791, 46979)]
 PASS, FAIL, LOOSE, LOW, HIGH, NONE = range(6)
+MOST_COORDINATE = 500_000_000          # of a station, and of a position
 MOST_DIFFERENCE, MOST_MISCLOSURE = 1_000_000_000, 100_000      # of a record
+MOST_WEIGHT = 10_000
 MOST_HEIGHT_ABOVE_MARK = 300_000       # of an antenna, of the instrument and the target of a check distance
 MOST_DISTANCE, MOST_TOLERANCE = 1_800_000_000, 100_000         # of a check distance
 DISAGREES = -2                         # the answer to a check distance that does not agree
@@ -32,21 +35,23 @@ class Station:
         return self.kind == FREE or (self.kind == HEIGHT and c == 2)
 
 
-@dataclass(frozen=True)
-class Baseline:
-    start: int
-    end: int
-    observed: tuple           # E, N, U, from antenna to antenna
-    weights: tuple            # EE, EN, EU, NN, NU, UU
-    heights: tuple = (0, 0)   # of the antennas above their marks, from first
+def within(limit, values):
+    return all(abs(v) <= limit for v in values)
 
-    components = (0, 1, 2)
+
+# Every record has: `ends`, its stations with their coefficients in A; `components`, those it acts in; `observed`, and `reduced`, which its misclosure is taken from; `weight` and
+# `variance`; `values_in_range`, which refusal 4 asks for, and `matrix_fits`, which 5 does.
+class FromTo:
+    """What has a from and a to, `start` and `end`: differences are to minus from."""
 
     @property
-    def reduced(self):
-        """The differences from mark to mark: that in U is the observed one plus the from-height minus the to-height."""
-        east, north, up = self.observed
-        return east, north, up + self.heights[0] - self.heights[1]
+    def ends(self):
+        return (self.start, -1), (self.end, 1)
+
+
+class Weighted:
+    """What acts in E, N and U with a 3×3 matrix of weights: `weights` are EE, EN, EU, NN, NU, UU."""
+    components = (0, 1, 2)
 
     def weight(self, a, b):
         ee, en, eu, nn, nu, uu = self.weights
@@ -64,9 +69,38 @@ class Baseline:
         """floor(S·adj/det)"""
         return S * self.adjugate(a) // self.determinant()
 
+    def weights_in_range(self):
+        ee, en, eu, nn, nu, uu = self.weights
+        return all(1 <= w <= MOST_WEIGHT for w in (ee, nn, uu)) and within(MOST_WEIGHT, (en, eu, nu))
+
+    def matrix_fits(self):
+        """The leading minors are positive, and no diagonal entry of the adjugate is above 16 times the determinant."""
+        ee, en, _, nn, _, _ = self.weights
+        det = self.determinant()
+        return ee > 0 and ee * nn - en * en > 0 and det > 0 and all(self.adjugate(a) <= 16 * det for a in self.components)
+
 
 @dataclass(frozen=True)
-class Level:
+class Baseline(FromTo, Weighted):
+    start: int
+    end: int
+    observed: tuple           # E, N, U, from antenna to antenna
+    weights: tuple
+    heights: tuple = (0, 0)   # of the antennas above their marks, from first
+
+    @property
+    def reduced(self):
+        """The differences from mark to mark: that in U is the observed one plus the from-height minus the to-height."""
+        east, north, up = self.observed
+        return east, north, up + self.heights[0] - self.heights[1]
+
+    def values_in_range(self):
+        heights_fit = all(0 <= h <= MOST_HEIGHT_ABOVE_MARK for h in self.heights)
+        return heights_fit and within(MOST_DIFFERENCE, (*self.observed, *self.reduced)) and self.weights_in_range()
+
+
+@dataclass(frozen=True)
+class Level(FromTo):
     start: int
     end: int
     up: int
@@ -88,9 +122,33 @@ class Level:
     def variance(self, a):
         return S // self.single
 
+    def values_in_range(self):
+        return within(MOST_DIFFERENCE, self.observed) and 1 <= self.single <= MOST_WEIGHT
+
+    def matrix_fits(self):
+        return True
+
 
 @dataclass(frozen=True)
-class CheckDistance:
+class Position(Weighted):
+    station: int
+    observed: tuple           # its coordinates E, N, U
+    weights: tuple
+
+    @property
+    def ends(self):
+        return ((self.station, 1),)
+
+    @property
+    def reduced(self):
+        return self.observed
+
+    def values_in_range(self):
+        return within(MOST_COORDINATE, self.observed) and self.weights_in_range()
+
+
+@dataclass(frozen=True)
+class CheckDistance(FromTo):
     start: int
     end: int
     distance: int
@@ -113,8 +171,8 @@ class Network:
         return self.stations[number - 1]
 
     def provisional(self, record, c):
-        """The provisional difference, to minus from."""
-        return self.at(record.end).coordinate(c) - self.at(record.start).coordinate(c)
+        """What the provisional coordinates give for the observed value: the difference, to minus from, or the coordinate itself."""
+        return sum(sign * self.at(s).coordinate(c) for s, sign in record.ends)
 
     def misclosure(self, record, c):
         return record.reduced[c] - self.provisional(record, c)
@@ -125,37 +183,26 @@ def open_number(rows):
     if not 1 <= len(rows) <= 32:
         return 1
     for kind, *coordinates in rows:
-        if kind not in (KNOWN, FREE, HEIGHT) or any(abs(v) > 500_000_000 for v in coordinates):
+        if kind not in (KNOWN, FREE, HEIGHT) or not within(MOST_COORDINATE, coordinates):
             return 1
     return 0 if 1 <= Network(Station(*row) for row in rows).n <= 48 else 1
 
 
 def ends_fit(net, r):
-    """Whether from and to are in the list, and not equal."""
-    count = len(net.stations)
-    return 1 <= r.start <= count and 1 <= r.end <= count and r.start != r.end
+    """Whether the stations are in the list, and from and to, where there are both, not equal."""
+    stations = {s for s, _ in r.ends}
+    return all(1 <= s <= len(net.stations) for s in stations) and len(stations) == len(r.ends)
 
 
 def record_number(net, r):
     """Refusals 3 to 6 of a record; 0 for none."""
     if not ends_fit(net, r):
         return 3
-    if any(abs(v) > MOST_DIFFERENCE for v in (*r.observed, *r.reduced)):
+    if not r.values_in_range():
         return 4
-    if isinstance(r, Baseline):
-        ee, en, eu, nn, nu, uu = r.weights
-        if not all(0 <= h <= MOST_HEIGHT_ABOVE_MARK for h in r.heights):
-            return 4
-        if not all(1 <= w <= 10_000 for w in (ee, nn, uu)) or any(abs(w) > 10_000 for w in (en, eu, nu)):
-            return 4
-        det = r.determinant()
-        if not (ee > 0 and ee * nn - en * en > 0 and det > 0) or any(r.adjugate(a) > 16 * det for a in range(3)):
-            return 5
-    elif not 1 <= r.single <= 10_000:
-        return 4
-    if any(abs(net.misclosure(r, c)) > MOST_MISCLOSURE for c in r.components):
-        return 6
-    return 0
+    if not r.matrix_fits():
+        return 5
+    return 0 if within(MOST_MISCLOSURE, (net.misclosure(r, c) for c in r.components)) else 6
 
 
 def normals(net, records):
@@ -164,9 +211,9 @@ def normals(net, records):
     matrix = [[0] * n for _ in range(n)]
     right = [0] * n
     for r in records.values():
-        ends = [(net.index[s, c], sign, c) for s, sign in ((r.start, -1), (r.end, 1)) for c in r.components if (s, c) in net.index]
-        for i, a, c in ends:
-            for j, b, d in ends:
+        row = [(net.index[s, c], sign, c) for s, sign in r.ends for c in r.components if (s, c) in net.index]
+        for i, a, c in row:
+            for j, b, d in row:
                 matrix[i][j] += a * r.weight(c, d) * b
             right[i] += sum(a * r.weight(c, d) * net.misclosure(r, d) for d in r.components)
     return matrix, right
@@ -219,18 +266,21 @@ class Ledger:
         return 0
 
 
+def tied(net, records, c):
+    """The stations where a chain in the component may end, held in it or with a position record, and those that records acting in it join to them."""
+    found = {s for s in range(1, len(net.stations) + 1) if not net.at(s).unknown(c)} | {r.station for r in records.values() if isinstance(r, Position)}
+    joins = {pair for r in records.values() if c in r.components for pair in permutations([s for s, _ in r.ends], 2)}
+    while True:
+        more = {t for s, t in joins if s in found} - found
+        if not more:
+            return found
+        found |= more
+
+
 def untied(net, records):
-    """The lowest unknown, from 1, without a chain to a held station; None where all are tied."""
-    reached = set()
-    for c in range(3):
-        tied = {s for s in range(1, len(net.stations) + 1) if not net.at(s).unknown(c)}
-        while True:
-            more = {t for r in records.values() if c in r.components for s, t in ((r.start, r.end), (r.end, r.start)) if s in tied} - tied
-            if not more:
-                break
-            tied |= more
-        reached |= {(s, c) for s in tied}
-    missing = [i for key, i in net.index.items() if key not in reached]
+    """The lowest unknown, from 1, without a chain to a held station or to one with a position record; None where all are tied."""
+    found = [tied(net, records, c) for c in range(3)]
+    missing = [i for (s, c), i in net.index.items() if s not in found[c]]
     return min(missing) + 1 if missing else None
 
 
@@ -263,13 +313,12 @@ def check(net, records, x, m, room=None):
 
 def residual(net, r, x, c, d=1):
     """The residual at the corrections x over d, times d."""
-    move = {s: x[net.index[s, c]] if (s, c) in net.index else 0 for s in (r.start, r.end)}
-    return d * net.misclosure(r, c) - (move[r.end] - move[r.start])
+    return d * net.misclosure(r, c) - sum(sign * x[net.index[s, c]] for s, sign in r.ends if (s, c) in net.index)
 
 
 def in_adjustment(net, r):
     """Whether an end has an unknown in a component that the record acts on. Where none has, the record is a check only: it adds nothing to D or T."""
-    return any(net.at(s).unknown(c) for s in (r.start, r.end) for c in r.components)
+    return any(net.at(s).unknown(c) for s, _ in r.ends for c in r.components)
 
 
 def square_sum(net, records, x, d=1):
@@ -285,8 +334,7 @@ def square_sum(net, records, x, d=1):
 def local_verdict(net, r, x, m, c):
     def entry(s, t):
         return m[net.index[s, c] * net.n + net.index[t, c]] if (s, c) in net.index and (t, c) in net.index else 0
-    f, t = r.start, r.end
-    q = r.variance(c) - (entry(t, t) + entry(f, f) - entry(t, f) - entry(f, t))
+    q = r.variance(c) - sum(a * b * entry(s, t) for s, a in r.ends for t, b in r.ends)      # M_tt + M_ff − M_tf − M_ft, or M_ss alone
     v = residual(net, r, x, c)
     if q < 2 ** 14:
         return LOOSE
@@ -305,7 +353,7 @@ def global_verdict(t, d):
 
 
 def sheet_room(net, records):
-    return 5 + 7 * len(net.stations) + sum(7 if isinstance(r, Baseline) else 3 for r in records.values())
+    return 5 + 7 * len(net.stations) + sum(1 + 2 * len(r.components) for r in records.values())
 
 
 def adjusted(net, x, number):

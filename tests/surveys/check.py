@@ -2,16 +2,17 @@
 
 Each line has three parts: what is compared with, the program's numbers, the differences. Checked: the first parts are those of the exact solver, or of document 002; the third parts are
 the second less the first; corrections are within one unit of the exact ones, coordinates and residuals as far as that goes; what document 002 prints is met within 0.05 mm in coordinates
-(half a unit) and 0.1 mm in residuals (two coordinates)."""
+(half a unit) and 0.1 mm in residuals (two coordinates). What document 003 prints of its constrained adjustment is in constrained_003.py."""
 import os
 import sys
 
 ROOT = os.path.dirname(os.path.dirname(os.path.dirname(os.path.abspath(__file__))))
 sys.path.insert(0, os.path.join(ROOT, 'tests', 'reference'))
+import constrained_003
 import documents
 
 FACTOR = 50
-SURVEYS = 4         # in the program
+SURVEYS = 5         # in the program
 
 
 def expected_rows(stations, records):
@@ -36,11 +37,16 @@ def rows():
     for k, numbers in enumerate(documents.printed_002()):
         yield 'printed', numbers, [5 if k < 4 else 10] * 3
     yield from expected_rows(*documents.baselines_002(FACTOR, held='A'))
+    yield from expected_rows(*documents.positions_003())
+
+
+def parts(line):
+    first, ours, differences = [part.split() for part in line.split('|')]
+    return first, [int(v) for v in ours], [int(v) for v in differences]
 
 
 def wrong(line, word, numbers, allowed):
-    first, ours, differences = [part.split() for part in line.split('|')]
-    ours, differences = [int(v) for v in ours], [int(v) for v in differences]
+    first, ours, differences = parts(line)
     if first != [word] + [str(v) for v in numbers]:
         return 'is compared with %s, not with %s' % (' '.join(first), ' '.join(map(str, [word] + numbers)))
     if differences != [a - b for a, b in zip(ours, numbers)] or len(ours) != len(numbers):
@@ -64,6 +70,13 @@ def main():
         what = wrong(line, *row)
         if what:
             print('line %d %s' % (k, what))
+        failed += bool(what)
+        passed += not what
+    last = [parts(line)[1] for _, line in lines if line.startswith('station')][-len(documents.UNCERTAINTIES_003):]
+    for test in constrained_003.TESTS:
+        what = test(last)
+        if what:
+            print(what)
         failed += bool(what)
         passed += not what
     print('%d passed, %d failed' % (passed, failed))
