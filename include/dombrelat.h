@@ -37,15 +37,16 @@ extern "C" {
  * two known stations out of the square sum, the degrees of freedom and so the global verdict; in 1 they counted. 3: dombrelat_enter_baseline and dombrelat_enter_height, which fill a
  * place or overwrite it, stand in place of four calls that added or replaced, and DOMBRELAT_PLACE_EMPTY (7) in place of DOMBRELAT_PLACE_TAKEN. 4: dombrelat_enter_baseline takes two
  * numbers more, the antenna heights. Compile a host anew with the header of its library: an object made with an earlier header passes no heights, and no linker tells; a host that
- * declares the call itself adds them to its declaration.
- * The bytes of a book have a number of their own, that of their layout: it is 2, the book's first word. Books of versions 1 to 3 have 1 there and are refused with 25;
- * docs/BOOK.md says how to take one over. */
-#define DOMBRELAT_VERSION 4
+ * declares the call itself adds them to its declaration. 5: there is a third kind of record, the position (dombrelat_enter_position), which dombrelat_record gives as kind 4, and at
+ * whose station a chain of records may end.
+ * The bytes of a book have a number of their own, that of their layout: it is 3, the book's first word. Books of versions 1 to 3 have 1 there, those of version 4 have 2: both are
+ * refused with 25; docs/BOOK.md says how to take one over. */
+#define DOMBRELAT_VERSION 5
 
 /* The bytes of a book. A longer slice may be lent: bytes beyond stay. The layout is in docs/BOOK.md; a program needs it only to look inside. */
 #define DOMBRELAT_BOOK_BYTES 56224
 
-/* The bytes of a station in a list, of a record as dombrelat_record writes it, and of the largest sheet (32 stations, 256 baselines). */
+/* The bytes of a station in a list, of a record as dombrelat_record writes it, and of the largest sheet (32 stations, 256 baselines or positions). */
 #define DOMBRELAT_STATION_BYTES 32
 #define DOMBRELAT_RECORD_BYTES 112
 #define DOMBRELAT_SHEET_BYTES (8 * (5 + 7 * 32 + 7 * 256))
@@ -58,6 +59,9 @@ extern "C" {
 #define DOMBRELAT_UNKNOWNS 48
 #define DOMBRELAT_PLACES 256
 #define DOMBRELAT_UNDOS 64
+
+/* The greatest size of a coordinate, of a station or of a position, in units. */
+#define DOMBRELAT_COORDINATE_MAX 500000000
 
 /* The greatest height of an antenna, an instrument or a target above its mark, in units; the least is 0. */
 #define DOMBRELAT_HEIGHT_ABOVE_MARK_MAX 300000
@@ -74,22 +78,23 @@ extern "C" {
 /* Refusals. */
 #define DOMBRELAT_BAD_STATIONS 1      /* open: not 1 to 32 whole stations, a kind that is none, a coordinate beyond 500,000,000, or not 1 to 48 unknowns */
 #define DOMBRELAT_BAD_PLACE 2         /* the place is not 1 to 256 */
-#define DOMBRELAT_BAD_ENDS 3          /* from or to is not in the list, or they are equal */
-#define DOMBRELAT_OUT_OF_RANGE 4      /* an observed component or the reduced U difference beyond 1,000,000,000; an antenna height not 0 to 300,000; a weight not 1 to 10,000, off the diagonal beyond 10,000 */
+#define DOMBRELAT_BAD_ENDS 3          /* from or to is not in the list, or they are equal; or the station of a position is not in the list */
+#define DOMBRELAT_OUT_OF_RANGE 4      /* an observed difference or the reduced U difference beyond 1,000,000,000; an antenna height not 0 to 300,000; a coordinate of a position beyond
+                                         500,000,000; a weight not 1 to 10,000, off the diagonal beyond 10,000 */
 #define DOMBRELAT_BAD_MATRIX 5        /* the weight matrix is not positive definite, or gives a component (E, N or U) a variance above 16 squares of 10 mm */
-#define DOMBRELAT_BAD_MISCLOSURE 6    /* observed (in U reduced) minus provisional is beyond 100,000 units (1 m) in a component */
+#define DOMBRELAT_BAD_MISCLOSURE 6    /* observed (in U of a baseline reduced) minus provisional is beyond 100,000 units (1 m) in a component */
 #define DOMBRELAT_PLACE_EMPTY 7       /* strike: the place is empty */
 #define DOMBRELAT_NOTHING_TO_UNDO 8   /* the history is empty */
 #define DOMBRELAT_TOO_LARGE 9         /* a sum beyond 2^62; by the limits of this version it never comes */
 #define DOMBRELAT_BAD_LENGTHS 10      /* x or M is not as long as the book's unknowns ask, or a slice to write on has no room */
-#define DOMBRELAT_UNTIED 11           /* an unknown has no chain of records to a held station: DOMBRELAT_NUMBER(result) is the first such unknown */
+#define DOMBRELAT_UNTIED 11           /* an unknown has no chain of records to a held station or to one with a position: DOMBRELAT_NUMBER(result) is the first such unknown */
 #define DOMBRELAT_LARGE_CORRECTION 12 /* a correction beyond 100,000 units */
 #define DOMBRELAT_LARGE_VARIANCE 13   /* an entry of M beyond 2^34 */
 #define DOMBRELAT_BAD_INVERSE 14      /* M is not near enough to 2^30 times the inverse of N */
 #define DOMBRELAT_BAD_RESIDUAL 15     /* x does not solve the normal equations nearly enough */
 #define DOMBRELAT_BAD_SOLUTION 16     /* x may be further than one unit from the least squares answer */
 #define DOMBRELAT_BAD_DISTANCE 17     /* check_distance: a height not 0 to 300,000, a distance not 1 to 1,800,000,000, a tolerance not 0 to 100,000 or not below the distance */
-#define DOMBRELAT_BAD_BOOK 25         /* the lent book bytes are too short, damaged, of another layout (versions 1 to 3), or not a book */
+#define DOMBRELAT_BAD_BOOK 25         /* the lent book bytes are too short, damaged, of another layout (versions 1 to 4), or not a book */
 #define DOMBRELAT_NO_PROPOSAL (-1)    /* propose: no pair that the check accepts was found */
 #define DOMBRELAT_DISAGREES (-2)      /* check_distance: the distance does not agree with the sheet; an answer, as 0 is */
 
@@ -120,6 +125,13 @@ int64_t dombrelat_enter_baseline(uint8_t *book, size_t book_bytes, int64_t place
 /* The same with a levelled height difference, to minus from. Refusals: 25, 2, 3, 4, 6. */
 int64_t dombrelat_enter_height(uint8_t *book, size_t book_bytes, int64_t place, int64_t from, int64_t to, int64_t up, int64_t weight);
 
+/* The same with a position: observed coordinates of one station, in the frame of the station list, as a national mark comes with them, and the symmetric weight matrix that says how well
+ * they are known: the inverse of their covariance matrix in squares of 10 mm. The misclosure is observed minus provisional coordinate in E, N and U, whatever the station's kind. A
+ * position adds 3 to the degrees of freedom, and its residuals to the square sum; at a known station it does neither, since there it is a check only. A chain of records may end at its
+ * station, in E, N and U, as at a held one: so a network without a held station may be accepted. Refusals: 25, 2, 3 (the station is not in the list), 4, 5, 6. */
+int64_t dombrelat_enter_position(uint8_t *book, size_t book_bytes, int64_t place, int64_t station, int64_t east, int64_t north, int64_t up,
+                                 int64_t ee, int64_t en, int64_t eu, int64_t nn, int64_t nu, int64_t uu);
+
 /* Empties a filled place. Refusals: 25, 2, 7. */
 int64_t dombrelat_strike(uint8_t *book, size_t book_bytes, int64_t place);
 
@@ -132,10 +144,10 @@ int64_t dombrelat_undo(uint8_t *book, size_t book_bytes);
 int64_t dombrelat_check(const uint8_t *book, size_t book_bytes, const uint8_t *x, size_t x_bytes, const uint8_t *m, size_t m_bytes);
 
 /* The same, and on acceptance the sheet's words: records, unknowns; for each station its number, E, N, U and three variances (over 2^30, in squares of 10 mm); for each
- * record by rising place a baseline's place, three residuals and three verdicts, or a height difference's place, residual and verdict; then the weighted square sum of
- * the residuals, the degrees of freedom and the global verdict. A record between two known stations is a check only: it has its words and is one of the records, but the square
- * sum and the degrees of freedom, and so the global verdict, leave it out. dombrelat_sheet_bytes says how many bytes the words take; bytes beyond stay. The sheet's length is a
- * multiple of 8. Refusals as for checking. */
+ * record by rising place a baseline's or a position's place, three residuals and three verdicts, or a height difference's place, residual and verdict; then the weighted square sum of
+ * the residuals, the degrees of freedom and the global verdict. A record between two known stations and a position at a known station are checks only: each has its words and is one
+ * of the records, but the square sum and the degrees of freedom, and so the global verdict, leave it out. dombrelat_sheet_bytes says how many bytes the words take; bytes beyond
+ * stay. The sheet's length is a multiple of 8. Refusals as for checking. */
 int64_t dombrelat_check_sheet(const uint8_t *book, size_t book_bytes, const uint8_t *x, size_t x_bytes, const uint8_t *m, size_t m_bytes,
                               uint8_t *sheet, size_t sheet_bytes);
 
@@ -160,9 +172,9 @@ int64_t dombrelat_sheet_bytes(const uint8_t *book, size_t book_bytes);
 /* Writes the station list as dombrelat_open took it, 32 bytes a station, and counts the stations. Bytes beyond stay. Refusals: 25, 10 (the list has no room). */
 int64_t dombrelat_stations(const uint8_t *book, size_t book_bytes, uint8_t *list, size_t list_bytes);
 
-/* Writes the 14 words of what a place holds: kind (0 empty, 1 baseline, 2 height difference), from, to, observed E, N, U, weights EE, EN, EU, NN, NU, UU, from_height, to_height. A
- * height difference has its difference in U and its weight in UU; what a record does not use is 0. U is as it was observed: of a baseline, from mark to mark it is word 5 + word 12 -
- * word 13, counted from 0. Bytes beyond stay. Refusals: 25, 2, 10 (less than 112 bytes). */
+/* Writes the 14 words of what a place holds: kind (0 empty, 1 baseline, 2 height difference, 4 position), from or a position's station, to, observed E, N, U, weights EE, EN, EU, NN,
+ * NU, UU, from_height, to_height. A height difference has its difference in U and its weight in UU; what a record does not use is 0. U is as it was observed: of a baseline, from mark
+ * to mark it is word 5 + word 12 - word 13, counted from 0. Bytes beyond stay. Refusals: 25, 2, 10 (less than 112 bytes). */
 int64_t dombrelat_record(const uint8_t *book, size_t book_bytes, int64_t place, uint8_t *record, size_t record_bytes);
 
 #ifdef __cplusplus

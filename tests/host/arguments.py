@@ -2,20 +2,25 @@
 import math
 import struct
 
-from layout import BYTES, COUNT_AT, HEIGHTS_AT, MATRIX_AT, NEXT_AT, PLACES, PLACES_AT, SLOTS, SLOTS_AT, WORDS
+from layout import BYTES, COUNT_AT, HEIGHTS_AT, MATRIX_AT, NEXT_AT, PLACES, PLACES_AT, SLOTS, SLOTS_AT, TO_AT, WORDS
 from expected import entering, packed
 import antennas
 import solve
 import survey
 
 EXTREME = [0, 1, -1, 2, 32, 33, 48, 256, 257, 100_000, 100_001, 10_000, 10_001, 300_000, 300_001, 500_000_000, 500_000_001, 1_000_000_000, 1_000_000_001,
-           -1_000_000_001, 2 ** 31, 2 ** 62, 2 ** 63 - 1, -2 ** 63, -2 ** 62]
+           -500_000_001, -1_000_000_001, 2 ** 31, 2 ** 62, 2 ** 63 - 1, -2 ** 63, -2 ** 62]
 SHORT = [0, 1, 7, 8, BYTES // 2, BYTES - 8, BYTES - 1]
 LENGTHS = {'as asked': lambda data: data, 'empty': lambda data: b'', 'a word short': lambda data: data[:-8], 'a byte short': lambda data: data[:-1],
            'a byte long': lambda data: data + b'\x5a', 'a word long': lambda data: data + b'\x5a' * 8, 'far longer': lambda data: data + b'\x5a' * 24_000}
-OTHER_HEIGHTS = {'antenna heights of a baseline': 1, 'antenna heights of a height difference': 2, 'antenna heights of nothing': 0}      # by the kind of the record that is given them
-LAYOUT_BEFORE = 1                                                        # the layout number until antenna heights came
-DAMAGE = 2 * ['cut short', 'a bit', 'a word', 'a head', 'a journal word', 'places exchanged'] + ['the layout number before', *OTHER_HEIGHTS]
+RECORDS = {'nothing': 0, 'a baseline': 1, 'a height difference': 2, 'a position': 4}      # by the kind word
+OTHER_WORDS = {                                                          # of a record of that kind: which words, and what one of them is given, beside one less and one more
+    **{'antenna heights of ' + what: (kind, (HEIGHTS_AT, HEIGHTS_AT + 1), antennas.NEAR) for what, kind in RECORDS.items()},
+    **{'kind of ' + what: (kind, (0,), range(6)) for what, kind in RECORDS.items()},
+    'to of a position': (4, (TO_AT,), (1, 2, 32))}
+LAYOUTS_BEFORE = {'layout number 1': 1, 'layout number 2': 2}            # until antenna heights came, and until positions did
+DAMAGE = 2 * ['cut short', 'a bit', 'a word', 'a head', 'a journal word', 'places exchanged'] + [*LAYOUTS_BEFORE, *OTHER_WORDS]
+CHAIN_ENDS = [(True, 0), (True, 0.2), (True, 1), (False, 0), (False, 1)]      # of a tied network: whether a station is known, and the share of the stations with a position
 SLICES = {'check': ('x', 'm'), 'check_sheet': ('x', 'm', 'sheet'), 'check_distance': ('x', 'm'), 'propose': ('x', 'm'), 'stations': ('list',), 'record': ('record',)}
 
 
@@ -43,35 +48,62 @@ class Arguments:
             row[r.randrange(4)] = r.choice(EXTREME)
         return [tuple(v) for v in rows]
 
-    def tied_stations(self, low, high):
-        """A list that opens, the first station known, of low to high unknowns."""
+    def tied_network(self, low, high):
+        """(stations, records) of low to high unknowns, each with a chain to a held station or to one with a position."""
+        held, share = self.rng.choice(CHAIN_ENDS)
+        rows = self.tied_stations(low, high, held)
+        return rows, self.tied_records(survey.Network(survey.Station(*row) for row in rows), share)
+
+    def tied_stations(self, low, high, held):
+        """A list that opens, of low to high unknowns: the first station is known and the others are of any kind, or none is held in any component."""
         r = self.rng
         while True:
-            rows = [(survey.KNOWN if k == 0 else r.choice([1, 2, 2, 3, 3]), *(r.randint(-300_000, 300_000) for _ in range(3))) for k in range(r.randint(2, 32))]
+            kinds = [survey.KNOWN if k == 0 else r.choice([1, 2, 2, 3, 3]) for k in range(r.randint(2, 32))] if held else [survey.FREE] * r.randint(1, 16)
+            rows = [(kind, *(r.randint(-300_000, 300_000) for _ in range(3))) for kind in kinds]
             if survey.open_number(rows) == 0 and low <= survey.Network(survey.Station(*row) for row in rows).n <= high:
                 return rows
 
-    def between(self, net, kind, start, end, slip):
-        """A record by the rules whose misclosures are at most slip."""
+    def weights(self):
+        """A matrix by the rules."""
         r = self.rng
-        seen = tuple(net.at(end).coordinate(c) - net.at(start).coordinate(c) + r.randint(-slip, slip) for c in range(3))
-        if kind == 'height':
-            return survey.Level(start, end, seen[2], r.randint(50, 10_000))
         k = r.choice([100, 3_000, 9_999])
         ee, nn, uu = (r.randint(k // 2, k) for _ in range(3))
         en, eu, nu = (r.randint(-k // 6, k // 6) for _ in range(3))
-        heights = antennas.heights(r)
-        return survey.Baseline(start, end, (*seen[:2], seen[2] - heights[0] + heights[1]), (ee, en, eu, nn, nu, uu), heights)
+        return ee, en, eu, nn, nu, uu
 
-    def tied_records(self, net):
-        """Records that tie every unknown to a held station, and some more: up to all places."""
+    def by_the_rules(self, net, kind, start, end, slip):
+        """A record between the two stations, or a position at the second, whose misclosures are at most slip."""
+        r = self.rng
+        at = tuple(net.at(end).coordinate(c) + r.randint(-slip, slip) for c in range(3))
+        if kind == 'position':
+            return survey.Position(end, at, self.weights())
+        east, north, up = (v - net.at(start).coordinate(c) for c, v in enumerate(at))
+        if kind == 'height':
+            return survey.Level(start, end, up, r.randint(50, 10_000))
+        heights = antennas.heights(r)
+        return survey.Baseline(start, end, (east, north, up - heights[0] + heights[1]), self.weights(), heights)
+
+    def tied_records(self, net, share):
+        """Records that tie every unknown, and some more: up to all places. Of the stations this share is tied by a position, and the first one where it is not known."""
         r = self.rng
         count = len(net.stations)
         slip = r.choice([2, 15, 40, 500])           # small and large for the weights, so that every verdict comes
-        ties = [self.between(net, 'baseline' if net.at(k).kind == survey.FREE or r.random() < 0.3 else 'height', *r.sample([r.randrange(1, k), k], 2), slip)
-                for k in range(2, count + 1)]
+        ties = []
+        for k in range(1, count + 1):
+            if r.random() < share or (k == 1 and net.at(k).kind != survey.KNOWN):
+                ties.append(self.by_the_rules(net, 'position', k, k, slip))
+            elif k > 1:
+                kind = 'baseline' if net.at(k).kind == survey.FREE or r.random() < 0.3 else 'height'
+                ties.append(self.by_the_rules(net, kind, *r.sample([r.randrange(1, k), k], 2), slip))
         more = r.choice([0, 3, count, 3 * count, PLACES - len(ties)])
-        return ties + [self.between(net, r.choice(['baseline', 'height']), *r.sample(range(1, count + 1), 2), slip) for _ in range(more)]
+        return ties + [self.any_record(net, slip) for _ in range(more)]
+
+    def any_record(self, net, slip):
+        """By the rules, of any kind, at any stations; where there is but one, a position."""
+        r = self.rng
+        count = len(net.stations)
+        kind = r.choice(['baseline', 'height', 'position']) if count > 1 else 'position'
+        return self.by_the_rules(net, kind, *(r.sample(range(1, count + 1), 2) if count > 1 else (1, 1)), slip)
 
     def record(self, net, kind):
         """Most by the rules, the others near their limits or extreme."""
@@ -80,7 +112,7 @@ class Arguments:
         start, end = r.randint(1, count), r.randint(1, count)
         if start == end and count > 1 and r.random() < 0.95:
             end = start % count + 1
-        made = self.between(net, kind, start, end, r.choice([50, 2_000, 99_999, 100_000, 100_001, 110_000]) if r.random() < 0.2 else 300)
+        made = self.by_the_rules(net, kind, start, end, r.choice([50, 2_000, 99_999, 100_000, 100_001, 110_000]) if r.random() < 0.2 else 300)
         start, end = self.odd(start), self.odd(end)
         if kind == 'height':
             return survey.Level(start, end, self.odd(made.up), self.odd(made.single))
@@ -88,8 +120,10 @@ class Arguments:
         if r.random() < 0.1:
             k = max(weights)
             weights = tuple(v if i in (0, 3, 5) else r.randint(-k, k) for i, v in enumerate(weights))
-        observed, weights, heights = (tuple(self.odd(v) for v in part) for part in (made.observed, weights, made.heights))
-        return survey.Baseline(start, end, observed, weights, heights)
+        observed, weights = (tuple(self.odd(v) for v in part) for part in (made.observed, weights))
+        if kind == 'position':
+            return survey.Position(end, observed, weights)
+        return survey.Baseline(start, end, observed, weights, tuple(self.odd(v) for v in made.heights))
 
     def edit(self, name, book):
         """The numbers of an edit of that name. The place of a strike is most often filled, that of an enter filled or empty; some enters are of the record that is there."""
@@ -191,14 +225,15 @@ class Arguments:
             put(r.choice([0, 1, NEXT_AT, COUNT_AT, r.randrange(2, PLACES_AT), SLOTS_AT + 15 * r.randrange(SLOTS)]), r.choice([0, 1, 2, 3, 4, 5, 63, 64, 65, 255, 256, -1]))
         elif kind == 'a journal word':
             put(journal, words[journal] + r.choice([-1, 1, 100, 200_000]))
-        elif kind == 'the layout number before':
-            put(0, LAYOUT_BEFORE)
-        elif kind in OTHER_HEIGHTS:
+        elif kind in LAYOUTS_BEFORE:
+            put(0, LAYOUTS_BEFORE[kind])
+        elif kind in OTHER_WORDS:
+            of, which, values = OTHER_WORDS[kind]
             starts = [PLACES_AT + 14 * p for p in range(PLACES)] + [SLOTS_AT + 15 * k + 1 for k in range(SLOTS)]
-            of_kind = [at for at in starts if words[at] == OTHER_HEIGHTS[kind]]
-            if of_kind:
-                at = r.choice(of_kind) + HEIGHTS_AT + r.randrange(2)
-                put(at, r.choice([*antennas.NEAR, words[at] - 1, words[at] + 1]))
+            records = [at for at in starts if words[at] == of]
+            if records:
+                at = r.choice(records) + r.choice(which)
+                put(at, r.choice([*values, words[at] - 1, words[at] + 1]))
         else:
             a, b = 8 * r.choice(filled), 8 * r.choice([*filled, PLACES_AT + 14 * r.randrange(PLACES)])
             data[a:a + 112], data[b:b + 112] = data[b:b + 112], data[a:a + 112]

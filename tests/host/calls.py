@@ -18,10 +18,10 @@ import survey
 BOOKS, EDITS_A_BOOK = 190, 120                                         # random books
 NETWORKS = {'1 to 9': 50, '10 to 24': 40, '25 to 47': 20, '48': 10}      # by numbers of unknowns
 VERDICTS = ('PASS', 'FAIL', 'LOOSE', 'LOW', 'HIGH', 'NONE')              # by their words in a sheet
-ENTERS = ('enter_baseline', 'enter_height')
-BOOK_EDITS = ('enter_baseline', 'enter_baseline', 'enter_baseline', 'enter_height', 'enter_height', 'strike')      # of a random book, beside undos
+ENTERS = ('enter_baseline', 'enter_height', 'enter_position')
+BOOK_EDITS = ('enter_baseline', 'enter_baseline', 'enter_baseline', 'enter_height', 'enter_height', 'enter_position', 'enter_position', 'strike')      # of a random book, beside undos
 UNDOS = (0.02, 0.15, 0.45)                                             # their share in a random book; with few the history runs full
-HEADER = {'VERSION': 4, 'PLACE_EMPTY': 7, 'PLACE_TAKEN': None}           # what it must say; None: it has no such constant
+HEADER = {'VERSION': 5, 'PLACE_EMPTY': 7, 'PLACE_TAKEN': None}           # what it must say; None: it has no such constant
 GONE = ('add_baseline', 'add_height', 'replace_baseline', 'replace_height')      # calls before request 3
 
 
@@ -57,6 +57,9 @@ class Calls(Comparison):
                 self.coverage.note('baselines with antenna heights', heights)
         if wanted[0] == 0:
             self.coverage.note('accepted edits', kinds.of_edit(call, before, model.records.get(place)))
+            exchange = kinds.of_exchange(call, before, model.records.get(place))
+            if exchange:
+                self.coverage.note('records over others of another kind', exchange)
         return wanted
 
     def proposal(self, model, got):
@@ -111,6 +114,7 @@ class Calls(Comparison):
     def note_sheet(self, model, words):
         self.coverage.note('accepted sheets by unknowns', next(k for k, (low, high) in SIZES.items() if low <= model.net.n <= high))
         self.coverage.note('accepted sheets by global verdict', VERDICTS[words[-1]])
+        self.note_ties('accepted sheets by their ties', model)
         found = {kinds.of(model.net, r) for r in model.records.values()}
         for kind in found:
             self.coverage.note('accepted sheets by a record in them', kind)
@@ -196,10 +200,10 @@ class Calls(Comparison):
 
     def network(self, low, high):
         """A network with a chain for every unknown: sheets of just the room, word by word, then every call, on it and on the networks that some edits make of it."""
-        rows = self.arguments.tied_stations(low, high)
+        rows, records = self.arguments.tied_network(low, high)
         model = self.open(packed([v for row in rows for v in row]), bytes(BYTES))
         book = Buffer(model.bytes())
-        for place, r in enumerate(self.arguments.tied_records(model.net), 1):
+        for place, r in enumerate(records, 1):
             name, numbers = entering(place, r)
             self.same('a record of a network', self.ask(name, book, model, numbers), 0)
         for _ in range(3):

@@ -10,6 +10,10 @@ def lengths(least):
     return dict.fromkeys(('as asked', 'empty', 'a word short', 'a byte short', 'a byte long', 'a word long', 'far longer'), least)
 
 
+def ties(least):
+    return dict.fromkeys(('tied in %s by positions alone' % c for c in 'ENU'), least)
+
+
 def distance_refusals(least):
     """3, 17 and one of the check's own, each alone and with the others."""
     apply = itertools.product(('', '3'), ('', '17'), ('', *map(str, range(10, 17))))
@@ -17,73 +21,84 @@ def distance_refusals(least):
 
 
 # tests/host/calls.py. Each call by its refusals, 0 where it is done, and an enter also by what its place holds; what accepted edits found and an undo restored; enters undone at once,
-# by whether the history had 64 edits and by what came back; what the antenna heights of baselines lead to; then the lengths of lent slices on bytes that hold a book, damage, and what was written.
+# by whether the history had 64 edits and by what came back; what the antenna heights of baselines lead to; then the lengths of lent slices on bytes that hold a book, damage, what was
+# written, and what the accepted sheets are of.
 CALLS = {
-    'open': {0: 150, 1: 90, 25: 250},
-    'enter_baseline': {0: 6800, 2: 90, 3: 200, 4: 430, 5: 350, 6: 170, 25: 1000},
-    'enter_baseline, at an empty place': {0: 5000, 3: 130, 4: 280, 5: 230, 6: 110},
-    'enter_baseline, at a filled place': {0: 1700, 3: 75, 4: 140, 5: 110, 6: 55},
-    'enter_height': {0: 6000, 2: 55, 3: 150, 4: 75, 6: 60, 25: 1000},
-    'enter_height, at an empty place': {0: 4600, 3: 95, 4: 45, 6: 35},
-    'enter_height, at a filled place': {0: 1400, 3: 50, 4: 30, 6: 24},
-    'strike': {0: 1100, 2: 30, 7: 800, 25: 1000},
-    'undo': {0: 3700, 8: 300, 25: 1000},
+    'open': {0: 150, 1: 90, 25: 160},
+    'enter_baseline': {0: 4400, 2: 55, 3: 220, 4: 400, 5: 240, 6: 160, 25: 1200},
+    'enter_baseline, at an empty place': {0: 3100, 3: 140, 4: 270, 5: 160, 6: 95},
+    'enter_baseline, at a filled place': {0: 1200, 3: 80, 4: 130, 5: 80, 6: 60},
+    'enter_height': {0: 3900, 2: 45, 3: 170, 4: 45, 6: 35, 25: 1200},
+    'enter_height, at an empty place': {0: 2800, 3: 120, 4: 30, 6: 20},
+    'enter_height, at a filled place': {0: 1100, 3: 50, 4: 15, 6: 14},
+    'enter_position': {0: 4100, 2: 40, 3: 45, 4: 280, 5: 180, 6: 80, 25: 1200},
+    'enter_position, at an empty place': {0: 3100, 3: 28, 4: 180, 5: 110, 6: 50},
+    'enter_position, at a filled place': {0: 950, 3: 18, 4: 95, 5: 60, 6: 30},
+    'strike': {0: 850, 2: 28, 7: 550, 25: 1200},
+    'undo': {0: 3500, 8: 300, 25: 1200},
     'accepted edits': {
         'enter at an empty place': 9500, 'enter over another record': 2500, 'enter over an equal record': 680, 'strike': 1100, 'undo of enter at an empty place': 2100,
         'undo of enter over another record': 850, 'undo of enter over an equal record': 220, 'undo of strike': 520},
+    'records over others of another kind': {
+        **dict.fromkeys(('%s over %s' % pair for pair in itertools.permutations(('baseline', 'height difference', 'position'), 2)), 250),
+        **dict.fromkeys(('undo of %s over %s' % pair for pair in itertools.permutations(('baseline', 'height difference', 'position'), 2)), 85)},
     'undone at once, history not full': {'enter at an empty place': 700, 'enter over another record': 300, 'enter over an equal record': 70},
     'undone at once, history full': {'enter at an empty place': 60, 'enter over another record': 40, 'enter over an equal record': 8},
-    'undone at once, restored': {'nothing': 750, 'height difference': 200, 'baseline': 90, 'baseline with antenna heights': 120},
-    'baselines with antenna heights': {                                  # 4 by the reduced difference alone is for heights.py
-        'accepted': 1700, 'accepted, where the observed difference would give 6': 2000, '4 by a height': 75, '4 by both differences': 9, '6 by both differences': 50,
-        '6 by the reduced difference alone': 20, '4 by the observed difference alone, high': 2, '4 by the observed difference alone, low': 2,
+    'undone at once, restored': {'nothing': 730, 'height difference': 130, 'baseline': 60, 'baseline with antenna heights': 90, 'position': 120},
+    'baselines with antenna heights': {                                  # 4 by one difference alone is for heights.py
+        'accepted': 1200, 'accepted, where the observed difference would give 6': 1400, '4 by a height': 55, '4 by both differences': 12, '6 by both differences': 26,
+        '6 by the reduced difference alone': 14, '4 by the observed difference alone, high': 0, '4 by the observed difference alone, low': 0,
         '4 by the reduced difference alone, high': 0, '4 by the reduced difference alone, low': 0},
-    'check': {0: 240, 10: 450, 11: 450, 12: 20, 13: 20, 14: 25, 15: 30, 16: 50, 25: 1000},
-    'check_sheet': {0: 440, 10: 550, 11: 500, 12: 25, 13: 20, 14: 30, 15: 25, 16: 40, 25: 1000},
-    'check_distance': {-2: 80, 0: 90, 3: 270, 10: 330, 11: 440, 12: 11, 13: 16, 14: 18, 15: 24, 16: 40, 17: 45, 25: 1000},
-    'propose': {-1: 450, 0: 400, 10: 450, 25: 1000},
-    'unknowns': {0: 1300, 25: 1000},
-    'sheet_bytes': {0: 1500, 25: 1000},
-    'stations': {0: 1100, 10: 240, 25: 1000},
-    'record': {0: 850, 2: 300, 10: 170, 25: 1000},
+    'check': {0: 240, 10: 450, 11: 420, 12: 28, 13: 20, 14: 21, 15: 45, 16: 50, 25: 1200},
+    'check_sheet': {0: 440, 10: 550, 11: 470, 12: 28, 13: 20, 14: 24, 15: 35, 16: 60, 25: 1200},
+    'check_distance': {-2: 80, 0: 90, 3: 270, 10: 340, 11: 350, 12: 15, 13: 13, 14: 22, 15: 20, 16: 35, 17: 45, 25: 1200},
+    'propose': {-1: 430, 0: 420, 10: 450, 25: 1200},
+    'unknowns': {0: 1300, 25: 1200},
+    'sheet_bytes': {0: 1400, 25: 1200},
+    'stations': {0: 1050, 10: 220, 25: 1200},
+    'record': {0: 800, 2: 330, 10: 160, 25: 1200},
     'check, length of x': lengths(30),
     'check, length of m': lengths(30),
-    'check_sheet, length of x': lengths(20),
-    'check_sheet, length of m': lengths(20),
-    'check_sheet, length of sheet': lengths(20),
+    'check_sheet, length of x': lengths(18),
+    'check_sheet, length of m': lengths(18),
+    'check_sheet, length of sheet': lengths(18),
     'check_distance, length of x': lengths(30),
     'check_distance, length of m': lengths(30),
     'propose, length of x': lengths(30),
     'propose, length of m': lengths(30),
     'stations, length of list': lengths(50),
     'record, length of record': lengths(50),
-    'damage: cut short': {'refused': 240},
-    'damage: a bit': {'refused': 200, 'read': 30},
-    'damage: a word': {'refused': 200, 'read': 8},
-    'damage: a head': {'refused': 200, 'read': 8},
-    'damage: a journal word': {'refused': 150, 'read': 80},
-    'damage: places exchanged': {'refused': 30, 'read': 150},
-    'damage: the layout number before': {'refused': 90},
-    'damage: antenna heights of a baseline': {'refused': 50, 'read': 16},
-    'damage: antenna heights of a height difference': {'refused': 60},
-    'damage: antenna heights of nothing': {'refused': 90},
-    'record, what it read': {'baseline': 95, 'baseline with antenna heights': 125, 'height difference': 160, 'nothing': 450},
-    'the unknown of 11': {'the first': 900, 'a later one': 470},
-    'accepted sheets by unknowns': {'1 to 9': 300, '10 to 24': 75, '25 to 47': 35, '48': 18},
-    'accepted sheets by global verdict': {'PASS': 15, 'LOW': 15, 'HIGH': 250, 'NONE': 140},
+    'damage: cut short': {'refused': 140},
+    'damage: a bit': {'refused': 130, 'read': 20},
+    'damage: a word': {'refused': 130, 'read': 8},
+    'damage: a head': {'refused': 110, 'read': 11},
+    'damage: a journal word': {'refused': 95, 'read': 50},
+    'damage: places exchanged': {'refused': 20, 'read': 80},
+    'damage: layout number 1': {'refused': 80},
+    'damage: layout number 2': {'refused': 65},
+    'damage: antenna heights of a baseline': {'refused': 40, 'read': 11},
+    **dict.fromkeys(('damage: ' + what for what in (
+        'antenna heights of a height difference', 'antenna heights of a position', 'antenna heights of nothing', 'kind of a baseline', 'kind of a height difference',
+        'kind of a position', 'kind of nothing', 'to of a position')), {'refused': 40}),
+    'record, what it read': {'baseline': 50, 'baseline with antenna heights': 80, 'height difference': 120, 'position': 110, 'nothing': 440},
+    'the unknown of 11': {'the first': 780, 'a later one': 470},
+    'accepted sheets by unknowns': {'1 to 9': 300, '10 to 24': 90, '25 to 47': 32, '48': 19},
+    'accepted sheets by global verdict': {'PASS': 12, 'LOW': 22, 'HIGH': 210, 'NONE': 190},
+    'accepted sheets by their ties': {**ties(140), 'no station held': 110, 'a position at every station': 160, 'tied without positions': 190},
     'accepted sheets by a record in them': {
-        'baseline known-known': 200, 'baseline known-free': 290, 'baseline known-height': 320, 'baseline free-free': 160, 'baseline free-height': 220, 'baseline height-height': 180,
-        'height difference known-known': 210, 'height difference known-free': 250, 'height difference known-height': 340, 'height difference free-free': 110,
-        'height difference free-height': 190, 'height difference height-height': 180},
-    'D of accepted sheets with a check only': {'0': 3, 'to 30': 170, 'above': 85},
-    'local verdicts of accepted sheets': {'PASS': 20_000, 'FAIL': 15_000, 'LOOSE': 1_000},
+        'baseline known-known': 120, 'baseline known-free': 190, 'baseline known-height': 220, 'baseline free-free': 150, 'baseline free-height': 140, 'baseline height-height': 130,
+        'height difference known-known': 120, 'height difference known-free': 150, 'height difference known-height': 220, 'height difference free-free': 130,
+        'height difference free-height': 130, 'height difference height-height': 130, 'position known': 250, 'position free': 250, 'position height': 250},
+    'D of accepted sheets with a check only': {'0': 3, 'to 30': 160, 'above': 120},
+    'local verdicts of accepted sheets': {'PASS': 25_000, 'FAIL': 22_000, 'LOOSE': 1_300},
 }
 
 # tests/host/distances.py. 20,000 distances are to be asked, and a third of those that the seed gives to be refused; then what applies where one is refused, and what was near a limit
 # with an accepted pair.
 DISTANCES = {
     'distances': {'asked': 20_000, 'refused': 12_000},
-    'check_distance': {-2: 12_000, 0: 8_000, 3: 6_000, 10: 650, 11: 320, 12: 320, 13: 320, 14: 320, 15: 260, 16: 380, 17: 5_000},
+    'networks by their ties': {**ties(19), 'no station held': 7, 'a position at every station': 8, 'tied without positions': 7},
+    'check_distance': {-2: 12_000, 0: 8_000, 3: 6_000, 10: 650, 11: 320, 12: 320, 13: 320, 14: 320, 15: 230, 16: 400, 17: 5_000},
     'answers': {'agrees': 4_000, 'does not': 6_000},
     'what refuses': distance_refusals(120),
     'limits of 17': {**dict.fromkeys(('%s %d' % (name, value) for name, most in (('instrument_height', 300_000), ('target_height', 300_000), ('tolerance', 100_000))
@@ -92,7 +107,7 @@ DISTANCES = {
     'extreme numbers': dict.fromkeys(('start', 'end', 'distance', 'instrument_height', 'target_height', 'tolerance', 'all but the ends'), 120),
     'D² beside (s - t)²': {'one below': 130, 'at': 170, 'one above': 150},
     'D² beside (s + t)²': {'one below': 130, 'at': 170, 'one above': 150},
-    'size of D²': {'to 10^6': 160, 'to 10^12': 6_000, 'to 10^18': 2_700, 'to 2.9·10^18': 1_100, 'to 3·10^18': 18, 'above': 90},
+    'size of D²': {'to 10^6': 190, 'to 10^12': 6_000, 'to 10^18': 2_700, 'to 2.9·10^18': 1_000, 'to 3·10^18': 10, 'above': 100},
 }
 
 # tests/host/heights.py. What the antenna heights lead to; both sides of every limit: of a height, of the U differences and of the misclosures, observed and reduced; what came back by
@@ -120,18 +135,51 @@ HEIGHTS = {
         '4 by the reduced difference alone, low': 35, '6 by both differences': 65, '6 by the reduced difference alone': 70, 'no heights left': 45},
 }
 
-# tests/host/flips.py, by the part of the book; the antenna heights are among the places and the journal
-FLIPS = {
-    'flips': {'tried': 449_792},
-    'flips that read, judged': {'places': 2000, 'journal': 2500, 'antenna heights': 600},
-    'refused flips, judged': {'stations': 600, 'places': 900, 'journal': 7000, 'normals': 600, 'antenna heights': 550},
+# tests/host/positions.py. At each limit the number that a position has: 0 where it is entered, else its refusal. Then each set of refusals that apply; what a position does for an
+# unknown that has no chain without it; where it is on sheets, and the local verdicts that tell M_ss from another variance.
+LIMITS_OF_POSITIONS = {
+    'coordinates': dict.fromkeys(['%s %d: %d' % (c, sign * (500_000_000 + off), 4 if off > 0 else 0) for c, sign, off in itertools.product('ENU', (-1, 1), (-1, 0, 1))]
+                                 + [c + ' far: 4' for c in 'ENU'], 6),
+    'weights': dict.fromkeys(['%s %s' % at for at in itertools.product(('EE', 'NN', 'UU'), ('0: 4', '1: 0', '10000: 0', '10001: 4', 'far: 4'))]
+                             + ['%s %s' % at for at in itertools.product(('EN', 'EU', 'NU'), ('9999: 0', '10000: 5', '10001: 4', '-9999: 0', '-10000: 5', '-10001: 4', 'far: 4'))], 6),
+    'matrices': dict.fromkeys(['second minor 1: 0', 'second minor 0: 5', 'second minor below 0, the others above: 5', 'determinant 1: 0', 'determinant 0: 5', 'determinant below 0: 5']
+                              + ['adjugate %s in %s: %d' % (most, c, number) for c in 'ENU' for most, number in (('16 determinants', 0), ('16 determinants and 1', 5))], 12),
+    'misclosures': dict.fromkeys(('%s %s %d: %d' % (kind, c, sign * (100_000 + off), 6 if off > 0 else 0)
+                                  for kind, c, sign, off in itertools.product(('known', 'free', 'height'), 'ENU', (-1, 1), (-1, 0, 1))), 6),
+    'stations': {**{'%d of %d: %d' % (station, count, 0 if 1 <= station <= count else 3): 1 for count in (1, 2, 31, 32) for station in (0, 1, count, count + 1, 32, 33)}, 'far: 3': 18},
+}
+POSITIONS = {
+    **LIMITS_OF_POSITIONS,
+    'open': {0: 140},
+    'enter_baseline': {0: 650},
+    'enter_height': {0: 140},
+    'enter_position': {0: 1200, 2: 95, 3: 75, 4: 450, 5: 220, 6: 110, 25: 190},
+    'record': {0: 470},
+    'strike': {0: 250},
+    'undo': {0: 330},
+    'undone at once, restored': {'nothing': 20, 'position': 310},
+    'unknowns': {0: 950, 25: 1500},
+    'in a place': {0: 470, 3: 25, 4: 430, 5: 210, 6: 100},
+    'in the journal': {0: 470, 3: 25, 4: 430, 5: 210, 6: 100},
+    'what refuses': dict.fromkeys((' '.join(numbers) for k in range(1, 7) for numbers in itertools.combinations(('25', '2', '3', '4', '5', '6'), k)), 6),
+    'check': {11: 450, 14: 95},
+    'a position for the first untied unknown': {
+        'its own station, E: tied': 130, 'its own station, U: tied': 40, 'another station, E: tied': 15, 'another station, U: tied': 15, 'another station, E: not tied': 35,
+        'another station, U: not tied': 7},
+    'sheets by their ties': {**ties(65), 'no station held': 42, 'a position at every station': 12},
+    'check_sheet': {0: 250},
+    'positions on sheets': {'known': 330, 'free': 1400, 'height': 400},
+    'their local verdicts': {'PASS': 4_500, 'FAIL': 1_300, 'LOOSE': 500},
+    'verdicts that another variance would change': {'none': 800, 'M_ss twice': 1_000, 'that of a baseline': 3_800},
+    'one position more': {'known': 5, 'free': 26, 'height': 9},
 }
 
-# tests/proposals/compare.py, by the kind of network, for the 240 networks of the gate
-PROPOSALS = {
-    'networks': {'chain': 24, 'full': 12, 'mixed': 200},
-    'the rounded exact pair accepted': {'chain': 20, 'full': 12, 'mixed': 150},
-    'proposed': {'chain': 20, 'full': 12, 'mixed': 150},
+# tests/host/flips.py, by the part of the book; the antenna heights and the words of positions are among the places and the journal
+FLIPS = {
+    'flips': {'tried': 449_792},
+    'flips that read, judged': {'places': 3000, 'journal': 2900, 'antenna heights': 700, 'another word of a position': 1500},
+    'refused flips, judged': {
+        'stations': 600, 'places': 900, 'journal': 7000, 'normals': 600, 'antenna heights': 700, 'kind of a position': 100, 'to of a position': 100, 'another word of a position': 1000},
 }
 
 

@@ -62,14 +62,16 @@ class Pair:
 class Distances(Comparison):
     # ---- networks
     def random_network(self):
-        low, high = self.rng.choice([(1, 9), (1, 9), (10, 24), (25, 48)])
-        model = Book(self.arguments.tied_stations(low, high))
-        for place, r in enumerate(self.arguments.tied_records(model.net), 1):
+        low, high = self.rng.choice([(4, 9), (4, 9), (10, 24), (25, 48)])
+        rows, records = self.arguments.tied_network(low, high)
+        model = Book(rows)
+        for place, r in enumerate(records, 1):
             model.put(place, r)
         return model
 
     def adjusted_network(self, wanted):
-        """A network whose exact corrections put station k at the coordinates of wanted[k - 1] = (kind, coordinates), each by one record from station 1, which is known."""
+        """A network whose exact corrections put station k at the coordinates of wanted[k - 1] = (kind, coordinates), each by one record from station 1, which is known, or by a
+        position."""
         r = self.rng
         rows, start = [], wanted[0][1]
         for kind, at in wanted:
@@ -78,7 +80,9 @@ class Distances(Comparison):
         model = Book(rows)
         for number, (kind, at) in enumerate(wanted, 1):
             observed = tuple(b - a for a, b in zip(start, at))
-            if kind == survey.FREE:
+            if kind != survey.KNOWN and r.random() < 0.3:
+                model.put(number, survey.Position(number, tuple(at), self.weights()))
+            elif kind == survey.FREE:
                 model.put(number, survey.Baseline(1, number, observed, self.weights()))
             elif kind == survey.HEIGHT:
                 model.put(number, survey.Level(1, number, observed[2], r.randint(50, 9_000)))
@@ -148,7 +152,7 @@ class Distances(Comparison):
         loose = Book(model.rows)
         left_out = r.choice(sorted(number for number, _ in model.net.index))
         for place, record in model.records.items():
-            if left_out not in (record.start, record.end):
+            if left_out not in (s for s, _ in record.ends):
                 loose.put(place, record)
         yield loose, *lent
         yield model, packed(changed(x, lambda v: r.choice([100_001, -100_001, 2 ** 62, -2 ** 63]))), lent[1]
@@ -253,6 +257,7 @@ class Distances(Comparison):
 
     def network(self, model, distances=()):
         """The distances given and random ones with the exact pair of a network; such as are refused, with it and with pairs that the check refuses."""
+        self.note_ties('networks by their ties', model)
         x, m = self.arguments.exact(model)
         exact = Pair(self, model, packed(x), packed(m))
         self.answered(exact, distances)

@@ -6,7 +6,7 @@ import struct
 from layout import BYTES, PLACES, Book, record_words
 import survey
 
-EDITS = ('enter_baseline', 'enter_height', 'strike', 'undo')
+EDITS = ('enter_baseline', 'enter_height', 'enter_position', 'strike', 'undo')
 CHECKS = ('check', 'check_sheet')
 READINGS = ('unknowns', 'sheet_bytes', 'stations', 'record')
 ON_BOOKS = EDITS + CHECKS + ('check_distance', 'propose') + READINGS
@@ -46,6 +46,8 @@ def record_given(kind, numbers):
     """The record of a call's numbers after the place; None for a strike."""
     if kind == 'baseline':
         return survey.Baseline(numbers[0], numbers[1], tuple(numbers[2:5]), tuple(numbers[5:11]), tuple(numbers[11:]))
+    if kind == 'position':
+        return survey.Position(numbers[0], tuple(numbers[1:4]), tuple(numbers[4:]))
     return survey.Level(*numbers) if kind == 'height' else None
 
 
@@ -53,6 +55,8 @@ def entering(place, r):
     """(name, numbers) of the call that enters a record"""
     if isinstance(r, survey.Baseline):
         return 'enter_baseline', [place, r.start, r.end, *r.observed, *r.weights, *r.heights]
+    if isinstance(r, survey.Position):
+        return 'enter_position', [place, r.station, *r.observed, *r.weights]
     return 'enter_height', [place, r.start, r.end, r.up, r.single]
 
 

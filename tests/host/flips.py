@@ -1,6 +1,6 @@
 """Every single-bit flip of one full book, through tests/host/flips.c: 25, or a book by the rules as layout.judge reads them. Each flip that is not refused is judged, and a
-sample of those that are. All flips count as one test, which fails too where it meets less than coverage.py asks; the line before the last says how many were tried. Prints
-'N passed, M failed' last.
+sample of those that are, all flips of a position at a place and of one in the journal among them. All flips count as one test, which fails too where it meets less than coverage.py
+asks; the line before the last says how many were tried. Prints 'N passed, M failed' last.
 
     python3 tests/host/flips.py FLIPS FOLDER
 """
@@ -8,19 +8,20 @@ import functools
 import multiprocessing
 import os
 import random
+import struct
 import subprocess
 import sys
 
+from arguments import RECORDS, Arguments
 from coverage import FLIPS, Coverage
-from layout import BYTES, HEIGHTS_AT, MATRIX_AT, NEXT_AT, PLACES_AT, SLOTS_AT, Book, judge
-import survey
+from layout import BYTES, HEIGHTS_AT, MATRIX_AT, NEXT_AT, PLACES_AT, SLOTS_AT, TO_AT, WORDS, Book, judge
 
 PARTS = {'stations': (0, PLACES_AT), 'places': (PLACES_AT, NEXT_AT), 'journal': (NEXT_AT, MATRIX_AT), 'normals': (MATRIX_AT, BYTES // 8)}      # words of each
 STEPS = {'stations': 13, 'places': 241, 'journal': 7, 'normals': 241}      # every so many bits of a part are judged; most flips that read are in the journal
 
 
 def full_book():
-    """32 stations, 48 unknowns, 256 records of both kinds, and a journal that has gone round."""
+    """32 stations, 48 unknowns, 256 records of all kinds, and a journal that has gone round."""
     rng = random.Random(7)
     rows = [(1 if k < 12 else 2 if k < 26 else 3, *(rng.randint(-400_000, 400_000) for _ in range(3))) for k in range(32)]
     rows = [(k if k != 2 or i < 26 else 3, *v) for i, (k, *v) in enumerate(rows)]
@@ -28,18 +29,11 @@ def full_book():
     while book.net.n > 48 or book.net.n < 48:
         rows[rng.randrange(32)] = (rng.choice([1, 2, 3]), *(rng.randint(-400_000, 400_000) for _ in range(3)))
         book = Book(rows)
+    arguments = Arguments(rng)
     for place in list(range(1, 257)) + list(range(1, 257, 5)):
-        while True:
-            start, end = rng.sample(range(1, 33), 2)
-            d = [book.net.at(end).coordinate(c) - book.net.at(start).coordinate(c) + rng.randint(-500, 500) for c in range(3)]
-            if place % 3:
-                heights = tuple(rng.choice([0, rng.randint(0, survey.MOST_HEIGHT_ABOVE_MARK)]) for _ in range(2))
-                d[2] += heights[1] - heights[0]
-                r = survey.Baseline(start, end, tuple(d), (rng.randint(50, 900), rng.randint(-9, 9), rng.randint(-9, 9), rng.randint(50, 900), rng.randint(-9, 9), rng.randint(50, 900)), heights)
-            else:
-                r = survey.Level(start, end, d[2], rng.randint(1, 10_000))
-            if book.edit('enter', place, r) == 0:
-                break
+        kind = ('height', 'baseline', 'baseline', 'position', 'height', 'baseline')[place % 6]
+        refused = book.edit('enter', place, arguments.by_the_rules(book.net, kind, *rng.sample(range(1, 33), 2), 500))
+        assert not refused
     return book
 
 
@@ -54,16 +48,36 @@ def part_of(bit):
     return next(part for part, (start, end) in PARTS.items() if 64 * start <= bit < 64 * end)
 
 
-def is_height(bit):
-    """Whether it is one of a record's two words for antenna heights, at a place or in the journal."""
+def in_record(bit):
+    """(the first word of the record that the bit is in, at a place or in the journal, and which word of it the bit is in); None where it is in none"""
     word = bit // 64
     if PLACES_AT <= word < NEXT_AT:
-        return (word - PLACES_AT) % 14 >= HEIGHTS_AT
-    return SLOTS_AT <= word < MATRIX_AT and (word - SLOTS_AT) % 15 > HEIGHTS_AT
+        at = (word - PLACES_AT) % 14
+    elif SLOTS_AT <= word < MATRIX_AT and (word - SLOTS_AT) % 15:
+        at = (word - SLOTS_AT) % 15 - 1
+    else:
+        return None
+    return word - at, at
 
 
-def sample():
-    return {bit for part, (start, end) in PARTS.items() for bit in range(64 * start, 64 * end, STEPS[part])}
+def names_of(words, bit):
+    """What the bit is part of."""
+    names = [part_of(bit)]
+    start, at = in_record(bit) or (0, None)
+    if at is not None and at >= HEIGHTS_AT:
+        names.append('antenna heights')
+    if at is not None and words[start] == RECORDS['a position']:
+        names.append({0: 'kind of a position', TO_AT: 'to of a position'}.get(at, 'another word of a position'))
+    return names
+
+
+def sample(words):
+    """Every so many bits of each part, and all of the first position in the places and in the journal."""
+    bits = {bit for part, (start, end) in PARTS.items() for bit in range(64 * start, 64 * end, STEPS[part])}
+    for starts in (range(PLACES_AT, NEXT_AT, 14), range(SLOTS_AT + 1, MATRIX_AT, 15)):
+        first = next(at for at in starts if words[at] == RECORDS['a position'])
+        bits |= set(range(64 * first, 64 * (first + 14)))
+    return bits
 
 
 def tried(flips, path):
@@ -84,16 +98,15 @@ def main():
     with open(path, 'wb') as f:
         f.write(data)
     count, read, wrong = tried(flips, path)
-    bits = sorted(read | sample()) if not wrong else []
+    words = struct.unpack('<%dq' % WORDS, data)
+    bits = sorted(read | sample(words)) if not wrong else []
     with multiprocessing.Pool() as pool:
         fits = pool.map(functools.partial(fits_flipped, data), bits, chunksize=64)
     coverage = Coverage()
     coverage.note('flips', 'tried', count)
     for bit, fit in zip(bits, fits):
-        what = 'flips that read, judged' if bit in read else 'refused flips, judged'
-        coverage.note(what, part_of(bit))
-        if is_height(bit):
-            coverage.note(what, 'antenna heights')
+        for name in names_of(words, bit):
+            coverage.note('flips that read, judged' if bit in read else 'refused flips, judged', name)
         if fit != (bit in read):
             wrong.append('bit %d %s' % (bit, 'is refused, and holds a book' if fit else 'is not refused, and holds no book'))
     wrong += coverage.shortfalls(FLIPS)

@@ -9,10 +9,10 @@ from dataclasses import replace
 import struct
 import sys
 
-from comparison import Comparison
+from comparison import Edits
 from coverage import HEIGHTS
-from expected import entering, outcome, packed, words_in
-from layout import BYTES, HEIGHTS_AT, MATRIX_AT, SLOTS, SLOTS_AT, Book, record_of
+from expected import packed, words_in
+from layout import HEIGHTS_AT, MATRIX_AT, SLOTS, SLOTS_AT, record_of
 from library import Buffer, Header, Library
 import antennas
 from antennas import MOST, NEAR
@@ -28,7 +28,7 @@ UPS = (-END, END, -END, END, 0, 70_000)    # U of the stations
 LAST = 256                                 # the place that the baselines are entered at; the network is at the first ones
 
 
-class Heights(Comparison):
+class Heights(Edits):
     # ---- baselines
     def baseline(self, net, ends, up, heights):
         """From the first end to the second, near the provisional differences in E and N."""
@@ -60,29 +60,7 @@ class Heights(Comparison):
         """An observed U difference far out of range, with heights by the rules."""
         return self.baseline(net, self.rng.sample(range(1, len(UPS) + 1), 2), self.rng.choice(FAR), self.rng.choice([(0, MOST), (MOST, 0), (1, 0), (0, 1)]))
 
-    # ---- calls
-    def edit(self, book, model, name, numbers):
-        got = self.call(name, book, *numbers)
-        result, front = outcome(name, model, numbers)
-        self.compare(name, got, result, [front + got[1][0][len(front):]])
-        return result
-
-    def enter(self, book, model, r):
-        """Enters the baseline and reads it back; most are undone at once, which leaves every byte as it was, but where the history was full."""
-        before, full = book.get(), model.count == SLOTS
-        self.note(model.net, r)
-        if self.edit(book, model, *entering(LAST, r)) != 0:
-            return
-        read = Buffer(bytes(112))
-        got = self.call('record', book, LAST, read)
-        result, words = outcome('record', model, [LAST, bytes(112)])
-        self.compare('record', got, result, [got[1][0], words])
-        if self.rng.random() < 0.7:
-            self.edit(book, model, 'undo', [])
-            if not full:
-                self.same('the book after an enter and its undo', book.get(), before)
-                self.coverage.note('undone at once, restored', kinds.of_place(model.records.get(LAST)))
-
+    # ---- what was met
     def note(self, net, r):
         what = kinds.of_heights(net, r)
         if what is None:
@@ -112,31 +90,26 @@ class Heights(Comparison):
                     note('%s beside %d' % (limits, limit), 'observed %+d, reduced %+d' % tuple(off))
 
     # ---- books
-    def opened(self):
-        """(the library's bytes, the model) of a new book"""
+    def stations(self):
         r = self.rng
         held_or_not = [survey.KNOWN, *(r.choice([survey.KNOWN, survey.FREE, survey.HEIGHT]) for _ in UPS[2:]), survey.FREE]
-        return self.opened_on([(kind, r.randint(-300_000, 300_000), r.randint(-300_000, 300_000), up) for kind, up in zip(held_or_not, UPS)])
-
-    def opened_on(self, rows):
-        book = Buffer(bytes(BYTES))
-        self.same('open', self.call('open', Buffer(packed([v for row in rows for v in row])), book)[0], 0)
-        return book, Book(rows)
+        return [(kind, r.randint(-300_000, 300_000), r.randint(-300_000, 300_000), up) for kind, up in zip(held_or_not, UPS)]
 
     def book(self):
         """A network that ties every station to the first, then the baselines, each over what the one before it left at the last place; and the book from mark to mark."""
-        book, model = self.opened()
+        book, model = self.opened(self.stations())
         for number in range(2, len(UPS) + 1):
             reduced = UPS[number - 1] - UPS[0] - self.rng.randint(0, 300)
             observed = reduced - self.rng.randint(0, MOST)
             r = self.baseline(model.net, (1, number), observed, antennas.leading(self.rng, observed, reduced))
-            self.same('a record of a network', self.edit(book, model, *entering(number - 1, r)), 0)
+            self.put(book, model, number - 1, r)
         asked = [self.with_heights(model.net, (a, b)) for a in NEAR + FAR for b in NEAR + FAR]
         asked += [make(model.net) for make in (self.at_differences, self.at_misclosures) for _ in range(AT_LIMITS)]
         asked += [self.far_difference(model.net) for _ in range(6)]
         self.rng.shuffle(asked)
         for r in asked:
-            self.enter(book, model, r)
+            self.note(model.net, r)
+            self.enter(book, model, LAST, r)
         self.from_mark_to_mark(book, model)
         self.in_the_journal(book.get(), model.net)
 
@@ -157,10 +130,10 @@ class Heights(Comparison):
 
     def from_mark_to_mark(self, book, model):
         """The same records with their reduced differences and no heights: the same N, u and sheet, by the library alone."""
-        other, marks = self.opened_on(model.rows)
+        other, marks = self.opened(model.rows)
         for place, r in sorted(model.records.items()):
             reduced = replace(r, observed=r.reduced, heights=(0, 0))
-            self.same('a record from mark to mark', self.edit(other, marks, *entering(place, reduced)), 0)
+            self.put(other, marks, place, reduced)
             self.coverage.note('from mark to mark', kinds.of_place(r))
         self.same('N and u from mark to mark', other.get()[8 * MATRIX_AT:], book.get()[8 * MATRIX_AT:])
         x, m = map(packed, self.arguments.exact(model))

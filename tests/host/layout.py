@@ -7,11 +7,11 @@ import sys
 sys.path.insert(0, os.path.join(os.path.dirname(os.path.abspath(__file__)), '..', 'reference'))
 import survey  # noqa: E402
 
-LAYOUT = 2                              # the book's first word
+LAYOUT = 3                              # the book's first word
 WORDS = 7028
 BYTES = 8 * WORDS
 PLACES, SLOTS = 256, 64
-HEIGHTS_AT = 12                         # of the 14 words of a record
+TO_AT, HEIGHTS_AT = 2, 12               # of the 14 words of a record
 STATIONS_AT, PLACES_AT, NEXT_AT, COUNT_AT, SLOTS_AT, MATRIX_AT, RIGHT_AT = 2, 130, 3714, 3715, 3716, 4676, 6980
 
 
@@ -20,6 +20,8 @@ def record_words(r):
         return [0] * 14
     if isinstance(r, survey.Baseline):
         return [1, r.start, r.end, *r.observed, *r.weights, *r.heights]
+    if isinstance(r, survey.Position):
+        return [4, r.station, 0, *r.observed, *r.weights, 0, 0]
     return [2, r.start, r.end, 0, 0, r.up, 0, 0, 0, 0, 0, r.single, 0, 0]
 
 
@@ -30,6 +32,8 @@ def record_of(w):
         r = survey.Baseline(w[1], w[2], tuple(w[3:6]), tuple(w[6:12]), tuple(w[12:]))
     elif w[0] == 2:
         r = survey.Level(w[1], w[2], w[5], w[11])
+    elif w[0] == 4:
+        r = survey.Position(w[1], tuple(w[3:6]), tuple(w[6:12]))
     return r if record_words(r) == list(w) else 'bad'
 
 
