@@ -2,6 +2,8 @@
 
     inputs.py SEED        writes that input to standard output
 """
+from dataclasses import replace
+from itertools import permutations
 import os
 import random
 import sys
@@ -9,13 +11,14 @@ import sys
 sys.path.insert(0, os.path.join(os.path.dirname(os.path.abspath(__file__)), '..', 'reference'))
 import antennas
 import lines
+import observed_positions
 import solve
 import survey
 
 LETTER = {survey.KNOWN: b'K', survey.FREE: b'F', survey.HEIGHT: b'V'}
 WORD = [2 ** 63 - 1, 2 ** 63, -2 ** 63, -2 ** 63 - 1, 2 ** 64, 10 ** 19, 10 ** 30]      # 64 bits from both sides
 LINE = 50_000                                                                            # bytes of the longest readable line
-END = 500_000_000                                                                        # of the range of coordinates
+END = survey.MOST_COORDINATE                                                             # of the range of coordinates
 
 
 def joined(*fields):
@@ -28,9 +31,11 @@ def station_line(number, row):
 
 def record_line(place, r, zeros=False):
     """The line of a record; antenna heights that are both 0 stand there only where they are asked for."""
-    if isinstance(r, survey.Baseline):
-        return joined(b'B', place, r.start, r.end, *r.observed, *r.weights, *(r.heights if zeros or any(r.heights) else ()))
-    return joined(b'H', place, r.start, r.end, r.up, r.single)
+    if isinstance(r, survey.Level):
+        return joined(b'H', place, r.start, r.end, r.up, r.single)
+    if isinstance(r, survey.Position):
+        return joined(b'P', place, r.station, *r.observed, *r.weights)
+    return joined(b'B', place, r.start, r.end, *r.observed, *r.weights, *(r.heights if zeros or any(r.heights) else ()))
 
 
 def weights(rng, scale):
@@ -42,54 +47,69 @@ def weights(rng, scale):
 
 
 class Survey:
-    """Stations at random, and records between them."""
+    """Stations at random, and records at them and between them."""
 
-    def __init__(self, rng, count, scale, noise=None):
-        """Without a noise, as large as the weights say: a standard deviation is 1,000 over the root of the weight."""
+    def __init__(self, rng, count, scale, noise=None, held=True):
+        """Without a noise, as large as the weights say: a standard deviation is 1,000 over the root of the weight. The first station is known; without `held` none is."""
         self.rng, self.scale, self.noise = rng, scale, noise or int(2_000 / (scale / 2) ** 0.5)
         self.latest = {}            # records by the place that they were last given
         far = rng.choice((1_000, 10_000_000, 499_000_000))
-        self.rows = [(survey.KNOWN, *[rng.randint(-far, far) for _ in range(3)])]
-        for _ in range(count - 1):
-            kind = rng.choice((survey.KNOWN, survey.FREE, survey.FREE, survey.HEIGHT, survey.HEIGHT))
-            self.rows.append((kind, *[rng.randint(-far, far) for _ in range(3)]))
+        first = survey.KNOWN if held else survey.FREE
+        others = (first, survey.FREE, survey.FREE, survey.HEIGHT, survey.HEIGHT)
+        self.rows = [(first if k == 0 else rng.choice(others), *[rng.randint(-far, far) for _ in range(3)]) for k in range(count)]
 
     def lines(self):
         return [station_line(k, row) for k, row in enumerate(self.rows, 1)]
 
+    def numbers(self):
+        return range(1, len(self.rows) + 1)
+
+    def seen(self, *from_to):
+        """Values near those that the provisional coordinates give, of one station or from one to another."""
+        *start, end = (self.rows[number - 1] for number in from_to)
+        return tuple(end[c] - sum(row[c] for row in start) + self.rng.randint(-self.noise, self.noise) for c in (1, 2, 3))
+
     def between(self, start, end):
-        """A record from one station to another, near the provisional difference."""
+        """A record from one station to another."""
         rng = self.rng
-        a, b = self.rows[start - 1], self.rows[end - 1]
-        seen = tuple(b[c] - a[c] + rng.randint(-self.noise, self.noise) for c in (1, 2, 3))
+        east, north, up = self.seen(start, end)
         if rng.random() < 0.45:
-            return survey.Level(start, end, seen[2], rng.randint(1, self.scale))
+            return survey.Level(start, end, up, rng.randint(1, self.scale))
         heights = antennas.heights(rng)
-        return survey.Baseline(start, end, (*seen[:2], seen[2] - heights[0] + heights[1]), weights(rng, self.scale), heights)
+        return survey.Baseline(start, end, (east, north, up - heights[0] + heights[1]), weights(rng, self.scale), heights)
+
+    def position(self, station):
+        return survey.Position(station, self.seen(station), weights(self.rng, self.scale))
 
     def record(self):
-        return self.between(*self.rng.sample(range(1, len(self.rows) + 1), 2))
+        """One of any kind; where there is no second station, a position."""
+        rng = self.rng
+        if len(self.rows) == 1 or rng.random() < 0.25:
+            return self.position(rng.choice(self.numbers()))
+        return self.between(*rng.sample(self.numbers(), 2))
+
+    def tie(self, station):
+        """A position, or a record from an earlier station; one that acts in E and N where these are unknown."""
+        rng = self.rng
+        while True:
+            r = self.position(station) if station == 1 or rng.random() < 0.15 else self.between(rng.randrange(1, station), station)
+            if self.rows[station - 1][0] != survey.FREE or len(r.components) == 3:
+                return r
 
     def chained(self):
-        """Baselines that join every station to an earlier one, then records at random."""
-        rng = self.rng
-        records = []
-        for end in range(2, len(self.rows) + 1):
-            start = rng.randrange(1, end)
-            r = self.between(start, end)
-            while isinstance(r, survey.Level) and self.rows[end - 1][0] == survey.FREE:
-                r = self.between(start, end)
-            records.append(r)
-        return records + [self.record() for _ in range(rng.randint(0, 2 * len(self.rows)))]
+        """Records that tie every station, then records at random."""
+        ties = [self.tie(number) for number in self.numbers() if number > 1 or self.rows[0][0] != survey.KNOWN]
+        return ties + [self.record() for _ in range(self.rng.randint(0, 2 * len(self.rows)))]
 
 
 def damaged(rng, line):
     """The line with one mistake."""
     fields = line.split(b' ')
     k = rng.randrange(len(fields))
-    kind = rng.randrange(17)
+    kind = rng.randrange(18)
     if kind == 0:
-        fields[k] = b'%d' % rng.choice(WORD + [0, -1, 1, 33, 256, 257, 10_000, 10_001, 100_000, 100_001, 300_000, 300_001, 10 ** 9, 10 ** 9 + 1, -10 ** 9, -10 ** 9 - 1])
+        fields[k] = b'%d' % rng.choice(WORD + [0, -1, 1, 33, 256, 257, 10_000, 10_001, 100_000, 100_001, 300_000, 300_001, END, END + 1, -END, -END - 1,
+                                               10 ** 9, 10 ** 9 + 1, -10 ** 9, -10 ** 9 - 1])
     elif kind == 1:
         fields[k] = rng.choice((b'', b'-', b'+1', b'--1', b'1-', b'1.0', b'1e3', b'0x10', b'\xd9\xa1', b'1\x00', b'a', b'S', b'\xff', b'1,000', b'-+1', b'- 1'))
     elif kind == 2:
@@ -99,7 +119,7 @@ def damaged(rng, line):
     elif kind == 4:
         del fields[k]
     elif kind == 5:
-        fields.insert(k, rng.choice((b'0', b'1', b'', b'K', b'H')))
+        fields.insert(k, rng.choice((b'0', b'1', b'', b'K', b'H', b'P')))
     elif kind == 6:
         fields.append(rng.choice((b'', b'0', b'\r', b'7')))
     elif kind == 7:
@@ -107,7 +127,7 @@ def damaged(rng, line):
     elif kind == 8 and len(fields) > 1:
         return b'\t'.join((b' '.join(fields[:k]), b' '.join(fields[k:])))
     elif kind == 9:
-        fields[0] = rng.choice((b'h', b'R', b'RH', b'Q', b'', b'S', b's', b'D', b'U', b'X', b'M', b'HB', b'\x00', b'B', b'H'))
+        fields[0] = rng.choice((b'h', b'R', b'RH', b'Q', b'', b'S', b's', b'D', b'U', b'X', b'M', b'HB', b'\x00', b'B', b'H', b'P', b'p', b'RP'))
     elif kind == 10:
         return b' ' + line
     elif kind == 11:
@@ -126,6 +146,8 @@ def damaged(rng, line):
         if value.lstrip(b'-').isdigit():
             fields[k] = b'%d' % (int(value) + rng.choice((-1, 1, 100_000, -100_000, 100_001)))
     elif kind == 16:
+        fields = fields[:-1] if rng.random() < 0.5 else fields + [b'100']
+    elif kind == 17:
         fields[-1 - rng.randrange(min(2, len(fields)))] = b'%d' % rng.choice(antennas.NEAR)      # of a B line, an antenna height where it has them
     return b' '.join(fields)
 
@@ -137,12 +159,12 @@ def typed_line(rng, place, r, share):
 
 
 def without_r(data):
-    """The text without the R before an H or a B."""
+    """The text without the R before an H, a B or a P."""
     return b'\n'.join(line[2:] if line[:2] == b'R ' and enters(line[2:]) else line for line in data.split(b'\n'))
 
 
 def with_r(data):
-    """The text with R before each H or B line, but for one that would be too long to be read."""
+    """The text with R before each H, B or P line, but for one that would be too long to be read."""
     return b'\n'.join(b'R ' + line if enters(line) and len(line) + 2 <= LINE else line for line in data.split(b'\n'))
 
 
@@ -166,7 +188,7 @@ def line_at_marks(line):
 
 
 def enters(line):
-    return line.split(b' ', 1)[0] in (b'H', b'B')
+    return line.split(b' ', 1)[0] in lines.ENTERS
 
 
 def padded(rng, line, length):
@@ -258,7 +280,7 @@ def solution(rng, text):
 
 def network(rng):
     """A network people would enter, with mistakes among its lines, and a solution."""
-    book = Survey(rng, rng.choice((2, 2, 3, 3, 4, 5, 6)), rng.choice((5, 100, 10_000)), rng.choice((None, None, None, 2_000, 90_000)))
+    book = Survey(rng, rng.choice((2, 2, 3, 3, 4, 5, 6)), rng.choice((5, 100, 10_000)), rng.choice((None, None, None, 2_000, 90_000)), rng.random() < 0.85)
     records = book.chained()
     book.latest = dict(enumerate(records, 1))
     share, r_share = rng.choice((0, 0, 0.05, 0.3)), rng.choice((0, 0, 0.3, 1))
@@ -297,9 +319,9 @@ def history(rng):
             place = rng.randint(1, 5)
             line = b'D %d' % place
             if not filled.get(place) or rng.random() < 0.7:
-                start, end = rng.sample((1, 2, 3), 2)
-                up = book.rows[end - 1][3] - book.rows[start - 1][3] + rng.randint(-500, 500)
-                line = typed_line(rng, place, survey.Level(start, end, up, rng.randint(1, 100)), 0.5)
+                start, end = rng.sample(book.numbers(), 2)
+                height = survey.Level(start, end, book.seen(start, end)[2], rng.randint(1, 100))
+                line = typed_line(rng, place, rng.choice((height, survey.Position(end, book.seen(end), observed_positions.PLAIN))), 0.5)
             undone.append((place, filled.get(place)))
             filled[place] = line[:1] != b'D'
             text.append(line)
@@ -331,7 +353,7 @@ def station_list(rng):
         text.append(station_line(len(text) + 1, row))
     else:
         text.insert(rng.randrange(len(text) + 1), rng.choice((b'', b' ', b'U', b'X', b'M', b'D 1', b'\r', b'S', b'Q', b'S ', b's 1 K 0 0 0')))
-    text += [record_line(k, book.record()) for k in range(1, 4) if len(book.rows) > 1]
+    text += [record_line(k, book.record()) for k in range(1, 4)]
     if rng.random() < 0.3:
         text.append(station_line(len(book.rows) + 1, (survey.FREE, 0, 0, 0)))
     return text + solution(rng, text)
@@ -358,10 +380,10 @@ def broken_bytes(rng):
 
 def tokens(rng):
     """Fields of the language in any order."""
-    words = [b'S', b'H', b'B', b'R', b'D', b'U', b'X', b'M', b'K', b'F', b'V', b'1', b'2', b'0', b'-1', b'100', b'1000', b'-0', b'', b'9223372036854775808']
+    words = [b'S', b'H', b'B', b'P', b'R', b'D', b'U', b'X', b'M', b'K', b'F', b'V', b'1', b'2', b'0', b'-1', b'100', b'1000', b'-0', b'', b'9223372036854775808']
     text = [b'S 1 K 0 0 0', b'S 2 V 0 0 1000', b'S 3 F 0 0 0'][:rng.choice((0, 2, 3, 3))]
     for _ in range(rng.randint(1, 30)):
-        text.append(b' '.join(rng.choice(words) for _ in range(rng.choice((1, 1, 2, 2, 3, 6, 13, 15)))))
+        text.append(b' '.join(rng.choice(words) for _ in range(rng.choice((1, 1, 2, 2, 3, 6, 12, 13, 15)))))
     return text
 
 
@@ -398,9 +420,49 @@ def height_limits(rng):
     return text + solution(rng, text)
 
 
+def position_limits(rng):
+    """Positions whose coordinates, misclosures or weights are at their limits or one from them, at stations in the list or not, over each other and at places of their own."""
+    book = Survey(rng, 4, 100)
+    book.rows = [(row[0], *[rng.choice((-END, END, END - 50, v)) for v in row[1:]]) for row in book.rows]
+    net = survey.Network(survey.Station(*row) for row in book.rows)
+    text = book.lines()
+    for _ in range(rng.choice((4, 8, 16))):
+        r = observed_positions.beside(rng, net, rng.choice(book.numbers()))
+        if rng.random() < 0.15:
+            r = replace(r, station=rng.choice((-1, 0, len(book.rows) + 1, 33, *WORD)))
+        text.append(typed_line(rng, rng.randint(20, 30), r, 0.3))
+        text += [b'U'] * (rng.random() < 0.2)
+    text += [typed_line(rng, k, survey.Position(number, observed_positions.near(rng, net, number), observed_positions.PLAIN), 0.3) for k, number in enumerate(book.numbers(), 1)]
+    return text + solution(rng, text)
+
+
+def levelled(book):
+    """The first station known, height differences from there to all others, a position at one of these, and baselines from it: where a station is free, E and N are tied by the position
+    alone, U is not."""
+    book.rows[0] = (survey.KNOWN, *book.rows[0][1:])
+    _, *others = book.numbers()
+    at = book.rng.choice(others)
+    heights = [survey.Level(1, number, book.seen(1, number)[2], book.rng.randint(1, book.scale)) for number in others]
+    return heights + [book.position(at)] + [survey.Baseline(at, number, book.seen(at, number), weights(book.rng, book.scale)) for number in others if number != at]
+
+
+def marks(rng):
+    """Networks that positions tie: at every station, at one, or in E and N alone. In some a position is struck, or another record entered over it; in some of these it comes back."""
+    book = Survey(rng, rng.choice((2, 3, 4, 5)), rng.choice((100, 10_000)), held=False)
+    kind = rng.randrange(3)
+    records = levelled(book) if kind == 0 else book.chained() if kind == 1 else [book.position(k) for k in book.numbers()] + [book.record() for _ in range(rng.randrange(4))]
+    rng.shuffle(records)
+    text = book.lines() + [typed_line(rng, k, r, 0.3) for k, r in enumerate(records, 1)]
+    place = rng.choice([k for k, r in enumerate(records, 1) if isinstance(r, survey.Position)])
+    if rng.random() < 0.6:
+        text.append(rng.choice((b'D %d' % place, typed_line(rng, place, book.between(*rng.sample(book.numbers(), 2)), 0.3))))
+        text += [rng.choice((b'U', typed_line(rng, place, records[place - 1], 0.3)))] * (rng.random() < 0.3)
+    return text + (solution(rng, text) if rng.random() < 0.8 else [])
+
+
 def proposed(rng):
     """No X and no M: the engine proposes."""
-    book = Survey(rng, rng.choice((2, 3, 4, 5, 6, 8)), rng.choice((3, 100, 10_000)), rng.choice((None, None, 1, 2_000, 60_000)))
+    book = Survey(rng, rng.choice((2, 3, 4, 5, 6, 8)), rng.choice((3, 100, 10_000)), rng.choice((None, None, 1, 2_000, 60_000)), rng.random() < 0.85)
     records = book.chained() if rng.random() < 0.9 else [book.record()]
     text = book.lines() + with_damage(rng, [record_line(k, r) for k, r in enumerate(records, 1)], rng.choice((0, 0, 0.1)))
     if rng.random() < 0.2:
@@ -413,16 +475,18 @@ def full_size(rng):
     book = Survey(rng, 32, 10_000, 2_000)
     kinds = [survey.KNOWN] * 8 + [survey.FREE] * 12 + [survey.HEIGHT] * 12
     book.rows = [(kind, *row[1:]) for kind, row in zip(kinds, book.rows)]
+    net = survey.Network(survey.Station(*row) for row in book.rows)
     records = {}
     while len(records) < 256:
         r = book.record()
-        if not isinstance(r, survey.Baseline) or survey.record_number(survey.Network(survey.Station(*row) for row in book.rows), r) == 0:
+        if survey.record_number(net, r) == 0:
             records[len(records) + 1] = r
     text = book.lines() + [record_line(k, r) for k, r in records.items()]
     return text + (solution(rng, text) if rng.random() < 0.7 else [])
 
 
-KINDS = [(network, 34), (editing, 14), (history, 4), (station_list, 12), (broken_bytes, 16), (tokens, 8), (long_lines, 2), (proposed, 10), (height_limits, 4)]
+KINDS = [(network, 34), (editing, 14), (history, 4), (station_list, 12), (broken_bytes, 16), (tokens, 8), (long_lines, 2), (proposed, 10), (height_limits, 6),
+         (position_limits, 4), (marks, 8)]
 WHEEL = [kind for kind, share in KINDS for _ in range(share)]
 FULL_EVERY = 500
 
@@ -456,6 +520,23 @@ ABOUT_THE_LIMIT = [(10 ** 9, 1, 0), (10 ** 9, 0, 1), (10 ** 9 - 299_999, 300_000
 def baselines(*rows):
     """Baselines from station 1 to 2, each at a place of its own, by their observed U difference and antenna heights."""
     return b''.join(b'B %d 1 2 0 0 %d 100 0 0 100 0 100 %d %d\n' % (place, *row) for place, row in enumerate(rows, 1))
+
+
+FREE_MARKS = b'S 1 F 0 0 100000\nS 2 F 5000 -5000 101000\n'
+FREE_BASELINE = b'B 9 1 2 5010 -5020 1030 100 20 -30 90 10 80\n'
+SIX_ZEROS = b'X 0 0 0 0 0 0\nM' + b' 0' * 36 + b'\n'
+AT_THE_ENDS = (END, -END, END)                                   # coordinates of a station
+WEIGHTS = [observed_positions.exchanged(w, axes) for w in observed_positions.WEIGHTS for axes in permutations(range(3))]
+
+
+def position_lines(*rows, weights=(100, 20, -30, 90, 10, 80), first=1):
+    """Positions by their station and coordinates, each at a place of its own."""
+    return b''.join(record_line(place, survey.Position(station, tuple(observed), weights)) + b'\n' for place, (station, *observed) in enumerate(rows, first))
+
+
+def each_in_turn(values, *others):
+    """The three values with one of them, each in turn, put to each of the others; these by the sign of the value."""
+    return [tuple((-1 if v < 0 else 1) * other if k == c else v for k, v in enumerate(values)) for c in range(3) for other in others]
 
 
 NAMED = {
@@ -508,6 +589,7 @@ NAMED = {
     'a baseline entered over a height difference': HEAD + PAIR + b'B 2 1 2 300 -200 1010 100 20 -30 90 10 80\n',
     'a baseline entered over a height difference, and undone': HEAD + PAIR + b'B 2 1 2 300 -200 1010 100 20 -30 90 10 80\nU\n' + PAIR_SOLVED,
     'a height difference entered over a baseline': HEAD + b'B 1 1 2 300 -200 1010 100 20 -30 90 10 80\nB 2 1 2 300 -200 1010 100 20 -30 90 10 80\n' + PAIR + PAIR_SOLVED,
+    'a height difference entered over a baseline, and undone': HEAD + b'B 1 1 2 300 -200 1010 100 20 -30 90 10 80\nH 1 1 2 1000 100\nU\n',
     'strikes of empty places': HEAD + b'D 1\n' + PAIR + b'D 3\nD 2\nD 2\nH 2 1 2 1100 100\nD 256\n' + PAIR_SOLVED,
     'undo beyond': HEAD + PAIR + b'U\nU\nU\nU\n',
     '65 edits and 66 undos': HEAD + b'H 1 1 2 1000 100\n' + b'H 1 1 2 1001 100\nR H 1 1 2 1002 100\n' * 32 + b'U\n' * 66,
@@ -542,6 +624,51 @@ NAMED = {
     'U differences about the lower limit': b'S 1 K 0 0 500000000\nS 2 F 0 0 -500000000\n' + baselines(*[(-up, b, a) for up, a, b in ABOUT_THE_LIMIT]),
     'misclosures about their limits': FREE_HEAD + baselines(*[(1000 + sign * observed, max(sign * (reduced - observed), 0), max(sign * (observed - reduced), 0))
                                                               for sign in (-1, 1) for observed in (0, 99_999, 100_000, 100_001) for reduced in (99_999, 100_000, 100_001)]),
+    'a position alone': b'S 1 F 0 0 0\n' + position_lines((1, 5, -5, 10)),
+    'two positions at one station': b'S 1 F 0 0 0\n' + position_lines((1, 5, -5, 10), (1, -30, 20, 900)),
+    'no station held, a position and a baseline': FREE_MARKS + position_lines((2, 5010, -4990, 100970)) + FREE_BASELINE,
+    'no station held, a position at each': FREE_MARKS + position_lines((1, 5, -5, 100010), (2, 5010, -4990, 100970)) + FREE_BASELINE,
+    'no station held, a position at each and nothing between': FREE_MARKS + position_lines((1, 5, -5, 100010), (2, 5010, -4990, 100970)),
+    'no station held, a baseline alone': FREE_MARKS + FREE_BASELINE + SIX_ZEROS,
+    'no station held, a baseline alone, no solution given': FREE_MARKS + FREE_BASELINE,
+    'no station held, a position at the first alone': FREE_MARKS + position_lines((1, 5, -5, 100010)) + SIX_ZEROS,
+    'no station held, a position and a height difference': FREE_MARKS + position_lines((1, 5, -5, 100010)) + b'H 2 1 2 1000 100\n' + SIX_ZEROS,
+    'no station held, the position struck': FREE_MARKS + position_lines((1, 5, -5, 100010)) + FREE_BASELINE + b'D 1\n' + SIX_ZEROS,
+    'no station held, the position struck, and that undone': FREE_MARKS + position_lines((1, 5, -5, 100010)) + FREE_BASELINE + b'D 1\nU\n',
+    'no station held, the position undone': FREE_MARKS + FREE_BASELINE + position_lines((1, 5, -5, 100010)) + b'U\n' + SIX_ZEROS,
+    'E and N by a position, U also by levelling': FREE_HEAD + b'H 1 1 2 1000 100\n' + position_lines((2, 5, -5, 101010), first=2),
+    'E and N by a baseline to a station with a position': FREE_HEAD + b'S 3 F 0 0 0\nH 1 1 2 1000 100\nB 2 2 3 0 0 -101000 100 0 0 100 0 100\n' + position_lines((3, 5, -5, 10), first=3),
+    'positions at stations of each kind': SECOND_HEIGHT + b'S 4 F 0 0 0\n' + position_lines((1, 9, 9, 100009), (2, 300, -200, 101010), (3, 690, -390, 100290), (4, 1, 2, 3)),
+    'a position at a known station': SECOND_KNOWN + PAIR + position_lines((3, 710, -380, 100900), first=3) + PAIR_SOLVED,
+    'a position at a known station, as far off as may be': SECOND_KNOWN + PAIR + position_lines((3, 100_700, -100_400, 200_300), first=3) + PAIR_SOLVED,
+    'a position at a known station alone': SECOND_KNOWN + position_lines((3, 710, -380, 100900)) + b'X 0\nM 0\n',
+    'D is 0 beside a position at a known station': SECOND_KNOWN + b'H 1 1 2 1000 100\n' + position_lines((3, 710, -380, 100900), first=2),
+    'a position at a height station': HEAD + position_lines((2, 300, -200, 101010)),
+    'a position at a height station beside height differences': HEAD + PAIR + position_lines((2, 300, -200, 101010), first=3),
+    'a position at the known end of a baseline': FREE_HEAD + b'B 1 1 2 5 -5 1000 100 0 0 100 0 100\n' + position_lines((1, 700, 0, 100000), first=2),
+    'P lines of 10 to 14 numbers': FREE_HEAD + b''.join(b'%sP %d 2 5 -5 101000 100 0 0 100 0%s\n' % (r, count, b' 100' * (count - 10)) for r in (b'', b'R ') for count in range(10, 15)),
+    'P in other words': FREE_HEAD + b''.join(b'%s 1 2 5 -5 101000 100 0 0 100 0 100\n' % word for word in (b'p', b'RP', b'r P', b'R  P', b'R p', b'P R', b'R R P', b'R P', b'PP')),
+    'P and nothing else': FREE_HEAD + b'P\nR P\nP \nR P 1\n' + position_lines((2, 5, -5, 101010)),
+    'P opens': FREE_MARKS + position_lines((1, 5, -5, 100010)) + b'S 3 F 0 0 0\n' + position_lines((2, 5010, -4990, 100970), first=2),
+    'R P opens': FREE_MARKS + b'R ' + position_lines((1, 5, -5, 100010)) + b'S 3 F 0 0 0\nR ' + position_lines((2, 5010, -4990, 100970), first=2),
+    'P first of all': position_lines((1, 5, -5, 100010)) + FREE_MARKS,
+    'positions at stations that are not': FREE_HEAD + position_lines(*((s, 5, -5, 101000) for s in (-1, 0, 1, 2, 3, 32, 33, *WORD))),
+    'positions at places that are not': FREE_HEAD + b''.join(position_lines((2, 5, -5, 101000), first=place) for place in (-1, 0, 1, 256, 257, *WORD)),
+    'coordinates of positions about their limits': b'S 1 F %d %d %d\n' % AT_THE_ENDS + position_lines(*((1, *row) for row in each_in_turn(AT_THE_ENDS, END - 1, END, END + 1))),
+    'misclosures of positions about their limits': b'S 1 F 0 0 0\n' + position_lines(*((1, *row) for row in each_in_turn((1, 1, 1), 99_999, 100_000, 100_001, -99_999, -100_000, -100_001))),
+    'weights of positions about their limits': b'S 1 F 0 0 0\n' + b''.join(position_lines((1, 5, -5, 10), weights=w, first=k) for k, w in enumerate(WEIGHTS, 1)),
+    'coordinates of positions far out of range': b'S 1 F 0 0 0\n' + position_lines(*((1, *row) for row in each_in_turn((1, 1, 1), 10 ** 9, -10 ** 9, *WORD))),
+    'positions with several mistakes': b'S 1 F 0 0 0\n' + b''.join(position_lines((station, east, 0, 0), weights=w, first=place) for place in (0, 1) for station in (1, 2)
+                                                                  for east in (0, 100_001, END + 1) for w in ((1, 0, 0, 1, 0, 1), (1, 1, 0, 1, 0, 1), (0, 0, 0, 1, 0, 1))),
+    'a position entered over a height difference, and undone': HEAD + PAIR + position_lines((2, 300, -200, 101010), first=2) + b'U\n' + PAIR_SOLVED,
+    'a height difference entered over a position': HEAD + position_lines((2, 300, -200, 101010), (2, 0, 0, 101000)) + PAIR + PAIR_SOLVED,
+    'a height difference entered over a position, and undone': HEAD + position_lines((2, 300, -200, 101010)) + b'R H 1 1 2 1000 100\nU\n',
+    'a position entered over a baseline, and undone': FREE_HEAD + b'B 1 1 2 5 -5 980 100 0 0 100 0 100 150000 149980\nR ' + position_lines((2, 9, 9, 101009)) + b'U\n',
+    'a baseline entered over a position, and undone': FREE_HEAD + position_lines((2, 9, 9, 101009)) + b'B 1 1 2 5 -5 980 100 0 0 100 0 100 150000 149980\nU\n',
+    'a position entered over another, over an equal one, and undone': FREE_HEAD + position_lines((2, 9, 9, 101009)) + position_lines((2, 5, 5, 101005)) * 2 + b'U\nU\n',
+    'a refused position leaves the one at its place': FREE_HEAD + position_lines((2, 9, 9, 101009)) + position_lines((2, 9, 9, 201001)) + position_lines((3, 9, 9, 101009)),
+    '256 positions': b''.join(b'S %d F 0 0 0\n' % k for k in range(1, 17)) + position_lines(*((1 + k % 16, k, -k, 7 * k % 256) for k in range(256))),
+    'a position of 50,000 bytes, and one of 50,001': FREE_HEAD + b''.join(b'P 1 2 %s5 -5 101000 100 0 0 100 0 100\n' % (b'0' * (length - 35)) for length in (LINE, LINE + 1)),
     'a closed line of 50,000 bytes': HEAD + b'H 1 1 2 ' + b'0' * (LINE - 16) + b'1000 100\nH 2 1 2 1100 100\nX 50\nM 5368709\n',
     'a closed line of 50,001 bytes': HEAD + b'H 1 1 2 ' + b'0' * (LINE - 15) + b'1000 100\nH 2 1 2 1100 100\nX 100\nM 10737418\n',
     'a last line of 50,001 bytes': HEAD + PAIR + b'X ' + b'0' * (LINE - 1),

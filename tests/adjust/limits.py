@@ -1,5 +1,6 @@
 """Both sides of every limit of the global test: for each D from 1 to 30 a network whose T is just a limit, and one whose T is one less or one more; and D = 0 and D = 31, where there is
-no test. Each also with a record between two known stations beside, as far off as may be: it is a check only, so T, D and the verdict are the same.
+no test. Each also with a record between two known stations or a position at one beside, as far off as may be: it is a check only, so T, D and the verdict are the same. And where three
+of the residuals are 0, each also with a position at the unknown height instead of these, which has residuals of 0 and counts as three.
 
 All other records join a known station to one unknown height, both at 0, and the correction given is 0: a record's difference is its residual. It lies within what the check allows of
 the exact answer as long as the weighted residuals nearly cancel."""
@@ -33,16 +34,20 @@ def records(d, t):
     return found + [(0, 1)] * (d + 1 - len(found))
 
 
-BETWEEN_KNOWN = (survey.Level(1, 3, 100_000, 10_000), survey.Baseline(3, 1, (-100_000, 100_000, 100_000), (10_000, 0, 0, 10_000, 0, 10_000)))
+MOST = survey.MOST_MISCLOSURE
+FULL = (10_000, 0, 0, 10_000, 0, 10_000)
+CHECKS_ONLY = (survey.Level(1, 3, MOST, 10_000), survey.Baseline(3, 1, (-MOST, MOST, MOST), FULL), survey.Position(3, (-MOST, MOST, -MOST), FULL))
+THREE_ZEROS, ZERO_POSITION = [(0, 1)] * 3, survey.Position(2, (0, 0, 0), (1, 0, 0, 1, 0, 1))
 LAST_PLACE = 256
 
 
-def network(held, check_only=None):
-    """The input of these residuals with their weights, and of a record between the known stations."""
+def network(held, other=None):
+    """The input of these residuals with their weights, and of another record."""
     text = [b'S 1 K 0 0 0', b'S 2 V 0 0 0', b'S 3 K 0 0 0'] + [inputs.joined(b'H', k, 1, 2, v, w) for k, (v, w) in enumerate(held, 1)]
-    if check_only:
-        text.append(inputs.record_line(LAST_PLACE, check_only))
-    return b'\n'.join(text + [b'X 0', inputs.joined(b'M', solve.nearest(survey.S, sum(w for _, w in held)))]) + b'\n'
+    if other:
+        text.append(inputs.record_line(LAST_PLACE, other))
+    weight = sum(w for _, w in held) + (1 if other is ZERO_POSITION else 0)
+    return b'\n'.join(text + [b'X 0', inputs.joined(b'M', solve.nearest(survey.S, weight))]) + b'\n'
 
 
 def global_lines():
@@ -59,5 +64,8 @@ def global_lines():
 def cases():
     """(input, its last line)"""
     for held, t, d, verdict in global_lines():
-        for check_only in (None, *BETWEEN_KNOWN):
-            yield network(held, check_only), b'GLOBAL %d %d %s' % (t, d, verdict)
+        last = b'GLOBAL %d %d %s' % (t, d, verdict)
+        for check_only in (None, *CHECKS_ONLY):
+            yield network(held, check_only), last
+        if held[-3:] == THREE_ZEROS:
+            yield network(held[:-3], ZERO_POSITION), last

@@ -13,6 +13,7 @@ sys.path.insert(0, os.path.join(HERE, '..', 'reference'))
 import kinds
 import lines
 import proposals
+import survey
 
 LIMIT = 60      # seconds that no run takes
 BAD_PLACE = 2
@@ -45,18 +46,19 @@ def is_number(field):
 
 class Noted(lines.Run):
     """The reference, with what accepted edits find at their place, as `enter over another record`, and where R is before the line `R enter over another record`; with the counts of
-    numbers on B lines, and what the antenna heights of baselines lead to."""
+    numbers on B and P lines, and what the antenna heights of baselines and the values of positions lead to."""
 
     def __init__(self, propose=lambda net, records: None):
         super().__init__(propose)
         self.mark = ''
         self.found = set()
+        self.taken = {}           # positions by the place from which an accepted edit took them
 
     def apply(self, line):
         self.mark = 'R ' if line[:2] == b'R ' else ''
         head, *fields = line[len(self.mark):].split(b' ')
-        if head == b'B' and all(map(is_number, fields)):
-            self.found.add('%sB and %d numbers' % (self.mark, len(fields)))
+        if head in (b'B', b'P') and all(map(is_number, fields)):
+            self.found.add('%s%s and %d numbers' % (self.mark, head.decode(), len(fields)))
         return super().apply(line)
 
     def edit(self, call, *arguments):
@@ -64,11 +66,26 @@ class Noted(lines.Run):
         before = self.ledger.at(place)
         refused = super().edit(call, *arguments)
         if call == 'enter' and refused != BAD_PLACE:
-            heights = kinds.of_heights(self.ledger.net, arguments[1])
-            self.found |= {'antenna heights: ' + heights} if heights else set()
+            self.note_values(arguments[1])
         if not refused:
-            self.found.add(self.mark + kinds.of_edit(call, before, self.ledger.at(place)))
+            self.note_edit(call, place, before, self.ledger.at(place))
         return refused
+
+    def note_values(self, r):
+        heights = kinds.of_heights(self.ledger.net, r)
+        self.found |= {'antenna heights: ' + heights} if heights else set()
+        self.found |= {'position: ' + what for what in kinds.of_position(self.ledger.net, r)}
+
+    def note_edit(self, call, place, before, after):
+        exchange = kinds.of_exchange(call, before, after)
+        self.found |= {self.mark + kinds.of_edit(call, before, after)} | ({exchange} if exchange else set())
+        if isinstance(before, survey.Position):
+            self.taken[place] = before
+
+    def lacks_position(self):
+        """Whether unknowns have no chain, and would have one with the positions that edits took away."""
+        net, records = self.ledger.net, self.ledger.records()
+        return bool(survey.untied(net, records)) and not survey.untied(net, {**records, **self.taken})
 
 
 class Expected:

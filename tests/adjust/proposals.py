@@ -7,6 +7,7 @@ Document 01 does not fix the engine's pair (x, M), only that the check accepts i
 - each variance within document 01's column promise of S times the exact inverse, and within test 4;
 - each local verdict: one that some q gives, where q takes the printed variances, and for the entries of M that are not printed all that the column promise leaves.
 """
+from itertools import permutations
 import os
 import sys
 
@@ -59,13 +60,10 @@ def verdicts(q_low, q_high, v):
 
 def local_range(net, exact, diagonal, r, c):
     """The least and the greatest q of a component."""
-    ends = [net.index[s, c] for s in (r.start, r.end) if (s, c) in net.index]
+    ends = [net.index[s, c] for s, _ in r.ends if (s, c) in net.index]
     q = r.variance(c) - sum(diagonal[i] for i in ends)
-    if len(ends) < 2:
-        return q, q
-    f, t = ends
-    one, other = exact.range(t, f), exact.range(f, t)
-    return q + one[0] + other[0], q + one[1] + other[1]
+    between = [exact.range(i, j) for i, j in permutations(ends, 2)]        # M_tf and M_ft, added to q
+    return q + sum(low for low, _ in between), q + sum(high for _, high in between)
 
 
 def judge(net, records, text):

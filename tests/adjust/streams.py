@@ -46,7 +46,8 @@ def typed(command):
     process = started(command)
     process.stdin.write(HEAD)
     wrong = None
-    typed_lines = [(b'Q', b'UNREADABLE'), (b'U', b'REFUSED 8'), (b'D 1', b'REFUSED 7'), (b'H 0 1 2 1000 100', b'REFUSED 2'), (b'H 1 1 2 201001 100', b'REFUSED 6'), (b'', b'UNREADABLE')]
+    typed_lines = [(b'P 1 3 0 0 101000 1 0 0 1 0 1', b'REFUSED 3'), (b'Q', b'UNREADABLE'),
+                   (b'U', b'REFUSED 8'), (b'D 1', b'REFUSED 7'), (b'H 0 1 2 1000 100', b'REFUSED 2'), (b'H 1 1 2 201001 100', b'REFUSED 6'), (b'', b'UNREADABLE')]
     for k in range(3, 33):
         line, answer = typed_lines[k % len(typed_lines)]
         time.sleep(0.005)
