@@ -1,5 +1,5 @@
-/* A small levelling network with one GNSS baseline, from the station list to the printed sheet and two taped distances held against it. All that a program needs is include/dombrelat.h.
- * At the repository's root:
+/* A small levelling network with a GNSS baseline and a national mark, from the station list to the printed sheet and two taped distances held against it. All that a program needs
+ * is include/dombrelat.h. At the repository's root:
  *
  *     rt staticlib dombrelat
  *     gcc -std=c99 -Wall -Wextra -Iinclude examples/host.c target/staticlib/libdombrelat.a -o target/host && target/host
@@ -28,6 +28,9 @@ static const int64_t levels[RECORDS][4] = {
 
 /* A GNSS baseline from antenna to antenna: from, to, differences in E, N, U, weights, then the heights of the two antennas above their marks. */
 static const int64_t gnss[] = {1, 3, 4000120, -500090, 239850, 25, 0, 0, 25, 0, 16, 154320, 148910};
+
+/* The last point is a national mark too. It comes with a position and how well that is known: station, E, N, U, weights (25: a standard deviation of 2 mm). */
+static const int64_t national[] = {4, 1500140, -2000210, 9930060, 25, 0, 0, 25, 0, 25};
 
 /* Slope distances that the crew taped after setting out: from, to, distance, heights of instrument and target above their marks, tolerance. The second was read 10 cm too long. */
 static const int64_t taped[][6] = {
@@ -75,6 +78,15 @@ static void enter_gnss(void) {
     printf("place 6 holds a baseline: U %" PRId64 " from antenna to antenna, %" PRId64 " from mark to mark\n", record[5], record[5] + record[12] - record[13]);
 }
 
+/* A national mark is not held: its position is one record more, which the adjustment weighs against the others. */
+static void enter_national(void) {
+    const int64_t *p = national;
+    int64_t record[14];
+    number("a position", dombrelat_enter_position(book, sizeof book, 7, p[0], p[1], p[2], p[3], p[4], p[5], p[6], p[7], p[8], p[9]));
+    read_record(7, record);
+    printf("place 7 holds a position: station %" PRId64 ", E %" PRId64 ", N %" PRId64 ", U %" PRId64 "\n", record[1], record[3], record[4], record[5]);
+}
+
 /* Unknowns count by station, then E, N, U: a known station has none, a free one all three, a height station U alone. */
 static void print_unknown(int64_t unknown) {
     int64_t list[DOMBRELAT_STATIONS][4];
@@ -84,7 +96,7 @@ static void print_unknown(int64_t unknown) {
         int first = list[k][0] == DOMBRELAT_FREE ? 0 : list[k][0] == DOMBRELAT_HEIGHT ? 2 : 3;
         for (component = first; component < 3; component++) {
             if (--unknown == 0) {
-                printf("no chain of records ties station %d in %c to a held station\n", k + 1, "ENU"[component]);
+                printf("no chain of records ties station %d in %c to a held station or to a position\n", k + 1, "ENU"[component]);
             }
         }
     }
@@ -103,9 +115,9 @@ static void print_sheet(const int64_t *word) {
     }
     printf("place      in  residual   local test\n");
     for (k = 0; k < records; k++) {
-        int components; /* of a baseline 3, of a height difference 1 */
+        int components; /* of a height difference 1, of a baseline or a position 3 */
         read_record(word[0], record);
-        components = record[0] == 1 ? 3 : 1;
+        components = record[0] == 2 ? 1 : 3;
         for (i = 1; i <= components; i++) {
             printf("%-10" PRId64 " %c   %-10" PRId64 " %s\n", word[0], "ENU"[components == 1 ? 2 : i - 1], word[i], verdicts[word[components + i]]);
         }
@@ -151,6 +163,7 @@ int main(void) {
     printf("a height difference 2 m off is refused with %d, and place 5 still holds %" PRId64 "\n", (int)DOMBRELAT_REFUSAL(result), record[5]);
     enter_and_undo();
     enter_gnss();
+    enter_national();
 
     number("a proposal", dombrelat_propose(book, sizeof book, (uint8_t *)x, x_bytes, (uint8_t *)m, m_bytes));
     sheet_bytes = (size_t)number("the sheet's bytes", dombrelat_sheet_bytes(book, sizeof book));
