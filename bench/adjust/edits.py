@@ -1,5 +1,5 @@
-"""Edit lines for the network of examples/full_size_network.txt, all of them accepted: baselines and height differences entered over those at their places,
-with R before them, which changes nothing; strikes with the place filled again; undos.
+"""Edit lines for the network of examples/full_size_network.txt, all of them accepted: baselines, height differences and positions entered over the records at their places, with R
+before them, which changes nothing; strikes with the place filled again; undos.
 
     edits.py COUNT
 """
@@ -8,13 +8,22 @@ import sys
 
 rng = random.Random(5)
 with open('examples/full_size_network.txt') as source:
-    records = [line.rstrip('\n') for line in source if line[0] in 'BH']
+    lines = [line.rstrip('\n') for line in source]
+stations = {number: coordinates for _, number, _, *coordinates in (line.split(' ') for line in lines if line[0] == 'S')}
+records = [line for line in lines if line[0] in 'BHP']
 
 
-def shifted(line):
-    """The record with its first difference moved by less than a millimetre."""
+def moved(number):
+    """By less than a millimetre."""
+    return str(int(number) + rng.randint(-99, 99))
+
+
+def entered(line):
+    """What is entered at the record's place: the record with a value moved, or, one time in eight, a position of its first station."""
     fields = line.split(' ')
-    fields[4] = str(int(fields[4]) + rng.randint(-99, 99))
+    if rng.random() < 0.125:
+        return ' '.join(['P', *fields[1:3], *map(moved, stations[fields[2]]), '100 3 -2 120 1 90'])
+    fields[4] = moved(fields[4])
     return ' '.join(fields)
 
 
@@ -24,11 +33,11 @@ while left > 0:
     line = rng.choice(records)
     kind = rng.random()
     if kind < 0.6 or left == 1:
-        made = ['R ' + shifted(line)]
+        made = ['R ' + entered(line)]
     elif kind < 0.8:
-        made = ['D ' + line.split(' ')[1], shifted(line)]
+        made = ['D ' + line.split(' ')[1], entered(line)]
     else:
-        made = ['R ' + shifted(line), 'U']
+        made = ['R ' + entered(line), 'U']
     out += made
     left -= len(made)
 sys.stdout.write('\n'.join(out) + '\n')

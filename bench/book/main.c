@@ -12,18 +12,21 @@ uint64_t bench_replay(const int64_t *list, size_t words, const int64_t *calls, s
 static int64_t list[17 * 4], calls[ROWS * CALL_WORDS], answers[ROWS], twin_answers[ROWS];
 static int failed;
 
-/* one known station and 16 free ones; baselines between them, every one of which is accepted; among the last rows are strikes, undos and such as name no call */
+/* one known station and 16 free ones; baselines between them and in each eighth row a position, every one of which is accepted; among the last rows are strikes, undos and such as
+ * name no call */
 static void sample(void) {
     for (int s = 0; s < 17; s++) {
         list[s * 4] = s == 0 ? 1 : 2;
     }
     for (int k = 0; k < ROWS; k++) {
         int f = k % 17, t = (f + 1 + k / 17 % 16) % 17, v = k % 1000, from_height = 150000 + k % 79, to_height = 150000 - k % 73;
-        int64_t row[CALL_WORDS] = {ENTER, k % 256 + 1, 1, f + 1, t + 1, v, -v, 2 * v - from_height + to_height, 100, 10, -10, 100, 10, 100, from_height, to_height};
+        int64_t baseline[CALL_WORDS] = {ENTER, k % 256 + 1, 1, f + 1, t + 1, v, -v, 2 * v - from_height + to_height, 100, 10, -10, 100, 10, 100, from_height, to_height};
+        int64_t position[CALL_WORDS] = {ENTER, k % 256 + 1, POSITION, f + 1, 0, v, -v, 2 * v, 100, 10, -10, 100, 10, 100, 0, 0};
+        int64_t *row = k % 8 == 5 ? position : baseline;
         if (k >= ROWS - 100) {
             row[0] = STRIKE + k % 3;
         }
-        memcpy(calls + k * CALL_WORDS, row, sizeof row);
+        memcpy(calls + k * CALL_WORDS, row, sizeof baseline);
     }
 }
 

@@ -17,10 +17,16 @@ int twin_open(book *b, const int64_t *list, size_t words)
     return 0;
 }
 
-/* from mark to mark; a height difference has no antenna heights */
+/* from mark to mark; a height difference has no antenna heights, nor has a position */
 static int64_t reduced_up(const record *r)
 {
     return r->up + r->from_height - r->to_height;
+}
+
+/* the station at the to end; a position has that end alone */
+static int64_t to_of(const record *r)
+{
+    return r->kind == POSITION ? r->from : r->to;
 }
 
 typedef struct {
@@ -33,7 +39,7 @@ static equation equation_of(const book *b, const record *r)
     equation q;
     int number[COMPONENTS], unknowns = 0;
     int64_t coordinate[COMPONENTS];
-    int f = (int)r->from - 1, t = (int)r->to - 1;
+    int f = (int)r->from - 1, t = (int)to_of(r) - 1, has_from = r->kind != POSITION;
     const int64_t reduced[3] = { r->east, r->north, reduced_up(r) };
 
     for (int c = 0; c < COMPONENTS; c++) {
@@ -42,15 +48,16 @@ static equation equation_of(const book *b, const record *r)
         coordinate[c] = c % 3 == 0 ? s->east : c % 3 == 1 ? s->north : s->up;
     }
     memset(q.weight, 0, sizeof q.weight);
-    if (r->kind == 1) {
+    if (r->kind != HEIGHT_DIFFERENCE) {
         const int64_t w[3][3] = { { r->ee, r->en, r->eu }, { r->en, r->nn, r->nu }, { r->eu, r->nu, r->uu } };
         memcpy(q.weight, w, sizeof w);
     } else {
         q.weight[2][2] = r->uu;
     }
     for (int a = 0; a < 3; a++) {
-        q.misclosure[a] = r->kind == 1 || a == 2 ? reduced[a] - (coordinate[t * 3 + a] - coordinate[f * 3 + a]) : 0;
-        q.at[a] = number[f * 3 + a];
+        int64_t provisional = coordinate[t * 3 + a] - (has_from ? coordinate[f * 3 + a] : 0);
+        q.misclosure[a] = r->kind != HEIGHT_DIFFERENCE || a == 2 ? reduced[a] - provisional : 0;
+        q.at[a] = has_from ? number[f * 3 + a] : -1;
         q.at[a + 3] = number[t * 3 + a];
     }
     return q;
@@ -79,16 +86,22 @@ static int within(int64_t v, int64_t limit)
     return -limit <= v && v <= limit;
 }
 
+static int listed(const book *b, int64_t station)
+{
+    return station >= 1 && station <= (int64_t)b->count;
+}
+
 static int record_no(const book *b, const record *r)
 {
-    if (r->kind == 0 || r->from < 1 || r->from > (int64_t)b->count || r->to < 1 || r->to > (int64_t)b->count || r->from == r->to)
+    int64_t most = r->kind == POSITION ? 500000000 : 1000000000;
+    if (r->kind == 0 || !listed(b, r->from) || (r->kind != POSITION && (!listed(b, r->to) || r->from == r->to)))
         return 3;
-    if (!within(r->up, 1000000000) || r->uu < 1 || r->uu > 10000)
+    if (!within(r->up, most) || r->uu < 1 || r->uu > 10000)
         return 4;
-    if (r->kind == 1) {
-        if (r->from_height < 0 || r->from_height > 300000 || r->to_height < 0 || r->to_height > 300000 || !within(reduced_up(r), 1000000000))
+    if (r->kind != HEIGHT_DIFFERENCE) {
+        if (r->from_height < 0 || r->from_height > 300000 || r->to_height < 0 || r->to_height > 300000 || !within(reduced_up(r), most))
             return 4;
-        if (!within(r->east, 1000000000) || !within(r->north, 1000000000) || r->ee < 1 || r->ee > 10000 || r->nn < 1 || r->nn > 10000
+        if (!within(r->east, most) || !within(r->north, most) || r->ee < 1 || r->ee > 10000 || r->nn < 1 || r->nn > 10000
             || !within(r->en, 10000) || !within(r->eu, 10000) || !within(r->nu, 10000))
             return 4;
         int64_t ae = r->nn * r->uu - r->nu * r->nu, an = r->ee * r->uu - r->eu * r->eu, au = r->ee * r->nn - r->en * r->en;

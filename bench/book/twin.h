@@ -3,15 +3,16 @@
 #include <stdint.h>
 
 enum { STATIONS = 32, COMPONENTS = 96, PLACES = 256, ROW = 48 };
-enum { ENTER = 1, STRIKE, UNDO }; /* the first word of a row of calls */
-enum { CALL_WORDS = 16 };         /* of a row: the call, the place, the record's 14 words */
+enum { ENTER = 1, STRIKE, UNDO };             /* the first word of a row of calls */
+enum { CALL_WORDS = 16 };                     /* of a row: the call, the place, the record's 14 words */
+enum { HEIGHT_DIFFERENCE = 2, POSITION = 4 }; /* kinds of record; 0 is an empty place, 1 a baseline */
 
 typedef struct {
     int64_t kind, east, north, up; /* 1 known, 2 free, 3 height; 0 beyond the list */
 } station;
 
 typedef struct {
-    int64_t kind; /* 0 empty, 1 baseline, 2 height difference: weight in uu */
+    int64_t kind; /* of a height difference the weight is in uu, of a position the station in from */
     int64_t from, to, east, north, up, ee, en, eu, nn, nu, uu, from_height, to_height;
 } record;
 

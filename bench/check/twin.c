@@ -4,6 +4,7 @@
 #include <stdlib.h>
 
 enum { STATIONS = 2, PLACES = 130, MATRIX = 4676, RIGHT = 6980 };
+enum { BASELINE = 1, HEIGHT_DIFFERENCE = 2, POSITION = 4 }; /* the first word of a record */
 
 static const int64_t limits[30][2] = {
     {1, 5024}, {51, 7378}, {216, 9348}, {484, 11143}, {831, 12833}, {1237, 14449}, {1690, 16013}, {2180, 17535}, {2700, 19023}, {3247, 20483},
@@ -16,10 +17,16 @@ static const int64_t *record(const int64_t *book, int p) { return book + PLACES 
 
 /* the first component without a chain, 96 where all are tied */
 static int untied(const int64_t *book, const int at[96]) {
-    uint32_t reached[3];
+    uint32_t reached[3], with_position = 0;
     int c, p, q;
+    for (p = 0; p < 256; p++) {
+        const int64_t *r = record(book, p);
+        if (r[0] == POSITION) {
+            with_position |= 1u << (r[1] - 1);
+        }
+    }
     for (c = 0; c < 3; c++) {
-        uint32_t w = 0, before;
+        uint32_t w = with_position, before;
         for (q = 0; q < 32; q++) {
             if (at[3 * q + c] < 0) {
                 w |= 1u << q;
@@ -29,7 +36,7 @@ static int untied(const int64_t *book, const int at[96]) {
             before = w;
             for (p = 0; p < 256; p++) {
                 const int64_t *r = record(book, p);
-                if (r[0] == 1 || (r[0] == 2 && c == 2)) {
+                if (r[0] == BASELINE || (r[0] == HEIGHT_DIFFERENCE && c == 2)) {
                     uint32_t ends = 1u << (r[1] - 1) | 1u << (r[2] - 1);
                     if (w & ends) {
                         w |= ends;
@@ -79,7 +86,7 @@ int64_t twin_check_sheet(const int64_t *book, const int64_t *x, size_t nx, const
     }
     for (p = 0; p < 256; p++) {
         int64_t kind = record(book, p)[0];
-        need += kind == 1 ? 7 : kind == 2 ? 3 : 0;
+        need += kind == 0 ? 0 : kind == HEIGHT_DIFFERENCE ? 3 : 7;
         records += kind != 0;
     }
     if (nx != (size_t)n || nm != (size_t)(n * n) || room < need) {
@@ -134,31 +141,34 @@ int64_t twin_check_sheet(const int64_t *book, const int64_t *x, size_t nx, const
         int64_t v[3] = {0, 0, 0}, P[3][3] = {{w[6], w[7], w[8]}, {w[7], w[9], w[10]}, {w[8], w[10], w[11]}}, verdicts[3];
         int64_t det = w[6] * (w[9] * w[11] - w[10] * w[10]) - w[7] * (w[7] * w[11] - w[10] * w[8]) + w[8] * (w[7] * w[10] - w[9] * w[8]);
         int64_t adj[3] = {w[9] * w[11] - w[10] * w[10], w[6] * w[11] - w[8] * w[8], w[6] * w[9] - w[7] * w[7]};
-        int in_adjustment = 0;
+        int in_adjustment = 0, first = w[0] == HEIGHT_DIFFERENCE ? 2 : 0, from = (int)w[1], to = (int)w[2];
         if (!w[0]) {
             continue;
         }
-        for (c = w[0] == 1 ? 0 : 2; c < 3; c++) {
-            int f = 3 * ((int)w[1] - 1) + c, e = 3 * ((int)w[2] - 1) + c;
+        if (w[0] == POSITION) {
+            from = 0, to = (int)w[1]; /* it has the to end alone, its station */
+        }
+        for (c = first; c < 3; c++) {
+            int e = at[3 * (to - 1) + c], f = from ? at[3 * (from - 1) + c] : -1;
             int64_t reduced = c == 2 ? w[5] + w[12] - w[13] : w[3 + c]; /* from mark to mark: the last two are the antenna heights */
-            int64_t l = reduced - (book[STATIONS + 4 * (e / 3) + 1 + c] - book[STATIONS + 4 * (f / 3) + 1 + c]);
-            int64_t variance = w[0] == 1 ? 1073741824 * adj[c] / det : 1073741824 / w[11];
-            v[c] = l - ((at[e] < 0 ? 0 : x[at[e]]) - (at[f] < 0 ? 0 : x[at[f]]));
-            variance -= entry(m, n, at[e], at[e]) + entry(m, n, at[f], at[f]) - entry(m, n, at[e], at[f]) - entry(m, n, at[f], at[e]);
+            int64_t l = reduced - (book[STATIONS + 4 * (to - 1) + 1 + c] - (from ? book[STATIONS + 4 * (from - 1) + 1 + c] : 0));
+            int64_t variance = w[0] == HEIGHT_DIFFERENCE ? 1073741824 / w[11] : 1073741824 * adj[c] / det;
+            v[c] = l - ((e < 0 ? 0 : x[e]) - (f < 0 ? 0 : x[f]));
+            variance -= entry(m, n, e, e) + entry(m, n, f, f) - entry(m, n, e, f) - entry(m, n, f, e);
             verdicts[c] = verdict(v[c], variance);
-            in_adjustment |= at[e] >= 0 || at[f] >= 0;
+            in_adjustment |= e >= 0 || f >= 0;
         }
         *sheet++ = p + 1;
-        for (c = w[0] == 1 ? 0 : 2; c < 3; c++) {
+        for (c = first; c < 3; c++) {
             *sheet++ = v[c];
         }
-        for (c = w[0] == 1 ? 0 : 2; c < 3; c++) {
+        for (c = first; c < 3; c++) {
             *sheet++ = verdicts[c];
         }
         if (!in_adjustment) {
             continue;
         }
-        d += w[0] == 1 ? 3 : 1;
+        d += 3 - first;
         for (i = 0; i < 3; i++) {
             for (j = 0; j < 3; j++) {
                 t += v[i] * P[i][j] * v[j];

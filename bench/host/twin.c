@@ -4,8 +4,9 @@
 #include <stdlib.h>
 #include <string.h>
 
-enum { LAYOUT = 2, STATIONS = 2, PLACES = 130, NEXT = 3714, HELD = 3715, SLOTS = 3716, MATRIX = 4676, RIGHT = 6980, WORDS = 7028 };
-enum { DIFFERENCE = 1000000000, ANTENNA_HEIGHT = 300000 }; /* the largest */
+enum { LAYOUT = 3, STATIONS = 2, PLACES = 130, NEXT = 3714, HELD = 3715, SLOTS = 3716, MATRIX = 4676, RIGHT = 6980, WORDS = 7028 };
+enum { COORDINATE = 500000000, DIFFERENCE = 1000000000, ANTENNA_HEIGHT = 300000 }; /* the largest */
+enum { HEIGHT_DIFFERENCE = 2, POSITION = 4 };                                       /* the first word of a record; 1 is a baseline */
 
 static int within(int64_t v, int64_t limit) { return -limit <= v && v <= limit; }
 
@@ -25,7 +26,7 @@ static int number(const int64_t *w, int at[96]) {
             at[q] = -1;
             continue;
         }
-        if (s[0] < 1 || s[0] > 3 || !within(s[1 + q % 3], 500000000)) {
+        if (s[0] < 1 || s[0] > 3 || !within(s[1 + q % 3], COORDINATE)) {
             return -1;
         }
         at[q] = s[0] == 2 || (s[0] == 3 && q % 3 == 2) ? n++ : -1;
@@ -33,11 +34,25 @@ static int number(const int64_t *w, int at[96]) {
     return n >= 1 && n <= 48 ? n : -1;
 }
 
-/* The U difference from mark to mark; the words of the antenna heights are 0 in a height difference. */
+/* The U difference from mark to mark; the words of the antenna heights are 0 but in a baseline. */
 static int64_t reduced(const int64_t *r) { return r[5] + r[12] - r[13]; }
+
+/* The station at the to end; a position has that end alone, its station being word 1. */
+static int64_t to(const int64_t *r) { return r[r[0] == POSITION ? 1 : 2]; }
+
+static int listed(const int64_t *w, int64_t station) { return station >= 1 && station <= w[1]; }
+
+/* Whether the kind and the stations are by the rules, and what a position does not use is 0. */
+static int stations_fit(const int64_t *w, const int64_t *r) {
+    if (r[0] == POSITION) {
+        return listed(w, r[1]) && !r[2] && !r[12] && !r[13];
+    }
+    return r[0] >= 1 && r[0] <= HEIGHT_DIFFERENCE && listed(w, r[1]) && listed(w, r[2]) && r[1] != r[2];
+}
 
 /* 0 where the 14 words are a record by the rules, or all 0; else a refusal. The misclosures go to l. */
 static int rules(const int64_t *w, const int64_t *r, int64_t l[3]) {
+    int64_t most = r[0] == POSITION ? COORDINATE : DIFFERENCE;
     int c, k;
     if (r[0] == 0) {
         for (k = 0; k < 14; k++) {
@@ -47,13 +62,13 @@ static int rules(const int64_t *w, const int64_t *r, int64_t l[3]) {
         }
         return 0;
     }
-    if (r[0] < 0 || r[0] > 2 || r[1] < 1 || r[1] > w[1] || r[2] < 1 || r[2] > w[1] || r[1] == r[2]) {
+    if (!stations_fit(w, r)) {
         return 3;
     }
-    if (!within(r[3], DIFFERENCE) || !within(r[4], DIFFERENCE) || !within(r[5], DIFFERENCE) || r[11] < 1 || r[11] > 10000) {
+    if (!within(r[3], most) || !within(r[4], most) || !within(r[5], most) || r[11] < 1 || r[11] > 10000) {
         return 4;
     }
-    if (r[0] == 1) {
+    if (r[0] != HEIGHT_DIFFERENCE) {
         int64_t ee = r[6], en = r[7], eu = r[8], nn = r[9], nu = r[10], uu = r[11], det;
         if (r[12] < 0 || r[12] > ANTENNA_HEIGHT || r[13] < 0 || r[13] > ANTENNA_HEIGHT || !within(reduced(r), DIFFERENCE)) {
             return 4;
@@ -69,8 +84,9 @@ static int rules(const int64_t *w, const int64_t *r, int64_t l[3]) {
         return 3;
     }
     for (c = 0; c < 3; c++) {
-        const int64_t *f = w + STATIONS + 4 * (r[1] - 1), *t = w + STATIONS + 4 * (r[2] - 1);
-        l[c] = r[0] == 1 || c == 2 ? (c == 2 ? reduced(r) : r[3 + c]) - (t[1 + c] - f[1 + c]) : 0;
+        const int64_t *f = w + STATIONS + 4 * (r[1] - 1), *t = w + STATIONS + 4 * (to(r) - 1);
+        int64_t provisional = t[1 + c] - (r[0] == POSITION ? 0 : f[1 + c]);
+        l[c] = r[0] != HEIGHT_DIFFERENCE || c == 2 ? (c == 2 ? reduced(r) : r[3 + c]) - provisional : 0;
         if (!within(l[c], 100000)) {
             return 6;
         }
@@ -81,18 +97,18 @@ static int rules(const int64_t *w, const int64_t *r, int64_t l[3]) {
 /* Adds sign times a record's share to N and u. */
 static void share(const int at[96], const int64_t *r, const int64_t l[3], int64_t sign, int64_t *matrix, int64_t *right) {
     static const int weight[9] = {6, 7, 8, 7, 9, 10, 8, 10, 11};
-    int a, b, i, j;
+    int first = r[0] == POSITION ? 3 : 0, a, b, i, j;
     if (r[0] == 0) {
         return;
     }
-    for (a = 0; a < 6; a++) {
+    for (a = first; a < 6; a++) {
         int64_t s = sign * (a < 3 ? -1 : 1);
-        i = at[3 * (r[a < 3 ? 1 : 2] - 1) + a % 3];
+        i = at[3 * ((a < 3 ? r[1] : to(r)) - 1) + a % 3];
         if (i < 0) {
             continue;
         }
-        for (b = 0; b < 6; b++) {
-            j = at[3 * (r[b < 3 ? 1 : 2] - 1) + b % 3];
+        for (b = first; b < 6; b++) {
+            j = at[3 * ((b < 3 ? r[1] : to(r)) - 1) + b % 3];
             if (j >= 0) {
                 matrix[48 * i + j] += s * (b < 3 ? -1 : 1) * r[weight[3 * (a % 3) + b % 3]];
             }
@@ -137,8 +153,9 @@ static int sound(const int64_t *w, int at[96]) {
     return memcmp(fresh, w + MATRIX, sizeof fresh) == 0;
 }
 
-int64_t twin_enter_baseline(uint8_t *bytes, size_t n, int64_t place, const int64_t numbers[13]) {
-    int64_t *w = (int64_t *)bytes, *old, *slot, l[3], before[3], r[14] = {1};
+/* Enters the record of 14 words. */
+int64_t twin_enter(uint8_t *bytes, size_t n, int64_t place, const int64_t r[14]) {
+    int64_t *w = (int64_t *)bytes, *old, *slot, l[3], before[3];
     int at[96], no;
     if (n < 8 * WORDS || !sound(w, at)) {
         return 25;
@@ -146,7 +163,6 @@ int64_t twin_enter_baseline(uint8_t *bytes, size_t n, int64_t place, const int64
     if (place < 1 || place > 256) {
         return 2;
     }
-    memcpy(r + 1, numbers, 13 * sizeof *r);
     no = rules(w, r, l);
     if (no) {
         return no;
@@ -158,7 +174,7 @@ int64_t twin_enter_baseline(uint8_t *bytes, size_t n, int64_t place, const int64
     slot = w + SLOTS + 15 * w[NEXT];
     slot[0] = place - 1;
     memcpy(slot + 1, old, 14 * sizeof *old);
-    memcpy(old, r, sizeof r);
+    memcpy(old, r, 14 * sizeof *r);
     w[NEXT] = (w[NEXT] + 1) % 64;
     w[HELD] = w[HELD] < 64 ? w[HELD] + 1 : 64;
     return 0;

@@ -11,7 +11,7 @@ typedef struct {
 } station;
 
 typedef struct {
-    int kind; /* 0 empty, 1 baseline, 2 height difference */
+    int kind; /* 0 empty, 1 baseline, 2 height difference, 4 position: station in from */
     int64_t from, to, east, north, up, ee, en, eu, nn, nu, uu, from_height, to_height;
 } record;
 
@@ -51,7 +51,8 @@ static void normals(const station stations[STATIONS], const record places[PLACES
         const record *r = &places[p];
         if (r->kind == 0)
             continue;
-        int f = (int)r->from - 1, t = (int)r->to - 1;
+        int has_from = r->kind != 4; /* a position has the to end alone, its station */
+        int f = (int)r->from - 1, t = (int)(has_from ? r->to : r->from) - 1;
         int64_t weight[3][3] = { { r->ee, r->en, r->eu }, { r->en, r->nn, r->nu }, { r->eu, r->nu, r->uu } };
         int64_t reduced[3] = { r->east, r->north, r->up + r->from_height - r->to_height };
         int64_t misclosure[3], weighted[3];
@@ -63,8 +64,8 @@ static void normals(const station stations[STATIONS], const record places[PLACES
                     if (a != 2 || b != 2)
                         weight[a][b] = 0;
         for (int a = 0; a < 3; a++) {
-            misclosure[a] = reduced[a] - (coordinate[t * 3 + a] - coordinate[f * 3 + a]);
-            at[a] = number[f * 3 + a];
+            misclosure[a] = reduced[a] - (coordinate[t * 3 + a] - (has_from ? coordinate[f * 3 + a] : 0));
+            at[a] = has_from ? number[f * 3 + a] : -1;
             at[a + 3] = number[t * 3 + a];
         }
         for (int a = 0; a < 3; a++)
