@@ -5,8 +5,7 @@ use mathlib.Core.Bool.{Bool, true, false, cond}
 use mathlib.Core.List.{List, [], _∷_}
 use mathlib.Core.Logic.{_⊎_, inl, inr, ⊎-elim}
 use native.Mathlib.Omega.{arith}
-use native.Mathlib.Decide.{ℕ-discrete, decLt}
-use native.Mathlib.Numerals.{add-one}
+use native.Mathlib.Decide.{decLt}
 use borrow.Author.Tests.{eqb-true, eq-eqb, ne-eqb}
 use lib.Dec.{eqb}
 use lib.ListN.{length, getD, List·getD-eq-default}
@@ -20,10 +19,10 @@ use Rattle.network.specs.declared.Station.{Station}
 use Rattle.network.specs.declared.Network.{Network}
 use Rattle.network.specs.declared.Record.{Record}
 use Rattle.network.specs.declared.Place.{Place}
-use Rattle.chains.specs.Bits.{bit, setBit, set-same, set-keeps, set-cases, set-fits, setOf-sound, setOf-whole, setOf-fits}
+use Rattle.chains.specs.Bits.{bit, none-in, IsPut, put-sound, put-keeps, put-whole, put-fits}
 use Rattle.chains.specs.Scans.{firstFailing, first-fails, first-failing-none}
 use Rattle.chains.specs.Search.{Joined, start, along as forth, back as return, Found, search-finds}
-use Rattle.chains.specs.Chains.{Tied, held, positioned, along, back, EachTied, FirstWithoutChain, edge, edges, fromEnd, toEnd, isHeld, heldSet, withPositions, startSet, tiedSet, isTied, allTied, firstUntied}
+use Rattle.chains.specs.Chains.{Tied, held, positioned, along, back, EachTied, FirstWithoutChain, edge, edges, fromEnd, toEnd, isHeld, positionSet, startSet, tiedSet, isTied, allTied, firstUntied}
 
 -- what the search asks of the book: at most 32 stations, and ends among them
 pub record EndsLow (places : List Place) : Type 0 where
@@ -60,73 +59,6 @@ edge-no c r e = rw e
 pub edge-small : (c : ℕ) (r : Record) → fromOf r < 32 → toOf r < 32 → edge c r < 1024
 edge-small c r h k = ⊎-elim (λ e. rw (edge-yes c r e) (omega arith)) (λ e. rw (edge-no c r e) (omega arith)) (true-or-false (acts c r))
 
--- ════ where chains end: the stations of position records put into a word
--- station s has a position record at one of the first n places
-pub record HasPosition (places : List Place) (n s : ℕ) : Type 0 where
-  pub place : ℕ
-  pub below : place < n
-  pub is : isPosition (recordAt places place) ≡ true
-  pub at : toOf (recordAt places place) ≡ s
-
-module _ (places : List Place) (h : ℕ) where
-  pub positions-step : (n : ℕ) → withPositions places (n + 1) h ≡ cond (isPosition (recordAt places n)) (setBit (withPositions places n h) (toOf (recordAt places n))) (withPositions places n h)
-  unfolding withPositions
-  positions-step n = rw add-one
-
-  positions-yes : (n : ℕ) → isPosition (recordAt places n) ≡ true → withPositions places (suc n) h ≡ setBit (withPositions places n h) (toOf (recordAt places n))
-  unfolding withPositions
-  positions-yes n e = rw e
-
-  positions-no : (n : ℕ) → isPosition (recordAt places n) ≡ false → withPositions places (suc n) h ≡ withPositions places n h
-  unfolding withPositions
-  positions-no n e = rw e
-
-  positions-sound : (n s : ℕ) → bit (withPositions places n h) s ≡ true → (bit h s ≡ true) ⊎ HasPosition places n s
-  unfolding withPositions
-  positions-sound zero s e = inl e
-  positions-sound (suc n) s e = go (positions-sound n s) (true-or-false (isPosition (recordAt places n)))
-    where
-      more : (bit h s ≡ true) ⊎ HasPosition places n s → (bit h s ≡ true) ⊎ HasPosition places (suc n) s
-      more (inl b) = inl b
-      more (inr r) = let l = r .below in inr (record { place = r .place; below = omega arith; is = r .is; at = r .at })
-
-      go : (bit (withPositions places n h) s ≡ true → (bit h s ≡ true) ⊎ HasPosition places n s) → (isPosition (recordAt places n) ≡ true) ⊎ (isPosition (recordAt places n) ≡ false)
-          → (bit h s ≡ true) ⊎ HasPosition places (suc n) s
-      go ih (inl y) =
-          ⊎-elim (λ q. inr (record { place = n; below = omega arith; is = y; at = sym q })) (λ b. more (ih b))
-          (set-cases (withPositions places n h) (toOf (recordAt places n)) s (rw (positions-yes n y) at e))
-      go ih (inr o) = more (ih (rw (positions-no n o) at e))
-
-  positions-keep : (n s : ℕ) → bit h s ≡ true → bit (withPositions places n h) s ≡ true
-  unfolding withPositions
-  positions-keep zero s b = b
-  positions-keep (suc n) s b = go (positions-keep n s b) (true-or-false (isPosition (recordAt places n)))
-    where
-      go : bit (withPositions places n h) s ≡ true → (isPosition (recordAt places n) ≡ true) ⊎ (isPosition (recordAt places n) ≡ false) → bit (withPositions places (suc n) h) s ≡ true
-      go ih (inl y) = rw (positions-yes n y) (set-keeps (withPositions places n h) (toOf (recordAt places n)) s ih)
-      go ih (inr o) = rw (positions-no n o) ih
-
-  positions-whole : (n p : ℕ) → p < n → isPosition (recordAt places p) ≡ true → bit (withPositions places n h) (toOf (recordAt places p)) ≡ true
-  positions-whole zero p l y = absurd (omega arith)
-  positions-whole (suc n) p l y = go (positions-whole n p) (ℕ-discrete p n) (true-or-false (isPosition (recordAt places n)))
-    where
-      go : (p < n → isPosition (recordAt places p) ≡ true → bit (withPositions places n h) (toOf (recordAt places p)) ≡ true) → Dec (p ≡ n)
-          → (isPosition (recordAt places n) ≡ true) ⊎ (isPosition (recordAt places n) ≡ false) → bit (withPositions places (suc n) h) (toOf (recordAt places p)) ≡ true
-      go ih (yes q) (inl t) = rw (positions-yes n t, q) (set-same (withPositions places n h) (toOf (recordAt places n)))
-      go ih (yes q) (inr o) = clash (rw q at y) o
-      go ih (no q) (inl t) = rw (positions-yes n t) (set-keeps (withPositions places n h) (toOf (recordAt places n)) (toOf (recordAt places p)) (ih (omega arith) y))
-      go ih (no q) (inr o) = rw (positions-no n o) (ih (omega arith) y)
-
-  pub positions-fit : (n : ℕ) → ((p : ℕ) → p < n → toOf (recordAt places p) < 32) → h < 2 ^ 32 → withPositions places n h < 2 ^ 32
-  unfolding withPositions
-  positions-fit zero low l = l
-  positions-fit (suc n) low l = go (positions-fit n (λ p k. low p (omega arith)) l) (true-or-false (isPosition (recordAt places n)))
-    where
-      go : withPositions places n h < 2 ^ 32 → (isPosition (recordAt places n) ≡ true) ⊎ (isPosition (recordAt places n) ≡ false) → withPositions places (suc n) h < 2 ^ 32
-      go ih (inl y) = rw (positions-yes n y) (set-fits (withPositions places n h) (toOf (recordAt places n)) (low n (omega arith)) ih)
-      go ih (inr o) = rw (positions-no n o) ih
-
--- ════ chains
 module _ (net : Network) (places : List Place) (c : ℕ) (g : EndsInRange net places) where
   abbrev f : ℕ → ℕ
   f = fromEnd (edges places c)
@@ -152,10 +84,13 @@ module _ (net : Network) (places : List Place) (c : ℕ) (g : EndsInRange net pl
   h = startSet net places c
 
   pub tied-of : {s : ℕ} → Joined f t 256 h s → Tied net places c s
-  tied-of (start {s = s} q) = ⊎-elim held-here (λ r. positioned (r .below) (r .is) (r .at)) (positions-sound places (heldSet net c) 256 s q)
+  tied-of (start {s = s} q) = ⊎-elim positioned-here held-here (put-sound (isHeld (net .stations) c) (λ s. s) (positionSet places) (net .count) s q)
     where
-      held-here : bit (heldSet net c) s ≡ true → Tied net places c s
-      held-here b = let r = setOf-sound (isHeld (net .stations) c) (net .count) s b in held (r .0) (eqb-true _ 0 (r .1))
+      held-here : IsPut (isHeld (net .stations) c) (λ s. s) (positionSet places) (net .count) s → Tied net places c s
+      held-here r = let t : Tied net places c (r .index) = held (r .below) (eqb-true _ 0 (r .passes)) in rw (r .is) at t
+
+      positioned-here : bit (positionSet places) s ≡ true → Tied net places c s
+      positioned-here b = ⊎-elim (none-in s) (λ r. positioned (r .below) (r .passes) (r .is)) (put-sound (λ p. isPosition (recordAt places p)) (λ p. toOf (recordAt places p)) 0 256 s b)
   tied-of (forth {a = a} {b = b} {e = p} l u v j) = go (tied-of j) (true-or-false (acts c (recordAt places p)))
     where
       go : Tied net places c a → (acts c (recordAt places p) ≡ true) ⊎ (acts c (recordAt places p) ≡ false) → Tied net places c b
@@ -168,8 +103,9 @@ module _ (net : Network) (places : List Place) (c : ℕ) (g : EndsInRange net pl
       go i (inr n) = rw (sym v ∙ sym (ends-same p l n) ∙ u) at i
 
   pub joined-of : {s : ℕ} → Tied net places c s → Joined f t 256 h s
-  joined-of (held {s = s} l e) = start (positions-keep places (heldSet net c) 256 s (setOf-whole (isHeld (net .stations) c) (net .count) s l (eq-eqb _ 0 e)))
-  joined-of (positioned {p = p} l y e) = start (rw e at (positions-whole places (heldSet net c) 256 p l y))
+  joined-of (held {s = s} l e) = start (put-whole (isHeld (net .stations) c) (λ s. s) (positionSet places) (net .count) s l (eq-eqb _ 0 e))
+  joined-of (positioned {p = p} l y e) =
+      start (put-keeps (isHeld (net .stations) c) (λ s. s) (positionSet places) (net .count) _ (rw e at (put-whole (λ p. isPosition (recordAt places p)) (λ p. toOf (recordAt places p)) 0 256 p l y)))
   joined-of (along {p = p} l y u v i) = forth l (from-is p l y ∙ u) (to-is p l y ∙ v) (joined-of i)
   joined-of (back {p = p} l y u v i) = return l (from-is p l y ∙ u) (to-is p l y ∙ v) (joined-of i)
 
@@ -181,7 +117,9 @@ module _ (net : Network) (places : List Place) (c : ℕ) (g : EndsInRange net pl
       go p (no l) = let b : length (edges places c) ≤ p = rw (length-tabulate 256 (λ p. edge c (recordAt places p))) (omega arith) in rw (List·getD-eq-default (edges places c) 0 {n = p} b) (omega arith)
 
   start-fits : h < 2 ^ 32
-  start-fits = positions-fit places (heldSet net c) 256 (g .ends .to) (setOf-fits _ (net .count) (g .few))
+  start-fits =
+      put-fits (isHeld (net .stations) c) (λ s. s) (positionSet places) (net .count) (λ s l. let few = g .few in omega arith)
+      (put-fits (λ p. isPosition (recordAt places p)) (λ p. toOf (recordAt places p)) 0 256 (g .ends .to) (omega arith))
 
   -- the search is exact
   finds : Found f t 256 h (tiedSet net places c)

@@ -1,7 +1,7 @@
 -- Document 01, "Accepting a solution", test 2: "for every component, each station unknown in it is joined, by a chain of records acting in it, to a station held
 -- in it (baselines act in E, N, U; height differences in U only)". Document 02, request 5: "A chain in test 2 may now also end at a station with a position record." Components are 0 E, 1 N, 2 U, stations and places count from 0, and component q of the
 -- station list is component q % 3 of station q / 3. Assumes nothing.
-use Prim.Native.Nat.{ℕ, zero, suc, _+_, _*_, _/_, _%_, _<_, _^_}
+use Prim.Native.Nat.{ℕ, _+_, _*_, _/_, _%_, _<_, _^_}
 use mathlib.Core.Path.{_≡_}
 use mathlib.Core.Bool.{Bool, true, cond}
 use mathlib.Core.List.{List}
@@ -16,7 +16,7 @@ use Rattle.network.specs.declared.Station.{Station}
 use Rattle.network.specs.declared.Network.{Network}
 use Rattle.network.specs.declared.Record.{Record}
 use Rattle.network.specs.declared.Place.{Place}
-use Rattle.chains.specs.Bits.{bit, setBit, setOf}
+use Rattle.chains.specs.Bits.{bit, putIn}
 use Rattle.chains.specs.Scans.{firstFailing}
 use Rattle.chains.specs.Search.{search}
 
@@ -57,21 +57,16 @@ fromEnd e p = getD e p 0 / mostStations
 abbrev pub toEnd : List ℕ → ℕ → ℕ
 toEnd e p = getD e p 0 % mostStations
 
--- the stations held in c, as the bits of a word
+-- the stations with a position record, as the bits of a word
+abbrev pub positionSet : List Place → ℕ
+positionSet places = putIn placeCount (λ p. isPosition (recordAt places p)) (λ p. toOf (recordAt places p)) 0
+
+-- where chains may end: these, and the stations held in c
 abbrev pub isHeld : List Station → ℕ → ℕ → Bool
 isHeld stations c s = eqb (unknown stations (s * 3 + c)) 0
 
-abbrev pub heldSet : Network → ℕ → ℕ
-heldSet net c = setOf (net .count) (isHeld (net .stations) c)
-
--- a word, with the stations put in that have a position record at one of the first n places
-unfoldable pub withPositions : List Place → ℕ → ℕ → ℕ
-withPositions places zero w = w
-withPositions places (suc n) w = cond (isPosition (recordAt places n)) (setBit (withPositions places n w) (toOf (recordAt places n))) (withPositions places n w)
-
--- where chains may end
 abbrev pub startSet : Network → List Place → ℕ → ℕ
-startSet net places c = withPositions places placeCount (heldSet net c)
+startSet net places c = putIn (net .count) (isHeld (net .stations) c) (λ s. s) (positionSet places)
 
 -- from there those that passes over the records reach; no word below 2^32 grows more than 2^32 times
 unfoldable pub tiedSet : Network → List Place → ℕ → ℕ

@@ -12,13 +12,13 @@ ghost use mathlib.Core.Bool.{true, cond};
 ghost use Prim.Native.Nat.{_<_, _≤_};
 ghost use lib.Dec.{eqb};
 ghost use lib.ListN.{length};
-ghost use Rattle.network.specs.Units.{mostStations, mostComponents, placeCount};
+ghost use Rattle.network.specs.Units.{mostStations, mostComponents};
 ghost use Rattle.network.specs.Stations.{unknownIn};
 ghost use Rattle.network.specs.Records.{isPosition, fromOf, toOf};
 ghost use Rattle.network.specs.Places.{placesLength, placesIn};
-ghost use Rattle.chains.specs.Bits.{bit, setBit, setOf};
+ghost use Rattle.chains.specs.Bits.{bit, setBit, putIn};
 ghost use Rattle.chains.specs.Scans.{firstFailing};
-ghost use Rattle.chains.specs.Chains.{edge, edges, isHeld, withPositions, isTied};
+ghost use Rattle.chains.specs.Chains.{edge, edges, isHeld, positionSet, isTied};
 ghost use Rattle.chains.specs.ChainLaws.{EndsLow, EndsInRange, SameSet, heldOrIn};
 
 // A record's ends in one number, those of station 0 twice where it does not act.
@@ -59,20 +59,20 @@ fn with_held(w: u32, s: usize, k: Kind, c: usize) -> u32
     w
 }
 
-// The first n stations, those of them that are held in component c.
-fn held_in(n: usize, stations: [Station; Unit::STATIONS], c: usize) -> u32
+// The set w, with those of the first n stations put in that are held in component c.
+fn with_stations_held(n: usize, stations: [Station; Unit::STATIONS], c: usize, w: u32) -> u32
     requires { ⌜ (n ≤ mostStations) × (c < 3) ⌝ }
-    ensures { λ r. ⌜ r ≡ setOf n (isHeld stations c) ⌝ }
+    ensures { λ r. ⌜ r ≡ putIn n (isHeld stations c) (λ s. s) w ⌝ }
 {
-    let mut w: u32 = 0;
+    let mut v = w;
     let mut s: usize = 0;
     while s < n {
         let x = stations[s];
         let k = x.kind;
-        w = with_held(w, s, k, c);
+        v = with_held(v, s, k, c);
         s += 1;
     }
-    w
+    v
 }
 
 // The set w, with the station of r put in where r is a position.
@@ -86,31 +86,30 @@ fn with_position(w: u32, r: Record) -> u32
     w
 }
 
-// The set w, with the stations of the positions among lent places put in.
-fn with_positions(places: &[i64], w: u32) -> u32
+// The stations of the positions among lent places.
+fn positions_in(places: &[i64]) -> u32
     requires { ⌜ (placesLength ≤ length (now places)) × EndsLow (placesIn (now places)) ⌝ }
-    ensures { λ r. ⌜ r ≡ withPositions (placesIn (now (places .entry))) placeCount w ⌝ }
+    ensures { λ r. ⌜ r ≡ positionSet (placesIn (now (places .entry))) ⌝ }
 {
-    let mut v = w;
+    let mut w: u32 = 0;
     let mut p: usize = 0;
     while p < Unit::PLACES {
         let r = network::record_at(places, p);
-        v = with_position(v, r);
+        w = with_position(w, r);
         p += 1;
     }
-    v
+    w
 }
 
-// The stations that are tied in component c.
-fn tied_in(net: Network, places: &[i64], c: usize) -> u32
-    requires { ⌜ (placesLength ≤ length (now places)) × EndsInRange net (placesIn (now places)) × (c < 3) ⌝ }
+// The stations that are tied in component c, where chains may end at those of the set `positions`.
+fn tied_in(net: Network, places: &[i64], c: usize, positions: u32) -> u32
+    requires { ⌜ (placesLength ≤ length (now places)) × EndsInRange net (placesIn (now places)) × (c < 3) × (positions ≡ positionSet (placesIn (now places))) ⌝ }
     ensures { λ r. ⌜ SameSet net (placesIn (now (places .entry))) c r ⌝ }
 {
     let e = edges_in(places, c);
     let n = net.count;
     let stations = net.stations;
-    let h = held_in(n, stations, c);
-    let start = with_positions(places, h);
+    let start = with_stations_held(n, stations, c, positions);
     search(&e, start)
 }
 
@@ -147,9 +146,10 @@ pub fn first_untied(net: Network, places: &[i64]) -> usize
     requires { ⌜ (placesLength ≤ length (now places)) × EndsInRange net (placesIn (now places)) ⌝ }
     ensures { λ r. ⌜ r ≡ firstFailing mostComponents (isTied net (placesIn (now (places .entry)))) ⌝ }
 {
-    let east = tied_in(net, places, 0);
-    let north = tied_in(net, places, 1);
-    let up = tied_in(net, places, 2);
+    let positions = positions_in(places);
+    let east = tied_in(net, places, 0, positions);
+    let north = tied_in(net, places, 1, positions);
+    let up = tied_in(net, places, 2, positions);
     let stations = net.stations;
     first_missing(stations, [east, north, up])
 }

@@ -16,7 +16,8 @@ use Rattle.network.specs.declared.Place.{Place}
 use Rattle.network.specs.declared.Record.{Record}
 use Rattle.normals.specs.Formulas.{shareN, shareU, normalsOf}
 use Rattle.normals.specs.AtMarks.{marks-shareN, marks-shareU}
-use Rattle.chains.specs.Chains.{edge, edges, heldSet, withPositions, tiedSet, isTied}
+use Rattle.chains.specs.Chains.{edge, edges, tiedSet, isTied}
+use Rattle.chains.specs.Bits.{putIn}
 use Rattle.acceptance.specs.Exactly.{answer}
 use Rattle.book.specs.declared.Book.{Book}
 use Rattle.residuals.specs.Residuals.{residual, shareT, T, shareD, isRecord, recordCount}
@@ -70,15 +71,15 @@ module _ (net : Network) (places others : List Place) (same : SameAtMarks places
   same-edges : (c : ℕ) → edges places c ≡ edges others c
   same-edges c = tabulate-ext 256 (λ p. edge c (recordAt places p)) (λ p. edge c (recordAt others p)) 0 (carried (edge c) (edge-at-marks c))
 
-  same-positions : (n w : ℕ) → n ≤ 256 → withPositions places n w ≡ withPositions others n w
-  unfolding withPositions
-  same-positions zero w h = refl
-  same-positions (suc n) w h =
-      rw (carried isPosition marks-position n (omega arith), carried toOf marks-to n (omega arith), same-positions n w (omega arith)) refl
+  same-positions : (n : ℕ) → n ≤ 256
+      → putIn n (λ p. isPosition (recordAt places p)) (λ p. toOf (recordAt places p)) 0 ≡ putIn n (λ p. isPosition (recordAt others p)) (λ p. toOf (recordAt others p)) 0
+  unfolding putIn
+  same-positions zero h = refl
+  same-positions (suc n) h = rw (carried isPosition marks-position n (omega arith), carried toOf marks-to n (omega arith), same-positions n (omega arith)) refl
 
   same-tied : isTied net places ≡ isTied net others
   unfolding isTied tiedSet
-  same-tied = fun-ext (λ q. rw (same-edges (q % 3), same-positions 256 (heldSet net (q % 3)) (omega arith)) refl)
+  same-tied = fun-ext (λ q. rw (same-edges (q % 3), same-positions 256 (omega arith)) refl)
 
   pub marks-shares : SameShares net places others
   marks-shares =

@@ -1,7 +1,7 @@
 -- A record that is a check only (document 02, request 2) changes no solution: two books over one station list with the same records in the adjustment have the same N and u, the check
 -- answers every pair alike (where a lent sheet has room in both or in neither), and the sheet's last line is the same. The rest of a sheet is the count of records, the stations' lines,
 -- which read no record, and each record's own line. Assumes nothing.
-use Prim.Native.Nat.{ℕ, _/_, _%_, _<_, _≤_}
+use Prim.Native.Nat.{ℕ, _/_, _%_, _<_}
 use mathlib.Core.Path.{_≡_, refl, sym, ap, _∙_, fun-ext, subst}
 use mathlib.Core.Bool.{Bool, true, false, cond}
 use mathlib.Core.List.{List}
@@ -12,7 +12,6 @@ use lib.IntN.{ℤ, pos}
 use Rattle.words.specs.Bools.{same-test}
 use Rattle.network.specs.Stations.{unknown}
 use Rattle.network.specs.Records.{acts, isPosition, fromOf, toOf, recordAt}
-use Rattle.network.specs.Rules.{recordFits}
 use Rattle.network.specs.RuleLaws.{network-few, ends-listed, fits-passed}
 use Rattle.network.specs.RecordLaws.{acting-filled, position-acts}
 use Rattle.network.specs.declared.Network.{Network}

@@ -9,7 +9,7 @@ use lib.ListN.{length, drop, length-append}
 use lib.IntN.{ℤ, pos}
 use Rattle.integers.specs.Sums.{sumN}
 use Rattle.network.specs.Stations.{unknownCount}
-use Rattle.network.specs.Records.{recordAt, isEmpty, observations}
+use Rattle.network.specs.Records.{recordAt, isEmpty}
 use Rattle.network.specs.RecordLaws.{by-observations}
 use Rattle.network.specs.declared.Station.{Station}
 use Rattle.network.specs.declared.Network.{Network}

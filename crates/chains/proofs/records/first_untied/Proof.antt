@@ -6,14 +6,17 @@ use Rattle.chains.specs.ChainLaws.{first-found}
 use Rattle.chains.proofs.records.first_untied.Statement.{statement}
 use Rattle.chains.proofs.records.first_untied.Tie as tie
 
+positions-in-requires : tie.Need-positions-in-requires
+positions-in-requires c κs = (c .pre .0, c .pre .1 .ends)
+
 tied-in-requires : tie.Need-tied-in-requires
-tied-in-requires c κs = (c .pre .0, c .pre .1, omega arith)
+tied-in-requires c κs = let s = c .before in (s .pre .0, s .pre .1, omega arith, c .positions-in .ensures)
 
 tied-in-requires-2 : tie.Need-tied-in-requires-2
-tied-in-requires-2 c κs = (c .before .pre .0, c .before .pre .1, omega arith)
+tied-in-requires-2 c κs = let s = c .before .before in (s .pre .0, s .pre .1, omega arith, c .before .positions-in .ensures)
 
 tied-in-requires-3 : tie.Need-tied-in-requires-3
-tied-in-requires-3 c κs = (c .before .before .pre .0, c .before .before .pre .1, omega arith)
+tied-in-requires-3 c κs = let s = c .before .before .before in (s .pre .0, s .pre .1, omega arith, c .before .before .positions-in .ensures)
 
 first-missing-requires : tie.Need-first-missing-requires
 first-missing-requires c κs = search needs
@@ -27,6 +30,7 @@ pub first-untied-spec : {M : Type 1} → statement M
 first-untied-spec =
     tie.close
     (tie.spec
+    positions-in-requires
     tied-in-requires
     tied-in-requires-2
     tied-in-requires-3
