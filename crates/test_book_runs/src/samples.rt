@@ -94,27 +94,34 @@ fn height(s: u64) -> Record {
     network::height_of(from, to, up, weight)
 }
 
+// The weights of a baseline or a position.
+fn weights(s: u64) -> [i64; 6] {
+    let ee = above(s / 70, 200, 90);
+    let en = around(s / 80, 240, 120);
+    let eu = around(s / 90, 60, 30);
+    let nn = above(s / 110, 300, 80);
+    let nu = around(s / 130, 80, 40);
+    let uu = above(s / 170, 10400, 70);
+    [ee, en, eu, nn, nu, uu]
+}
+
 fn baseline(s: u64) -> Record {
     let from = above(s, 6, 1);
     let to = above(s / 6, 7, 0);
     let east = above(s / 40, 101000, 0);
     let north = around(s / 50, 3000, 1500);
     let up = above(s / 60, 5000, 0);
-    let ee = above(s / 70, 200, 90);
-    let en = around(s / 80, 240, 120);
-    let eu = around(s / 90, 60, 30);
-    let nn = above(s / 110, 300, 80);
-    let nu = around(s / 130, 80, 40);
-    let uu = above(s / 170, 400, 70);
     let hf = around(s / 190, 6000, 200);
     let ht = above(s / 230, 6000, 0);
-    network::baseline_of(
-        from,
-        to,
-        [east, north, up],
-        [ee, en, eu, nn, nu, uu],
-        [hf, ht],
-    )
+    network::baseline_of(from, to, [east, north, up], weights(s), [hf, ht])
+}
+
+fn position(s: u64) -> Record {
+    let station = above(s, 8, 0);
+    let east = around(s / 10, 102000, 1000);
+    let north = around(s / 50, 3000, 1500);
+    let up = above(s / 60, 5000, 98000);
+    network::position_of(station, [east, north, up], weights(s))
 }
 
 pub(crate) fn entry(s: u64) -> Record {
@@ -122,10 +129,14 @@ pub(crate) fn entry(s: u64) -> Record {
     if d == 0 {
         return Record::Empty;
     }
-    if d < 25 {
+    if d < 17 {
         let r = height(s / 50);
         return r;
     }
-    let r = baseline(s / 50);
+    if d < 34 {
+        let r = baseline(s / 50);
+        return r;
+    }
+    let r = position(s / 50);
     r
 }

@@ -2,6 +2,7 @@
 // deviations, about the largest and the smallest weight.
 // A line gives the case and then the number; documents 01 and 02 decide what stands in `stdout`.
 mod antennas;
+mod positions;
 
 use network::Network;
 use network::Record;
@@ -177,9 +178,13 @@ fn stations() -> Network {
     network::network_of(&list)
 }
 
-// The number of a record over them; 99 where they themselves break the rules.
+// The number of a record over them.
 fn judged(r: Record) -> u64 {
-    let net = stations();
+    judged_over(stations(), r)
+}
+
+// The number of a record over these stations; 99 where they themselves break the rules.
+fn judged_over(net: Network, r: Record) -> u64 {
     if network::network_fits(net) {
         return network::record_no(net, r);
     }
@@ -221,7 +226,7 @@ fn baseline(
     print_answer(judged(b));
 }
 
-// A baseline in range throughout but for its ends, its ends and observed components, or its weights.
+// A baseline in range throughout but for its ends, or its ends and observed components.
 fn ends(from: i64, to: i64) {
     observed(from, to, 500000000, 500000000, 500000000);
 }
@@ -230,6 +235,7 @@ fn observed(from: i64, to: i64, east: i64, north: i64, up: i64) {
     baseline(from, to, east, north, up, 100, 0, 0, 100, 0, 100);
 }
 
+// A baseline and a position in range throughout but for these weights.
 fn weights(ee: i64, en: i64, eu: i64, nn: i64, nu: i64, uu: i64) {
     baseline(
         1,
@@ -244,6 +250,7 @@ fn weights(ee: i64, en: i64, eu: i64, nn: i64, nu: i64, uu: i64) {
         nu,
         uu,
     );
+    positions::weights([ee, en, eu, nn, nu, uu]);
 }
 
 // From and to: in the list, outside it, equal.
@@ -296,8 +303,8 @@ fn baseline_observed() {
     observed(2, 1, -1000000000, -1000000000, -9223372036854775808);
 }
 
-// Weights on the diagonal, or alone.
-fn baseline_weights() {
+// Weights on the diagonal.
+fn diagonals() {
     // weight ee
     weights(-9223372036854775808, 0, 0, 100, 0, 100);
     weights(-1, 0, 0, 100, 0, 100);
@@ -325,7 +332,7 @@ fn baseline_weights() {
 }
 
 // Off-diagonal weights: in range with a minor that is 0, and out of range.
-fn baseline_off_diagonals() {
+fn off_diagonals() {
     // off-diagonal en
     weights(10000, -9223372036854775808, 0, 10000, 0, 10000);
     weights(10000, -10001, 0, 10000, 0, 10000);
@@ -356,7 +363,7 @@ fn baseline_off_diagonals() {
 }
 
 // Minors and determinants about 0.
-fn baseline_minors() {
+fn minors() {
     // minors en
     weights(100, -100, 0, 100, 0, 100);
     weights(100, -99, 0, 100, 0, 100);
@@ -375,10 +382,20 @@ fn baseline_minors() {
     // determinant
     weights(100, -60, -60, 100, -60, 100);
     weights(100, -40, -40, 100, -40, 100);
+    // the second leading minor and the determinant are 1
+    weights(2, 5, 0, 13, 0, 1);
+    // the second leading minor is 0, and -1
+    weights(1, 1, 0, 1, 0, 1);
+    weights(1, 2, 0, 3, 0, 1);
+    // the second leading minor is 1, the determinant 0
+    weights(1, 0, 1, 1, 0, 1);
+    weights(1, 0, 0, 1, 1, 1);
+    // the second leading minor is negative, the determinant positive
+    weights(1, 2, 2, 1, 2, 1);
 }
 
 // Each entry of the adjugate's diagonal at 16 determinants, and one more.
-fn baseline_adjugates() {
+fn adjugates() {
     // adjugate E is 16 determinants
     weights(1, 15, 0, 240, 0, 1);
     // and one more
@@ -496,7 +513,6 @@ fn height_observed() {
     height(2, 1, -9223372036854775808, 100);
 }
 
-// Weights on the diagonal, or alone.
 fn height_weights() {
     height(1, 3, 500000000, -9223372036854775808);
     height(1, 3, 500000000, -1);
@@ -569,13 +585,14 @@ fn main() {
     print_answer(judged(Record::Empty));
     baseline_ends();
     baseline_observed();
-    baseline_weights();
-    baseline_off_diagonals();
-    baseline_minors();
-    baseline_adjugates();
+    diagonals();
+    off_diagonals();
+    minors();
+    adjugates();
     baseline_misclosures();
     baseline_orders();
     antennas::run();
+    positions::run();
     height_ends();
     height_observed();
     height_weights();
