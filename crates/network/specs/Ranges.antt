@@ -15,7 +15,8 @@ use Rattle.lists.specs.Sizes.{small-at}
 use Rattle.weights.specs.Rules.{weightFits, weightsInRange}
 use Rattle.weights.specs.Ranges.{Weight, WeightsRange, SmallWeights, weight-range, weights-range, small-weights}
 use Rattle.network.specs.Records.{weightMatrixOf, reducedUp, reduced}
-use Rattle.network.specs.Rules.{observedFits, heightAboveMarkFits, coordinateFits, upInRange, baselineInRange, heightInRange, positionInRange, inRange}
+use Rattle.network.specs.Stations.{coordinateFits}
+use Rattle.network.specs.Rules.{observedFits, heightAboveMarkFits, upInRange, baselineInRange, heightInRange, positionInRange, inRange}
 use Rattle.network.specs.declared.Baseline.{Baseline}
 use Rattle.network.specs.declared.Level.{Level}
 use Rattle.network.specs.declared.Position.{Position}

@@ -9,8 +9,8 @@ use lib.Signed.{leZ}
 use Rattle.words.specs.Signed.{eqZ}
 use Rattle.lists.specs.All.{allBelow}
 use Rattle.weights.specs.Rules.{weightFits, weightsInRange, matrixFits}
-use Rattle.network.specs.Units.{mostCoordinate, mostObserved, mostMisclosure, mostHeightAboveMark}
-use Rattle.network.specs.Stations.{coordinates}
+use Rattle.network.specs.Units.{mostObserved, mostMisclosure, mostHeightAboveMark}
+use Rattle.network.specs.Stations.{coordinateFits, coordinates}
 use Rattle.network.specs.Records.{weightMatrixOf, observations, reducedUp, misclosures, isEmpty}
 use Rattle.network.specs.declared.Network.{Network}
 use Rattle.network.specs.declared.Baseline.{Baseline}
@@ -54,9 +54,6 @@ unfoldable pub heightInRange : Level → Bool
 heightInRange h = observedFits (h .up) && weightFits (h .weight)
 
 -- document 02, request 5: "three observed coordinates within the station limits and a 3×3 weight matrix under the same rules"
-abbrev pub coordinateFits : ℤ → Bool
-coordinateFits v = leb (natAbs v) mostCoordinate
-
 unfoldable pub positionInRange : Position → Bool
 positionInRange p = coordinateFits (p .east) && coordinateFits (p .north) && coordinateFits (p .up) && weightsInRange (weightMatrixOf (position p))
 

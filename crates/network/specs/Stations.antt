@@ -106,9 +106,12 @@ networkOf list = record { count = length list / 4; stations = tabulate mostStati
 abbrev pub countFits : ℕ → Bool
 countFits n = leb 1 n && leb n mostStations
 
--- "Provisional coordinates lie within ±500,000,000"
+-- "Provisional coordinates lie within ±500,000,000", and the observed ones of a position "within the station limits" (document 02, request 5)
+abbrev pub coordinateFits : ℤ → Bool
+coordinateFits v = leb (natAbs v) mostCoordinate
+
 unfoldable pub coordinatesFit : List Station → Bool
-coordinatesFit stations = allBelow mostComponents (λ q. leb (natAbs (coordinate stations q)) mostCoordinate)
+coordinatesFit stations = allBelow mostComponents (λ q. coordinateFits (coordinate stations q))
 
 -- "Unknowns …: 1 to 48 of them"
 unfoldable pub unknownsFit : List Station → Bool

@@ -6,14 +6,7 @@ use book::Change;
 use network::Record;
 use network::Unit;
 
-// Kinds of a station.
-pub(crate) const KNOWN: i64 = 1;
-
-pub(crate) const FREE: i64 = 2;
-
-pub(crate) const HEIGHT: i64 = 3;
-
-// The weight of a baseline or a position between E and N.
+// The weight of a baseline between E and N.
 const EN: i64 = 20;
 
 pub(crate) fn opened(list: &[i64]) -> Book {
@@ -39,12 +32,6 @@ fn entered(book: Book, place: i64, r: Record) -> Book {
     called(book, Call::Edit(place, Change::Enter(r)))
 }
 
-// The weights of a baseline or a position.
-fn weights() -> [i64; 6] {
-    let weight = Unit::WEIGHT_AT_MILLIMETRE;
-    [weight, EN, 0, weight, 0, weight]
-}
-
 // The book with a height difference entered.
 pub(crate) fn level(book: Book, place: i64, from: i64, to: i64, up: i64, weight: i64) -> Book {
     entered(book, place, network::height_of(from, to, up, weight))
@@ -60,21 +47,15 @@ pub(crate) fn baseline(
     north: i64,
     up: i64,
 ) -> Book {
-    let b = network::baseline_of(from, to, [east, north, up], weights(), [0, 0]);
+    let weight = Unit::WEIGHT_AT_MILLIMETRE;
+    let b = network::baseline_of(
+        from,
+        to,
+        [east, north, up],
+        [weight, EN, 0, weight, 0, weight],
+        [0, 0],
+    );
     entered(book, place, b)
-}
-
-// The book with a position entered.
-pub(crate) fn position(
-    book: Book,
-    place: i64,
-    station: i64,
-    east: i64,
-    north: i64,
-    up: i64,
-) -> Book {
-    let p = network::position_of(station, [east, north, up], weights());
-    entered(book, place, p)
 }
 
 pub(crate) fn undone(book: Book) -> Book {

@@ -1,8 +1,5 @@
 // Document 02's request 2: a record whose ends have no unknown in any component in which it acts is a check only. It adds nothing to D or T; its residuals, its verdicts and its place
 // in the count of records stay.
-use super::books::FREE;
-use super::books::HEIGHT;
-use super::books::KNOWN;
 use super::books::baseline;
 use super::books::level;
 use super::books::printed;
@@ -13,6 +10,13 @@ use super::shown::answer;
 use super::shown::show;
 use super::shown::title;
 use book::Book;
+
+// Kinds of a station.
+const KNOWN: i64 = 1;
+
+const FREE: i64 = 2;
+
+const HEIGHT: i64 = 3;
 
 // M of one unknown whose records weigh 100 in U, and 200.
 const M1: i64 = 10737418;

@@ -1,10 +1,9 @@
 // Runs the cases of document 01's "Both sides of each line" that need no text, and the limits around them, through edits and check_sheet: first those that are proved, then the
-// others, document 02's records that are checks only, and its positions. A line names the case, then come the answers to its edits (of the others, the numbers of refused ones), the
-// answer's number (and the unknown of an 11) and, where it is accepted, the sheet's words with the lent ones beyond, which are -1.
+// others, and document 02's records that are checks only. A line names the case, then come the answers to its edits (of the others, the numbers of refused ones), the answer's number
+// (and the unknown of an 11) and, where it is accepted, the sheet's words with the lent ones beyond, which are -1.
 mod books;
 mod checks_only;
 mod nine_degrees;
-mod positions;
 mod shown;
 
 use book::Book;
@@ -16,7 +15,6 @@ use books::two;
 use books::undone;
 use checks_only::checks_only;
 use nine_degrees::nine_degrees;
-use positions::positions;
 use shown::answer;
 use shown::edits;
 use shown::print_answer;
@@ -159,5 +157,4 @@ fn main() {
     history();
     disconnected();
     checks_only();
-    positions();
 }

@@ -8,7 +8,8 @@ use mir.ValLaws.{toZ-ofZ}
 use Rattle.weights.specs.Rules.{weightsInRange}
 use Rattle.network.specs.declared.Record.the-variants.{Position as position}
 use Rattle.network.specs.Records.{weightMatrixOf}
-use Rattle.network.specs.Rules.{coordinateFits, positionInRange}
+use Rattle.network.specs.Stations.{coordinateFits}
+use Rattle.network.specs.Rules.{positionInRange}
 use Rattle.network.proofs.rules.position_in_range.Statement.{statement}
 use Rattle.network.proofs.rules.position_in_range.Tie as tie
 
