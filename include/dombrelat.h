@@ -51,7 +51,7 @@ extern "C" {
 #define DOMBRELAT_RECORD_BYTES 112
 #define DOMBRELAT_SHEET_BYTES (8 * (5 + 7 * 32 + 7 * 256))
 
-/* The stack to give a thread that makes a call. tests/host/stack.c measured 135,400 bytes on x86-64 (check_sheet on a full book; an edit takes 68,968); the rest is margin. */
+/* The stack to give a thread that makes a call. tests/host/stack.c measured 135,384 bytes on x86-64 (check_sheet on a full book; an edit takes 68,984); the rest is margin. */
 #define DOMBRELAT_STACK_BYTES 163840
 
 /* Limits. */
