@@ -76,7 +76,7 @@ module _ (net : Network) (e : networkFits net ≡ true) where
       let few = network-few net e in
       (number-small from (from-in-list (net .count) from to few f), number-small to (to-in-list (net .count) from to few f))
 
-  record-small : (r : Record) → recordFits net r ≡ true → Small L (recordWords r)
+  pub record-small : (r : Record) → recordFits net r ≡ true → Small L (recordWords r)
   unfolding recordWords recordEndsFit inRange isEmpty observations
   record-small Empty f = (zero-le, (zero-le, (zero-le, (zero-le, (zero-le, (zero-le, (zero-le, (zero-le, (zero-le, (zero-le, (zero-le, (zero-le, (zero-le, (zero-le, tt))))))))))))))
   record-small (baseline b) f =
