@@ -57,10 +57,10 @@ module _ (b : Book) (o : SoundParts b) (all : allCarried b ≡ true) where
   entries-fit =
       each-below EntryFits (b .places) 256
       (λ p h f.
-        let r = recordAt (b .places) p in
-        let small = small-at L (recordWords r) (record-small (b .network) (o .network) r (o .records p)) in
-        let each = small-at L (entryOf p r) (entry-small p r h small) in
-        record { long = refl; words = λ i. fits-by (getD (entryOf p r) i (pos 0)) (each i) tt; right = entry-right p r h f (carried-at p h) })
+      let r = recordAt (b .places) p in
+      let small = small-at L (recordWords r) (record-small (b .network) (o .network) r (o .records p)) in
+      let each = small-at L (entryOf p r) (entry-small p r h small) in
+      record { long = refl; words = λ i. fits-by (getD (entryOf p r) i (pos 0)) (each i) tt; right = entry-right p r h f (carried-at p h) })
 
 -- ════ the call that it asks for
 words-back : (p : ℕ) (r : Record) → carried r ≡ true → recordWordsIn (entryOf p r) ≡ recordWords r

@@ -5,9 +5,8 @@ mod entering;
 mod records;
 mod writing;
 
-use files::FileRefusal;
-
 pub use entering::enter_file;
+use files::FileRefusal;
 pub use writing::write_file;
 
 // What the writing of a book is answered: the file's length in bytes, or why there is none.

@@ -1,5 +1,6 @@
 -- Laws that the proofs of several functions cite.
 mod Answers
+mod Filings
 mod Lent
 mod Offered
 mod Openings

@@ -17,7 +17,7 @@ use Rattle.checks.specs.AtMarks.{SameSheets}
 use Rattle.checks.specs.EnterAtMarks.{enter-at-marks}
 use Rattle.lent_checks.specs.LentChecks.{allWords, checkedLent}
 use Rattle.dombrelat.specs.CheckCalls.{checkCall, sheetCall}
-use Rattle.dombrelat.specs.Demand3.{bytesNext, bytesSays}
+use Rattle.dombrelat.specs.Calls.{bytesNext, bytesSays}
 use Rattle.dombrelat.specs.Demand3Holds.{says-same, says-fits, holds-own, edited-next}
 
 -- ════ the statement

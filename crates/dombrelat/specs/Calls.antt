@@ -35,6 +35,13 @@ through s f = cond (bytesFit s) (answeredWith s (f (bookOf s))) (refusedWith 25 
 abbrev pub editCall : List ℕ → Call → Returned
 editCall s c = through s (λ b. outcome b c)
 
+-- the bytes that it leaves, and its answer
+abbrev pub bytesNext : List ℕ → Call → List ℕ
+bytesNext s c = editCall s c .bytes
+
+abbrev pub bytesSays : List ℕ → Call → ℤ
+bytesSays s c = editCall s c .answer
+
 -- an opening, on the bytes of a station list: 25 where the book bytes are too short; a list that is not of whole stations, 32 bytes each, is refused with 1
 unfoldable pub openCall : List ℕ → List ℕ → Returned
 openCall list s =

@@ -36,62 +36,77 @@ use Rattle.lent_checks.specs.Offers.{Offers, OffersLent, lentLengths}
 use Rattle.network.specs.RecordWords.{recordWords}
 use Rattle.layout.specs.Bytes.{bookOf, bytesFit}
 use Rattle.layout.specs.Layout.{bookBytes}
+use Rattle.files.specs.Files.{reads}
+use Rattle.files.specs.Force.{fileNumber, inForce}
+use Rattle.files.specs.declared.FileRefusal.{FileRefusal}
+use Rattle.files.specs.declared.FileRefusal.the-variants.{BadPlace, NoRoom, NotCarried}
+use Rattle.files.specs.declared.Found.{Found}
+use Rattle.files.specs.declared.Found.the-variants.{InNight, InDay, Refused as notFound}
+use Rattle.book_files.specs.Writing.{bookEntries, allCarried, written, fileLeft}
+use Rattle.book_files.specs.Entering.{callsIn, entered}
+use Rattle.book_files.specs.declared.Written.{Written}
+use Rattle.book_files.specs.declared.Written.the-variants.{Length, Refused as notWritten}
+use Rattle.book_files.specs.declared.Entered.{Entered}
+use Rattle.book_files.specs.declared.Entered.the-variants.{Done, Refused as notEntered}
 use Rattle.dombrelat.specs.Calls.{Returned, refusedWith, answeredWith, through, editCall, openCall}
 use Rattle.dombrelat.specs.CheckCalls.{Judged, judgedLent, checkCall, sheetCall, distanceCall}
 use Rattle.dombrelat.specs.Proposal.{Proposes}
 use Rattle.dombrelat.specs.Reading.{numbered, gives, listWords, unknownsCall, sheetBytesCall, stationsCall, recordCall}
+use Rattle.dombrelat.specs.FileCalls.{FileEntered, writtenWord, writeCall, checkFileCall, givenFound, foundCall, enteredInto, enterCall}
+use Rattle.dombrelat.specs.FileCallLaws.{number-least, number-most, run-fits}
 use Rattle.dombrelat.specs.Demand3Holds.{opened-fits-next, edited-next}
-use Rattle.dombrelat.specs.Demand1.{Asked, toOpen, toEdit, toCheck, toCheckSheet, toCheckDistance, toPropose, toReadUnknowns, toReadSheetBytes, toReadStations, toReadRecord, Left, given, Returns, refusalIn, numberGiven, Demand1}
+use Rattle.dombrelat.specs.Demand1.{Asked, toOpen, toEdit, toCheck, toCheckSheet, toCheckDistance, toPropose, toReadUnknowns, toReadSheetBytes, toReadStations, toReadRecord, toWriteFile, toCheckFile, toFindEntry, toEnterFile, Left, given, Returns, refusalIn, unrefused, Demand1}
 
 -- ════ answers taken apart
-Told : ℕ → ℤ → Type 0
-Told k r = refusalIn r ≡ pos 0 → r ≡ numbered k
+-- an answer r without a refusal is k
+Told : ℤ → ℤ → Type 0
+Told k r = refusalIn r ≡ pos 0 → r ≡ k
 
-remainder : (n : ℕ) → refusalIn (pos n) ≡ pos 0 → n % 256 ≡ 0
+remainder : (n : ℕ) → refusalIn (pos n) ≡ pos 0 → n % 128 ≡ 0
 unfolding refusalIn
 remainder n e = ap natAbs e
 
 -- a refusal; a number of the table, 0 among them; and a number that is given
-told-refusal : (k n : ℕ) → 0 < n → n < 256 → Told k (pos n)
+told-refusal : (k : ℤ) (n : ℕ) → 0 < n → n < 128 → Told k (pos n)
 unfolding Told
 told-refusal k n h l e = absurd (let z = remainder n e in omega arith)
 
-told-small : (n : ℕ) → n < 256 → Told 0 (pos n)
+told-small : (n : ℕ) → n < 128 → Told (pos 0) (pos n)
 unfolding Told
 told-small n l e = ap pos (let z = remainder n e in omega arith)
 
-told-number : (k : ℕ) → Told k (numbered k)
+told-given : (k : ℤ) → Told k k
 unfolding Told
-told-number k e = refl
+told-given k e = refl
 
-told-either : (k : ℕ) (t : Bool) (p q : ℤ) → Told k p → Told k q → Told k (cond t p q)
+told-either : (k : ℤ) (t : Bool) (p q : ℤ) → Told k p → Told k q → Told k (cond t p q)
 told-either k true p q a b = a
 told-either k false p q a b = b
 
-told-25 : (k : ℕ) → Told k (pos 25)
+told-25 : (k : ℤ) → Told k (pos 25)
 told-25 k = told-refusal k 25 (omega arith) (omega arith)
 
 -- an answer that is no refusal gives 0 as its remainder
 given-none : (k : ℕ) → refusalIn (numbered k) ≡ pos 0
 unfolding refusalIn
-given-none k = ap pos (let z : 256 * k % 256 ≡ 0 = omega arith in z)
+given-none k = ap pos (let z : 256 * k % 128 ≡ 0 = omega arith in z)
 
 -- ════ a call that may write on one slice, which came as s: its answer tells a refusal, and then the slice stays
-record Right (k : ℕ) (s : List ℕ) (r : Returned) : Type 0 where
+record Right (k : ℤ) (s : List ℕ) (r : Returned) : Type 0 where
   told : Told k (r .answer)
   stays : (refusalIn (r .answer) ≡ pos 0 → ⊥) → r .bytes ≡ s
 
-either : (k : ℕ) (s : List ℕ) (t : Bool) (p q : Returned) → Right k s p → Right k s q → Right k s (cond t p q)
+either : (k : ℤ) (s : List ℕ) (t : Bool) (p q : Returned) → Right k s p → Right k s q → Right k s (cond t p q)
 either k s true p q a b = a
 either k s false p q a b = b
 
-refused-right : (k : ℕ) (s : List ℕ) (n : ℕ) → 0 < n → n < 256 → Right k s (refusedWith n s)
+refused-right : (k : ℤ) (s : List ℕ) (n : ℕ) → 0 < n → n < 128 → Right k s (refusedWith n s)
 refused-right k s n h l = record { told = told-refusal k n h l; stays = λ z. refl }
 
-unfit-right : (k : ℕ) (s : List ℕ) → Right k s (refusedWith 25 s)
+unfit-right : (k : ℤ) (s : List ℕ) → Right k s (refusedWith 25 s)
 unfit-right k s = refused-right k s 25 (omega arith) (omega arith)
 
-settled-right : (s : List ℕ) (e : Edited) → e .refusal < 256 → Right 0 s (answeredWith s e)
+settled-right : (s : List ℕ) (e : Edited) → e .refusal < 128 → Right (pos 0) s (answeredWith s e)
 unfolding unless
 settled-right s e l = record { told = told-small (e .refusal) l; stays = go (e .refusal) _ }
   where
@@ -108,33 +123,33 @@ opening-small w = go (stations.opens w) (openedBook (stations.networkOf w)) (ope
     go true a b = let h : 0 ≤ 9 = omega arith in h
     go false a b = let h : 1 ≤ 9 = omega arith in h
 
-opens-right : (list s : List ℕ) → Right 0 s (openCall list s)
+opens-right : (list s : List ℕ) → Right (pos 0) s (openCall list s)
 unfolding openCall
 opens-right list s =
     let e = opening (wordsAt list 0 (length list / 8)) in
-    either 0 s (leb bookBytes (length s)) (cond (eqb (length list % 32) 0) (answeredWith s e) (refusedWith 1 s)) (refusedWith 25 s)
-    (either 0 s (eqb (length list % 32) 0) (answeredWith s e) (refusedWith 1 s) (settled-right s e (let h = opening-small (wordsAt list 0 (length list / 8)) in omega arith)) (refused-right 0 s 1 (omega arith) (omega arith)))
-    (unfit-right 0 s)
+    either (pos 0) s (leb bookBytes (length s)) (cond (eqb (length list % 32) 0) (answeredWith s e) (refusedWith 1 s)) (refusedWith 25 s)
+    (either (pos 0) s (eqb (length list % 32) 0) (answeredWith s e) (refusedWith 1 s) (settled-right s e (let h = opening-small (wordsAt list 0 (length list / 8)) in omega arith)) (refused-right (pos 0) s 1 (omega arith) (omega arith)))
+    (unfit-right (pos 0) s)
 
-edit-right : (s : List ℕ) (c : Call) → Right 0 s (editCall s c)
+edit-right : (s : List ℕ) (c : Call) → Right (pos 0) s (editCall s c)
 unfolding through
 edit-right s c =
     let b = bookOf s in
-    either 0 s (bytesFit s) (answeredWith s (outcome b c)) (refusedWith 25 s)
+    either (pos 0) s (bytesFit s) (answeredWith s (outcome b c)) (refusedWith 25 s)
     (settled-right s (outcome b c) (let h = call-small (b .network) (recordAt (b .places)) (b .journal .count) c in omega arith))
-    (unfit-right 0 s)
+    (unfit-right (pos 0) s)
 
 -- ════ checks
-answer-told : (a : Answer) → Told 0 (answerWord a)
+answer-told : (a : Answer) → Told (pos 0) (answerWord a)
 unfolding Told answerWord
 answer-told Accepted e = refl
-answer-told (Refused r) e = absurd (let z : (refusalNumber r + 256 * refusalUnknown r) % 256 ≡ 0 = remainder _ e in omega (arith, refusal-least r, refusal-most r))
+answer-told (Refused r) e = absurd (let z : (refusalNumber r + 256 * refusalUnknown r) % 128 ≡ 0 = remainder _ e in omega (arith, refusal-least r, refusal-most r))
 
-check-told : (s x m : List ℕ) → Told 0 (checkCall s x m)
+check-told : (s x m : List ℕ) → Told (pos 0) (checkCall s x m)
 unfolding checkCall
-check-told s x m = told-either 0 (bytesFit s) (answerWord (checkedLent (bookOf s) x m true)) (pos 25) (answer-told _) (told-25 0)
+check-told s x m = told-either (pos 0) (bytesFit s) (answerWord (checkedLent (bookOf s) x m true)) (pos 25) (answer-told _) (told-25 (pos 0))
 
-judged-right : (a : Answer) (new old : List ℕ) → Right 0 old (record { answer = answerWord a; bytes = onAccepted a new old })
+judged-right : (a : Answer) (new old : List ℕ) → Right (pos 0) old (record { answer = answerWord a; bytes = onAccepted a new old })
 unfolding onAccepted answerWord
 judged-right a new old = record { told = answer-told a; stays = go a }
   where
@@ -142,39 +157,39 @@ judged-right a new old = record { told = answer-told a; stays = go a }
     go Accepted h = absurd (h (given-none 0))
     go (Refused r) h = refl
 
-sheet-right : (s x m sheet : List ℕ) → Right 0 sheet (record { answer = sheetCall s x m sheet .answer; bytes = sheetCall s x m sheet .sheet })
+sheet-right : (s x m sheet : List ℕ) → Right (pos 0) sheet (record { answer = sheetCall s x m sheet .answer; bytes = sheetCall s x m sheet .sheet })
 unfolding sheetCall
 sheet-right s x m sheet = go (bytesFit s) (judgedLent (checkedLent (bookOf s) x m (sheetFits (bookOf s) sheet)) (bookOf s) x m sheet) (judged-right _ _ sheet)
   where
-    go : (t : Bool) (j : Judged) → Right 0 sheet (record { answer = j .answer; bytes = j .sheet })
-        → Right 0 sheet (record { answer = cond t j (record { answer = pos 25; sheet = sheet }) .answer; bytes = cond t j (record { answer = pos 25; sheet = sheet }) .sheet })
+    go : (t : Bool) (j : Judged) → Right (pos 0) sheet (record { answer = j .answer; bytes = j .sheet })
+        → Right (pos 0) sheet (record { answer = cond t j (record { answer = pos 25; sheet = sheet }) .answer; bytes = cond t j (record { answer = pos 25; sheet = sheet }) .sheet })
     go true j o = o
-    go false j o = unfit-right 0 sheet
+    go false j o = unfit-right (pos 0) sheet
 
 -- ════ a check distance: 3, 17 and the numbers of the check's own are refusals; −2 is no refusal, but is not 0 either
-word-told : (a : Agreement) → Told 0 (agreementWord a)
+word-told : (a : Agreement) → Told (pos 0) (agreementWord a)
 unfolding Told agreementWord refusalIn
 word-told Agrees e = refl
 word-told Disagrees e = e
-word-told (refusing r) e = absurd (let z : (distanceNumber r + 256 * distanceUnknown r) % 256 ≡ 0 = remainder _ e in omega (arith, distance-least r, distance-most r))
+word-told (refusing r) e = absurd (let z : (distanceNumber r + 256 * distanceUnknown r) % 128 ≡ 0 = remainder _ e in omega (arith, distance-least r, distance-most r))
 
-distance-told : (s x m : List ℕ) (d : CheckDistance) → Told 0 (distanceCall s x m d)
+distance-told : (s x m : List ℕ) (d : CheckDistance) → Told (pos 0) (distanceCall s x m d)
 unfolding distanceCall
-distance-told s x m d = told-either 0 (bytesFit s) (agreementWord (agreementLent (bookOf s) x m d)) (pos 25) (word-told _) (told-25 0)
+distance-told s x m d = told-either (pos 0) (bytesFit s) (agreementWord (agreementLent (bookOf s) x m d)) (pos 25) (word-told _) (told-25 (pos 0))
 
 -- ════ a proposal
 record Offered (r : ℤ) (x m x′ m′ : List ℕ) : Type 0 where
-  told : Told 0 r
+  told : Told (pos 0) r
   stays : (refusalIn r ≡ pos 0 → ⊥) → (x′ ≡ x) × (m′ ≡ m)
 
 abbrev lengthsRight : List ℕ → List ℕ → List ℕ → Bool
 lengthsRight s x m = lentLengths (unknownCount (bookOf s .network .stations)) x m
 
 -- an answer that leaves both as they came
-kept : (r n : ℤ) (x m x′ m′ : List ℕ) → Told 0 n → (r ≡ n) × (x′ ≡ x) × (m′ ≡ m) → Offered r x m x′ m′
-kept r n x m x′ m′ t p = record { told = subst (Told 0) (sym (p .0)) t; stays = λ h. (p .1, p .2) }
+kept : (r n : ℤ) (x m x′ m′ : List ℕ) → Told (pos 0) n → (r ≡ n) × (x′ ≡ x) × (m′ ≡ m) → Offered r x m x′ m′
+kept r n x m x′ m′ t p = record { told = subst (Told (pos 0)) (sym (p .0)) t; stays = λ h. (p .1, p .2) }
 
-none-told : Told 0 (negsuc 0)
+none-told : Told (pos 0) (negsuc 0)
 unfolding Told refusalIn
 none-told e = e
 
@@ -182,16 +197,16 @@ offered : (s : List ℕ) (r : ℤ) (x m x′ m′ : List ℕ) → Proposes s r x
 offered s r x m x′ m′ p = go (true-or-false (bytesFit s))
   where
     pair : Offers (bookOf s) r x m x′ m′ → Offered r x m x′ m′
-    pair (inl o) = record { told = subst (Told 0) (sym (o .0)) (told-number 0); stays = λ h. absurd (h (ap refusalIn (o .0) ∙ given-none 0)) }
+    pair (inl o) = record { told = subst (Told (pos 0)) (sym (o .0)) (told-given (pos 0)); stays = λ h. absurd (h (ap refusalIn (o .0) ∙ given-none 0)) }
     pair (inr o) = kept r (negsuc 0) x m x′ m′ none-told o
 
     lent : OffersLent (bookOf s) r x m x′ m′ → (lengthsRight s x m ≡ true) ⊎ (lengthsRight s x m ≡ false) → Offered r x m x′ m′
     lent o (inl e) = pair (o .fit e)
-    lent o (inr e) = kept r (pos 10) x m x′ m′ (told-refusal 0 10 (omega arith) (omega arith)) (o .unfit e)
+    lent o (inr e) = kept r (pos 10) x m x′ m′ (told-refusal (pos 0) 10 (omega arith) (omega arith)) (o .unfit e)
 
     go : (bytesFit s ≡ true) ⊎ (bytesFit s ≡ false) → Offered r x m x′ m′
     go (inl e) = lent (p .fit e) (true-or-false _)
-    go (inr e) = kept r (pos 25) x m x′ m′ (told-25 0) (p .unfit e)
+    go (inr e) = kept r (pos 25) x m x′ m′ (told-25 (pos 0)) (p .unfit e)
 
 -- some answer is always allowed: 25, 10, or no proposal
 proposes-something : (s x m : List ℕ) → (r : ℤ) × Proposes s r x m x m
@@ -203,53 +218,113 @@ proposes-something s x m = go (true-or-false (bytesFit s)) (true-or-false (lengt
     go (inl e) (inl l) = (negsuc 0, record { unfit = λ f. clash e f; fit = λ f. record { unfit = λ g. clash l g; fit = λ g. inr (refl, refl, refl) } })
 
 -- ════ reading
-unknowns-told : (s : List ℕ) → Told (unknownCount (bookOf s .network .stations)) (unknownsCall s)
+unknowns-told : (s : List ℕ) → Told (numbered (unknownCount (bookOf s .network .stations))) (unknownsCall s)
 unfolding unknownsCall
 unknowns-told s =
-    let k = unknownCount (bookOf s .network .stations) in
-    told-either k (bytesFit s) (numbered k) (pos 25) (told-number k) (told-25 k)
+    let k = numbered (unknownCount (bookOf s .network .stations)) in
+    told-either k (bytesFit s) k (pos 25) (told-given k) (told-25 k)
 
-sheet-bytes-told : (s : List ℕ) → Told (8 * room (bookOf s .network) (bookOf s .places)) (sheetBytesCall s)
+sheet-bytes-told : (s : List ℕ) → Told (numbered (8 * room (bookOf s .network) (bookOf s .places))) (sheetBytesCall s)
 unfolding sheetBytesCall
 sheet-bytes-told s =
-    let k = 8 * room (bookOf s .network) (bookOf s .places) in
-    told-either k (bytesFit s) (numbered k) (pos 25) (told-number k) (told-25 k)
+    let k = numbered (8 * room (bookOf s .network) (bookOf s .places)) in
+    told-either k (bytesFit s) k (pos 25) (told-given k) (told-25 k)
 
-gives-right : (k : ℕ) (w : List ℤ) (out : List ℕ) → Right k out (gives k w out)
+gives-right : (k : ℕ) (w : List ℤ) (out : List ℕ) → Right (numbered k) out (gives k w out)
 unfolding gives
 gives-right k w out =
-    either k out (leb (8 * length w) (length out)) (record { answer = numbered k; bytes = putWords out 0 w }) (refusedWith 10 out)
-    (record { told = told-number k; stays = λ h. absurd (h (given-none k)) }) (refused-right k out 10 (omega arith) (omega arith))
+    either (numbered k) out (leb (8 * length w) (length out)) (record { answer = numbered k; bytes = putWords out 0 w }) (refusedWith 10 out)
+    (record { told = told-given (numbered k); stays = λ h. absurd (h (given-none k)) }) (refused-right (numbered k) out 10 (omega arith) (omega arith))
 
-stations-right : (s list : List ℕ) → Right (bookOf s .network .count) list (stationsCall s list)
+stations-right : (s list : List ℕ) → Right (numbered (bookOf s .network .count)) list (stationsCall s list)
 unfolding stationsCall
 stations-right s list =
     let k = bookOf s .network .count in
-    either k list (bytesFit s) (gives k (listWords (bookOf s .network)) list) (refusedWith 25 list) (gives-right k _ list) (unfit-right k list)
+    either (numbered k) list (bytesFit s) (gives k (listWords (bookOf s .network)) list) (refusedWith 25 list) (gives-right k _ list) (unfit-right (numbered k) list)
 
-record-right : (s : List ℕ) (place : ℤ) (out : List ℕ) → Right 0 out (recordCall s place out)
+record-right : (s : List ℕ) (place : ℤ) (out : List ℕ) → Right (pos 0) out (recordCall s place out)
 unfolding recordCall
 record-right s place out =
     let g = gives 0 (recordWords (recordAt (bookOf s .places) (placeOf place))) out in
-    either 0 out (bytesFit s) (cond (inList 256 place) g (refusedWith 2 out)) (refusedWith 25 out)
-    (either 0 out (inList 256 place) g (refusedWith 2 out) (gives-right 0 _ out) (refused-right 0 out 2 (omega arith) (omega arith))) (unfit-right 0 out)
+    either (pos 0) out (bytesFit s) (cond (inList 256 place) g (refusedWith 2 out)) (refusedWith 25 out)
+    (either (pos 0) out (inList 256 place) g (refusedWith 2 out) (gives-right 0 _ out) (refused-right (pos 0) out 2 (omega arith) (omega arith))) (unfit-right (pos 0) out)
+
+-- ════ files
+number-right : (k : ℤ) (s : List ℕ) (r : FileRefusal) → Right k s (refusedWith (fileNumber r) s)
+number-right k s r = refused-right k s (fileNumber r) (number-least r) (let h = number-most r in omega arith)
+
+length-none : (k : ℕ) → refusalIn (pos (128 * k)) ≡ pos 0
+unfolding refusalIn
+length-none k = ap pos (let z : 128 * k % 128 ≡ 0 = omega arith in z)
+
+write-right : (s file : List ℕ) → Right (pos (128 * length (bookEntries (bookOf s)))) file (writeCall s file)
+unfolding writeCall written fileLeft
+write-right s file =
+    go (bytesFit s) (leb (128 * length (bookEntries (bookOf s))) (length file)) (allCarried (bookOf s))
+  where
+    go : (t u v : Bool)
+        → Right (pos (128 * length (bookEntries (bookOf s)))) file
+        (let w = cond u (cond v (Length (128 * length (bookEntries (bookOf s)))) (notWritten NotCarried)) (notWritten NoRoom) in
+        cond t (record { answer = writtenWord w; bytes = fileLeft w (bookOf s) file }) (refusedWith 25 file))
+    go true true true = record { told = told-given _; stays = λ h. absurd (h (length-none (length (bookEntries (bookOf s))))) }
+    go true true false = number-right _ file NotCarried
+    go true false v = number-right _ file NoRoom
+    go false u v = unfit-right _ file
+
+check-file-told : (file : List ℕ) → Told (pos 0) (checkFileCall file)
+unfolding checkFileCall
+check-file-told file = told-either (pos 0) (reads file) (pos 0) (pos 18) (told-given (pos 0)) (told-refusal (pos 0) 18 (omega arith) (omega arith))
+
+found-right : (night day : List ℕ) (p : ℤ) (out : List ℕ) → Right (pos 0) out (foundCall night day p out)
+unfolding foundCall
+found-right night day p out =
+    let g = givenFound (inForce night day p) out in
+    either (pos 0) out (inList 256 p) (cond (leb 16 (length out)) g (refusedWith 10 out)) (refusedWith 2 out)
+    (either (pos 0) out (leb 16 (length out)) g (refusedWith 10 out) (shown (inForce night day p)) (number-right (pos 0) out NoRoom)) (number-right (pos 0) out BadPlace)
+  where
+    shown : (f : Found) → Right (pos 0) out (givenFound f out)
+    shown (InNight at) = record { told = told-given (pos 0); stays = λ h. absurd (h (given-none 0)) }
+    shown (InDay at) = record { told = told-given (pos 0); stays = λ h. absurd (h (given-none 0)) }
+    shown (notFound r) = number-right (pos 0) out r
+
+-- a file entered: one refused leaves the book and the answers as they came, and else the book's bytes fit
+record EntersRight (s before : List ℕ) (e : FileEntered) : Type 0 where
+  told : Told (pos 0) (e .answer)
+  stays : (refusalIn (e .answer) ≡ pos 0 → ⊥) → (e .book ≡ s) × (e .answers ≡ before)
+  fits : e .answer ≡ pos 0 → bytesFit (e .book) ≡ true
+
+enter-right : (s file before : List ℕ) → EntersRight s before (enterCall s file before)
+unfolding enterCall
+enter-right s file before = go (bytesFit s) refl (entered file (length before))
+  where
+    small : (n : ℕ) → 0 < n → n < 128 → EntersRight s before (record { answer = pos n; book = s; answers = before })
+    small n h l = record { told = told-refusal (pos 0) n h l; stays = λ z. (refl, refl); fits = λ e. absurd (let z : n ≡ 0 = ap natAbs e in omega arith) }
+
+    go : (t : Bool) → bytesFit s ≡ t → (e : Entered) → EntersRight s before (cond t (enteredInto e s file before) (record { answer = pos 25; book = s; answers = before }))
+    go true f Done = record { told = told-given (pos 0); stays = λ h. absurd (h (given-none 0)); fits = λ e. run-fits s f (callsIn file) }
+    go true f (notEntered r) = small (fileNumber r) (number-least r) (let h = number-most r in omega arith)
+    go false f e = small 25 (omega arith) (omega arith)
 
 -- ════ all calls
-told-as : (k : ℕ) (r n : ℤ) → r ≡ n → Told k n → Told k r
+told-as : (k r n : ℤ) → r ≡ n → Told k n → Told k r
 told-as k r n e t = subst (Told k) (sym e) t
 
-told-all : (asked : Asked) (r : ℤ) (left : Left) → Returns asked r left → Told (numberGiven asked) r
-unfolding Returns numberGiven
-told-all (toOpen list book) r left (e, q) = told-as 0 r _ e (opens-right list book .told)
-told-all (toEdit book c) r left (e, q) = told-as 0 r _ e (edit-right book c .told)
-told-all (toCheck book x m) r left (e, q) = told-as 0 r _ e (check-told book x m)
-told-all (toCheckSheet book x m sheet) r left (e, q) = told-as 0 r _ e (sheet-right book x m sheet .told)
-told-all (toCheckDistance book x m d) r left (e, q) = told-as 0 r _ e (distance-told book x m d)
+told-all : (asked : Asked) (r : ℤ) (left : Left) → Returns asked r left → Told (unrefused asked) r
+unfolding Returns unrefused
+told-all (toOpen list book) r left (e, q) = told-as (pos 0) r _ e (opens-right list book .told)
+told-all (toEdit book c) r left (e, q) = told-as (pos 0) r _ e (edit-right book c .told)
+told-all (toCheck book x m) r left (e, q) = told-as (pos 0) r _ e (check-told book x m)
+told-all (toCheckSheet book x m sheet) r left (e, q) = told-as (pos 0) r _ e (sheet-right book x m sheet .told)
+told-all (toCheckDistance book x m d) r left (e, q) = told-as (pos 0) r _ e (distance-told book x m d)
 told-all (toPropose book x m) r left (x′, m′, p, q) = offered book r x m x′ m′ p .told
 told-all (toReadUnknowns book) r left (e, q) = told-as _ r _ e (unknowns-told book)
 told-all (toReadSheetBytes book) r left (e, q) = told-as _ r _ e (sheet-bytes-told book)
 told-all (toReadStations book list) r left (e, q) = told-as _ r _ e (stations-right book list .told)
-told-all (toReadRecord book place out) r left (e, q) = told-as 0 r _ e (record-right book place out .told)
+told-all (toReadRecord book place out) r left (e, q) = told-as (pos 0) r _ e (record-right book place out .told)
+told-all (toWriteFile book file) r left (e, q) = told-as _ r _ e (write-right book file .told)
+told-all (toCheckFile file) r left (e, q) = told-as (pos 0) r _ e (check-file-told file)
+told-all (toFindEntry night day place found) r left (e, q) = told-as (pos 0) r _ e (found-right night day place found .told)
+told-all (toEnterFile book file answers) r left (e, q) = told-as (pos 0) r _ e (enter-right book file answers .told)
 
 -- the refusal of an answer given in two ways
 refused-as : (r n : ℤ) → r ≡ n → (refusalIn r ≡ pos 0 → ⊥) → refusalIn n ≡ pos 0 → ⊥
@@ -269,6 +344,12 @@ refused-all (toReadUnknowns book) r left (e, q) h = q
 refused-all (toReadSheetBytes book) r left (e, q) h = q
 refused-all (toReadStations book list) r left (e, q) h = q ∙ ap (λ (s : List ℕ). record { books = []; others = s ∷ [] }) (stations-right book list .stays (refused-as r _ e h))
 refused-all (toReadRecord book place out) r left (e, q) h = q ∙ ap (λ (s : List ℕ). record { books = []; others = s ∷ [] }) (record-right book place out .stays (refused-as r _ e h))
+refused-all (toWriteFile book file) r left (e, q) h = q ∙ ap (λ (s : List ℕ). record { books = []; others = s ∷ [] }) (write-right book file .stays (refused-as r _ e h))
+refused-all (toCheckFile file) r left (e, q) h = q
+refused-all (toFindEntry night day place found) r left (e, q) h = q ∙ ap (λ (s : List ℕ). record { books = []; others = s ∷ [] }) (found-right night day place found .stays (refused-as r _ e h))
+refused-all (toEnterFile book file answers) r left (e, q) h =
+    let s = enter-right book file answers .stays (refused-as r _ e h) in
+    q ∙ (λ i. record { books = s .0 i ∷ []; others = s .1 i ∷ [] })
 
 answers : (asked : Asked) → (r : ℤ) × (left : Left) × Returns asked r left
 unfolding Returns
@@ -282,6 +363,10 @@ answers (toReadUnknowns book) = (_, _, (refl, refl))
 answers (toReadSheetBytes book) = (_, _, (refl, refl))
 answers (toReadStations book list) = (_, _, (refl, refl))
 answers (toReadRecord book place out) = (_, _, (refl, refl))
+answers (toWriteFile book file) = (_, _, (refl, refl))
+answers (toCheckFile file) = (_, _, (refl, refl))
+answers (toFindEntry night day place found) = (_, _, (refl, refl))
+answers (toEnterFile book file said) = (_, _, (refl, refl))
 
 only : (x y : List ℕ) (l : List (List ℕ)) → l ≡ x ∷ [] → l ≡ y ∷ [] → x ≡ y
 only x y l p q = cc
@@ -303,6 +388,11 @@ accepted (toReadUnknowns s) left book (e, q) h = none book (left .books) (ap (λ
 accepted (toReadSheetBytes s) left book (e, q) h = none book (left .books) (ap (λ (y : Left). y .books) q) h
 accepted (toReadStations s list) left book (e, q) h = none book (left .books) (ap (λ (y : Left). y .books) q) h
 accepted (toReadRecord s place out) left book (e, q) h = none book (left .books) (ap (λ (y : Left). y .books) q) h
+accepted (toWriteFile s file) left book (e, q) h = none book (left .books) (ap (λ (y : Left). y .books) q) h
+accepted (toCheckFile file) left book (e, q) h = none book (left .books) (ap (λ (y : Left). y .books) q) h
+accepted (toFindEntry night day place found) left book (e, q) h = none book (left .books) (ap (λ (y : Left). y .books) q) h
+accepted (toEnterFile s file answers) left book (e, q) h =
+    subst (λ (k : List ℕ). bytesFit k ≡ true) (only (enterCall s file answers .book) book (left .books) (ap (λ (y : Left). y .books) q) h) (enter-right s file answers .fits (sym e))
 
 pub demand-1 : Demand1
 unfolding Told

@@ -1,6 +1,6 @@
 -- Demand 3 once more, over bytes, the statement alone (specs/Demand3Holds.antt proves it): any run of C enters, strikes and undos, each given the bytes that
 -- the call before it left, from an accepted opening on, answers as the ledger, and leaves bytes that hold the ledger's records, N and u. Assumes nothing.
---   editCall, openCall  specs/Calls.antt          what the C calls' contracts promise
+--   bytesNext, bytesSays, openCall  specs/Calls.antt   what the C calls' contracts promise: the bytes left and the answer
 --   bookOf, bytesFit   specs/Bytes.antt          the book that bytes hold, and what 25 tests
 --   Demand             book, specs/Demand3.antt  answers and a book measured by the ledger
 --   final, answers     book, specs/Run.antt      the state after a run, and the answers along it
@@ -18,13 +18,7 @@ use Rattle.book.specs.Run.{final, answers}
 use Rattle.book.specs.Demand3 as ledger
 use Rattle.layout.specs.Bytes.{bookOf, bytesFit}
 use Rattle.layout.specs.Layout.{bookBytes}
-use Rattle.dombrelat.specs.Calls.{editCall, openCall}
-
-abbrev pub bytesNext : List ℕ → Call → List ℕ
-bytesNext s c = editCall s c .bytes
-
-abbrev pub bytesSays : List ℕ → Call → ℤ
-bytesSays s c = editCall s c .answer
+use Rattle.dombrelat.specs.Calls.{bytesNext, bytesSays, openCall}
 
 -- the bytes after a run, and its answers
 abbrev pub bytesAfter : List ℕ → List ℕ → List Call → List ℕ

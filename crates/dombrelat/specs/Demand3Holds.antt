@@ -28,8 +28,8 @@ use Rattle.book.specs.Demand3Holds.{demanded}
 use Rattle.layout.specs.Bytes.{bookOf, putBook, bytesFit}
 use Rattle.layout.specs.Layout.{bookBytes}
 use Rattle.lent_edits.specs.LeavesBook.{HoldsBook, next-network, call-leaves, opened-holds}
-use Rattle.dombrelat.specs.Calls.{Returned, refusedWith, answeredWith, through, openCall}
-use Rattle.dombrelat.specs.Demand3.{bytesNext, bytesSays, bytesAfter, bytesAnswers, Demand3}
+use Rattle.dombrelat.specs.Calls.{Returned, refusedWith, answeredWith, through, bytesNext, bytesSays, openCall}
+use Rattle.dombrelat.specs.Demand3.{bytesAfter, bytesAnswers, Demand3}
 
 -- ════ rows that are calls
 rows-answers : (b : Book) (cs : List Call) → answers bookNext (λ x c. pos (bookSays x c)) b cs ≡ answers (rowNext bookNext) (rowSays bookSays) b (map Names cs)
@@ -114,6 +114,16 @@ module _ (list s : List ℕ) (o : Opened list s) where
   said : (calls : List Call) → bytesAnswers list s calls ≡ answers bookNext (λ b c. pos (bookSays b c)) (openedBook net) calls
   unfolding net
   said calls = run-answers bytesNext bytesSays bookNext (λ b c. pos (bookSays b c)) (HoldsBook s) (alike s) (openCall list s .bytes) (openedBook net) calls (holds-opened list s o)
+
+-- ════ what the bytes hold after an accepted opening and a run, and its answers: those of the book of the same calls
+module _ (list s : List ℕ) (a : openCall list s .answer ≡ pos 0) (calls : List Call) where
+  pub after-holds : HoldsBook s (bytesAfter list s calls) (final bookNext (openedBook (networkOf (wordsAt list 0 (length list / 8)))) calls)
+  unfolding net
+  after-holds = left list s (accepted list s a) calls
+
+  pub after-said : bytesAnswers list s calls ≡ answers bookNext (λ b c. pos (bookSays b c)) (openedBook (networkOf (wordsAt list 0 (length list / 8)))) calls
+  unfolding net
+  after-said = said list s (accepted list s a) calls
 
 -- ════ what an accepted opening or edit leaves is a book that the next call takes
 pub opened-fits-next : (list s : List ℕ) → openCall list s .answer ≡ pos 0 → bytesFit (openCall list s .bytes) ≡ true

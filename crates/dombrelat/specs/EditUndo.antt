@@ -21,8 +21,7 @@ use Rattle.layout.specs.Layout.{bookBytes}
 use Rattle.layout.specs.Bytes.{bookOf, putBook, bytesFit}
 use Rattle.layout.specs.CodecLaws.{read-sized, fits-room, fits-tested, writes-same, writes-over}
 use Rattle.lent_edits.specs.LeavesBook.{HoldsBook}
-use Rattle.dombrelat.specs.Calls.{Returned}
-use Rattle.dombrelat.specs.Demand3.{bytesNext, bytesSays}
+use Rattle.dombrelat.specs.Calls.{Returned, bytesNext, bytesSays}
 use Rattle.dombrelat.specs.Demand3Holds.{through-fits, says-same, stays, says-fits, holds-own, edited-next}
 
 -- ════ the statement

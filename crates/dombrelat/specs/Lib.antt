@@ -4,12 +4,16 @@ pub mod Calls
 pub mod CheckCalls
 pub mod Proposal
 pub mod Reading
+pub mod FileCalls
 pub mod Demand1
 pub mod Demand1Holds
 pub mod Demand2
 pub mod Demand2Holds
 pub mod Demand3
 pub mod Demand3Holds
+pub mod FileCallLaws
+pub mod FileRuns
+pub mod FileRoundTrip
 pub mod EditUndo
 pub mod AtMarks
 pub mod ReadingLaws

@@ -50,9 +50,9 @@ use Rattle.layout.specs.ReadBack.{station-back}
 use Rattle.layout.specs.Bytes.{bookOf, putBook, bytesFit}
 use Rattle.layout.specs.CodecLaws.{read-sized, read-stations, fits-sound}
 use Rattle.lent_checks.specs.LentChecks.{allWords}
-use Rattle.dombrelat.specs.Calls.{Returned, answeredWith, editCall, openCall}
+use Rattle.dombrelat.specs.Calls.{Returned, answeredWith, editCall, bytesNext, openCall}
 use Rattle.dombrelat.specs.Reading.{numbered, gives, listWords, stationsCall, recordCall}
-use Rattle.dombrelat.specs.Demand3.{bytesNext, bytesAfter}
+use Rattle.dombrelat.specs.Demand3.{bytesAfter}
 use Rattle.dombrelat.specs.Demand3Holds.{edited-next, opened-after}
 
 -- ════ the words of a station list

@@ -1,8 +1,8 @@
 -- Laws of files. Walking back is the same as every entry being linked (`reads-linked`). What is written reads and gives its entries back (`written-reads`,
--- `written-entries`), and a file that reads is the one that writing its entries gives (`read-written`). Assumes nothing.
+-- `written-entries`), and a file that reads is the one that writing its entries gives (`read-written`): so to read is to be the file of some entries (`reads-some`). Assumes nothing.
 use Prim.Native.Nat.{ℕ, zero, suc, _+_, _-_, _*_, _/_, _%_, _<_, _≤_, _^_}
-use mathlib.Core.Path.{_≡_, refl, sym, ap, _∙_}
-use mathlib.Core.Logic.{_⊎_, inl, inr}
+use mathlib.Core.Path.{_≡_, refl, sym, ap, _∙_, subst}
+use mathlib.Core.Logic.{_⊎_, inl, inr, _↔_}
 use mathlib.Core.Bool.{true, false, cond, _&&_}
 use mathlib.Core.List.{List, [], _∷_, _++_, append-nil, append-assoc}
 use native.Mathlib.Omega.{arith}
@@ -23,7 +23,7 @@ use Rattle.words.specs.RunLaws.{length-words, words-at, words-fit}
 use Rattle.files.specs.Bytes.{bytesOf}
 use Rattle.files.specs.BytesLaws.{length-bytes, run-bytes, words-of-bytes, bytes-of-words, words-append, words-take, put-append}
 use Rattle.files.specs.Entries.{rightWords, EntryFits, previousTrailer, entryWords, rightEntry, linkedEntry}
-use Rattle.files.specs.EntryLaws.{length-entry, first-thirteen, linked-entry, linked-is, right-thirteen, all-three, all-four, entry-fits, fits-append, fits-none}
+use Rattle.files.specs.EntryLaws.{length-entry, first-thirteen, linked-entry, linked-is, linked-right, right-thirteen, all-three, all-four, entry-fits, fits-append, fits-none}
 use Rattle.files.specs.Files.{fileWords, fileOf, rightAt, walksBack, reads, entriesFrom, entriesOf, linkedAt, linkedTo}
 
 -- ════ an entry's test, part by part
@@ -373,3 +373,18 @@ entries-more f at zero = let q : at ≡ at + 128 * 0 = omega arith in ap (λ (k 
 entries-more f at (suc n) =
     let q : at + 128 + 128 * n ≡ at + 128 * suc n = omega arith in
     ap (λ (l : List (List ℤ)). wordsAt f at 13 ∷ l) (entries-more f (at + 128) n ∙ ap (λ (k : ℕ). entriesFrom f (at + 128) n ++ (wordsAt f k 13 ∷ [])) q)
+
+-- ════ to read is to be the file of some entries
+pub entries-fit : (f : List ℕ) → Bytes f → reads f ≡ true → AllFit (entriesOf f)
+unfolding linkedAt rightAt
+entries-fit f b e i h =
+    let n = length-entries f in
+    let inside : i < length f / 128 = omega arith in
+    let right : rightEntry (wordsAt f (128 * i) 16) ≡ true = linked-right (128 * i) (wordsAt f (128 * i) 16) (length-words f (128 * i) 16) (reads-whole f e .linked i inside) in
+    subst EntryFits (sym (entry-at f i inside)) (read-fits f (128 * i) b right)
+
+pub reads-some : (f : List ℕ) → Bytes f → length f < 2 ^ 64 → (reads f ≡ true) ↔ ((es : List (List ℤ)) × AllFit es × (f ≡ fileOf es))
+reads-some f b l = (λ e. (entriesOf f, entries-fit f b e, sym (read-written f b e)), λ x. written x)
+  where
+    written : ((es : List (List ℤ)) × AllFit es × (f ≡ fileOf es)) → reads f ≡ true
+    written (es, fit, e) = let n : length f ≡ 128 * length es = ap length e ∙ length-file es (fit-long es fit) in ap reads e ∙ written-reads es fit (omega arith)

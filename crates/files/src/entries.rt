@@ -80,7 +80,9 @@ fn linked_entry(w: &[i64], at: usize) -> bool
     requires { ⌜ (length (now w) ≡ 16) × (at % 128 ≡ 0) ⌝ }
     ensures { λ r. ⌜ r ≡ linkedEntry at (now (w .entry)) ⌝ }
 {
-    right_entry(w) & words::same(w[13], words::to_signed(at as u64)) & words::same(w[14], previous_trailer(at))
+    right_entry(w)
+        & words::same(w[13], words::to_signed(at as u64))
+        & words::same(w[14], previous_trailer(at))
 }
 
 // The words of the entry that starts at byte `at`.

@@ -60,9 +60,10 @@ loop-again c =
     let l = k .before .before in
     let n = p .apply .result in
     let said : putWord (l .before .loop .answers) (8 * l .before .loop .i) (toZ w64 (ofZ w64 (pos n))) ≡ putWord (l .before .loop .answers) (8 * l .before .loop .i) (pos n) =
-    ap (putWord (l .before .loop .answers) (8 * l .before .loop .i)) (toZ-ofZ {w = w64} {z = pos n} (record { sfits = omega (arith, applied-small (p .apply .ensures)) })) in
-    (search needs,
-    entered-more _ _ _ (l .before .loop .i) (l .loop-test .taken) (l .before .loop .inv .1) (k .call-in .ensures ∙ ap callIn (k .before .entry-words .ensures)) (p .apply .ensures) (w .put-word .ensures ∙ said))
+    ap (putWord (l .before .loop .answers) (8 * l .before .loop .i)) (toZ-ofZ {w = w64} {z = pos n} (record { sfits = omega (arith, applied-small (p .apply .ensures)) })) in (
+      search needs,
+      entered-more _ _ _ (l .before .loop .i) (l .loop-test .taken) (l .before .loop .inv .1) (k .call-in .ensures ∙ ap callIn (k .before .entry-words .ensures)) (p .apply .ensures) (w .put-word .ensures ∙ said),
+    )
 
 same-length : tie.Need-same-length Inv-loop μ-loop
 same-length c = search needs

@@ -39,9 +39,10 @@ returns-3 : tie.Need-returns-3
 returns-3 c =
     let w = c .before .before in
     let q = w .before .before in
-    let e = q .before .before in
-    (written-length _ _ (e .before .count-entries .ensures .0) (omega arith) (sym (q .before .all-carried .ensures) ∙ not-false _ (q .if2 .left)),
-    file-left _ _ (e .before .count-entries .ensures .0) (omega arith) (w .write-entries .ensures))
+    let e = q .before .before in (
+      written-length _ _ (e .before .count-entries .ensures .0) (omega arith) (sym (q .before .all-carried .ensures) ∙ not-false _ (q .if2 .left)),
+      file-left _ _ (e .before .count-entries .ensures .0) (omega arith) (w .write-entries .ensures),
+    )
 
 pub write-file-spec : {M : Type 1} → statement M
 write-file-spec =
