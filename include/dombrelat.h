@@ -11,17 +11,19 @@
  * Nothing else: every call answers every input. A refused call writes nothing at all.
  *
  * The calls keep no state and allocate nothing, so they are re-entrant: threads may call at the same time, on books of their own. One book has one writer at a time (open, enter,
- * strike and undo write), and nobody reads it meanwhile; calls that only read may share it.
+ * also of a file, strike and undo write), and nobody reads it meanwhile; calls that only read may share it. Files are lent as books are.
  *
- * A result is refusal + 256 * number. DOMBRELAT_REFUSAL(result) is 0 (done, accepted or agreed) or the refusal's number: DOMBRELAT_ constants below, in words in docs/REFUSALS.md. Where
- * several apply, the lowest number is given, but DOMBRELAT_BAD_BOOK comes before all others, and DOMBRELAT_BAD_DISTANCE before 10 to 16. DOMBRELAT_NUMBER(result) is the number
- * that a call gives: the unknown of DOMBRELAT_UNTIED, or what a reading call counts; otherwise 0. Two results are negative and stand by themselves, DOMBRELAT_NO_PROPOSAL and
+ * A result is refusal + 256 * number, but for dombrelat_write_file, whose result is a refusal or a length in bytes as it is, a multiple of 128. DOMBRELAT_REFUSAL(result) is 0 (done,
+ * accepted, agreed, or a length) or the refusal's number: DOMBRELAT_ constants below, all of them less than 128, in words in docs/REFUSALS.md. Where several apply, the lowest number is
+ * given, but DOMBRELAT_BAD_BOOK comes before all others, and DOMBRELAT_BAD_DISTANCE before 10 to 16. DOMBRELAT_NUMBER(result) is the number that a call gives: the unknown of
+ * DOMBRELAT_UNTIED, or what a reading call counts; otherwise 0. It is not for a length. Two results are negative and stand by themselves, DOMBRELAT_NO_PROPOSAL and
  * DOMBRELAT_DISAGREES: DOMBRELAT_REFUSAL gives them as they are. So a switch goes through DOMBRELAT_REFUSAL, since no result is DOMBRELAT_UNTIED itself:
  *
  *     switch (DOMBRELAT_REFUSAL(result)) {
  *     case DOMBRELAT_UNTIED: printf("unknown %d\n", (int)DOMBRELAT_NUMBER(result)); break; ...
  *
- * To link: `rt staticlib dombrelat` writes target/staticlib/libdombrelat.a, for x86-64 Linux; `cc -Iinclude host.c target/staticlib/libdombrelat.a`. examples/host.c is a whole program.
+ * To link: `rt staticlib dombrelat` writes target/staticlib/libdombrelat.a, for x86-64 Linux; `cc -Iinclude host.c target/staticlib/libdombrelat.a`. examples/host.c is a whole program,
+ * examples/files.c another, with files.
  */
 #ifndef DOMBRELAT_H
 #define DOMBRELAT_H
@@ -38,7 +40,7 @@ extern "C" {
  * place or overwrite it, stand in place of four calls that added or replaced, and DOMBRELAT_PLACE_EMPTY (7) in place of DOMBRELAT_PLACE_TAKEN. 4: dombrelat_enter_baseline takes two
  * numbers more, the antenna heights. Compile a host anew with the header of its library: an object made with an earlier header passes no heights, and no linker tells; a host that
  * declares the call itself adds them to its declaration. 5: there is a third kind of record, the position (dombrelat_enter_position), which dombrelat_record gives as kind 4, and at
- * whose station a chain of records may end.
+ * whose station a chain of records may end. A new call leaves the version as it is, since a linker tells where it is missing: the calls on files came after the others of 5.
  * The bytes of a book have a number of their own, that of their layout: it is 3, the book's first word. Books of versions 1 to 3 have 1 there, those of version 4 have 2: both are
  * refused with 25; docs/BOOK.md says how to take one over. */
 #define DOMBRELAT_VERSION 5
@@ -50,6 +52,9 @@ extern "C" {
 #define DOMBRELAT_STATION_BYTES 32
 #define DOMBRELAT_RECORD_BYTES 112
 #define DOMBRELAT_SHEET_BYTES (8 * (5 + 7 * 32 + 7 * 256))
+
+/* The bytes of an entry in a file. */
+#define DOMBRELAT_ENTRY_BYTES 128
 
 /* The stack to give a thread that makes a call. tests/host/stack.c measured 135,384 bytes on x86-64 (check_sheet on a full book; an edit takes 68,984); the rest is margin. */
 #define DOMBRELAT_STACK_BYTES 163840
@@ -75,6 +80,16 @@ extern "C" {
 #define DOMBRELAT_FREE 2   /* E, N, U unknown */
 #define DOMBRELAT_HEIGHT 3 /* U unknown; E, N held */
 
+/* Kinds of record as dombrelat_record gives them, where 0 is an empty place, and of entry in a file, which is of the first three. */
+#define DOMBRELAT_BASELINE_KIND 1
+#define DOMBRELAT_HEIGHT_DIFFERENCE_KIND 2
+#define DOMBRELAT_STRIKE_KIND 3   /* in a file alone: no record is of this kind */
+#define DOMBRELAT_POSITION_KIND 4 /* in a book alone: no file carries it */
+
+/* Which file holds the entry in force. */
+#define DOMBRELAT_NIGHT 1
+#define DOMBRELAT_DAY 2
+
 /* Refusals. */
 #define DOMBRELAT_BAD_STATIONS 1      /* open: not 1 to 32 whole stations, a kind that is none, a coordinate beyond 500,000,000, or not 1 to 48 unknowns */
 #define DOMBRELAT_BAD_PLACE 2         /* the place is not 1 to 256 */
@@ -94,12 +109,15 @@ extern "C" {
 #define DOMBRELAT_BAD_RESIDUAL 15     /* x does not solve the normal equations nearly enough */
 #define DOMBRELAT_BAD_SOLUTION 16     /* x may be further than one unit from the least squares answer */
 #define DOMBRELAT_BAD_DISTANCE 17     /* check_distance: a height not 0 to 300,000, a distance not 1 to 1,800,000,000, a tolerance not 0 to 100,000 or not below the distance */
+#define DOMBRELAT_BAD_FILE 18         /* the lent bytes of a file, or of either file, do not read: damaged, cut off within an entry, or not a file */
+#define DOMBRELAT_NOT_CARRIED 19      /* write_file: a record that no file carries, a position or a baseline with an antenna height that is not 0 */
+#define DOMBRELAT_NO_ENTRY 20         /* entry_in_force: neither file has an entry for the place */
 #define DOMBRELAT_BAD_BOOK 25         /* the lent book bytes are too short, damaged, of another layout (versions 1 to 4), or not a book */
 #define DOMBRELAT_NO_PROPOSAL (-1)    /* propose: no pair that the check accepts was found */
 #define DOMBRELAT_DISAGREES (-2)      /* check_distance: the distance does not agree with the sheet; an answer, as 0 is */
 
-/* A result taken apart. The number of DOMBRELAT_UNTIED is the first unknown without a chain, counted from 1. */
-#define DOMBRELAT_REFUSAL(result) ((result) % 256)
+/* A result taken apart; that of dombrelat_write_file is a length where DOMBRELAT_REFUSAL is 0. The number of DOMBRELAT_UNTIED is the first unknown without a chain, counted from 1. */
+#define DOMBRELAT_REFUSAL(result) ((result) % 128)
 #define DOMBRELAT_NUMBER(result) ((result) / 256)
 #define DOMBRELAT_UNTIED_UNKNOWN(result) DOMBRELAT_NUMBER(result)
 
@@ -176,6 +194,30 @@ int64_t dombrelat_stations(const uint8_t *book, size_t book_bytes, uint8_t *list
  * NU, UU, from_height, to_height. A height difference has its difference in U and its weight in UU; what a record does not use is 0. U is as it was observed: of a baseline, from mark
  * to mark it is word 5 + word 12 - word 13, counted from 0. Bytes beyond stay. Refusals: 25, 2, 10 (less than 112 bytes). */
 int64_t dombrelat_record(const uint8_t *book, size_t book_bytes, int64_t place, uint8_t *record, size_t record_bytes);
+
+/* Files: records and strikes as the depot exchanges them. A file is entries end to end, 128 bytes each: sixteen words. The first thirteen are kind (1 baseline, 2 height difference,
+ * 3 strike), place (1 to 256), from, to, observed E, N, U, weights EE, EN, EU, NN, NU, UU; a height difference has its difference in U and its weight in UU, a strike its place alone,
+ * and what a kind does not use is 0. The last three are the trailer: the byte at which the entry starts, the byte at which the trailer of the entry before it starts (-1 in the first
+ * entry), and the sum of the fifteen words before it modulo 2^64. A file reads where all of that holds of every entry, and else is refused with 18. Stations, observed values and weights
+ * are judged when they are entered, and not before. No bytes are a file without entries, which reads. docs/FILES.md has an entry word by word, and a file as an example. */
+
+/* Writes the records of a book as a file, by rising place, and gives its length: 128 bytes a record, 0 for a book without records. The history is not in it. Bytes beyond stay.
+ * Refusals, in this order: 25, 10 (the file has less than 128 bytes a record, those among them that it could not carry), 19. */
+int64_t dombrelat_write_file(const uint8_t *book, size_t book_bytes, uint8_t *file, size_t file_bytes);
+
+/* Whether a file reads: 0 where it does. Refusals: 18. */
+int64_t dombrelat_check_file(const uint8_t *file, size_t file_bytes);
+
+/* Finds the entry in force for a place (1 to 256): the latest that the night file has for it, and where it has none the latest of the day file. 0, and in found two words: the file that
+ * holds it, DOMBRELAT_NIGHT or DOMBRELAT_DAY, and the byte at which the entry starts there. Where the latest of the night file is a strike it is that strike, whatever the day file has.
+ * Bytes beyond stay. Refusals, in this order: 2, 10 (found has less than 16 bytes), 18 (either file does not read, also where the other one has the entry), 20. */
+int64_t dombrelat_entry_in_force(const uint8_t *night, size_t night_bytes, const uint8_t *day, size_t day_bytes, int64_t place, uint8_t *found, size_t found_bytes);
+
+/* Makes the entries of a file in their order, each as a call of its own: kind 1 as dombrelat_enter_baseline with antenna heights 0, kind 2 as dombrelat_enter_height, kind 3 as
+ * dombrelat_strike. Word i of answers is what the call of entry i gave, both counted from 0: 0, or 3 to 7. An entry that is refused changes nothing, and the next one is made all the same;
+ * one that is accepted is an edit, which an undo takes back by itself. Bytes of the answers beyond stay. 0 where the file was gone through, whatever the answers. Refusals, in this order,
+ * by which no entry is made and no answer written: 25, 10 (the answers have less than 8 bytes for each whole 128 bytes of the file), 18. */
+int64_t dombrelat_enter_file(uint8_t *book, size_t book_bytes, const uint8_t *file, size_t file_bytes, uint8_t *answers, size_t answers_bytes);
 
 #ifdef __cplusplus
 }
