@@ -174,6 +174,77 @@ POSITIONS = {
     'one position more': {'known': 5, 'free': 26, 'height': 9},
 }
 
+# tests/host/files.py. Each word of an entry changed alone: with its sum wrong none reads; with it right, words that the kind uses and that are judged only when entered do, and of the
+# kind and the place some values. Then the ways of damage: two of them leave a file, some may. What is shown, each set of refusals that apply, rooms, and what was written and entered.
+USED_WORDS = {'baseline': range(2, 13), 'height difference': (2, 3, 6, 12), 'strike': ()}      # beside the kind and the place
+
+
+def one_word(kind, word):
+    """What came of a file of which this word, with its sum right, is another. A baseline uses all words, which any other kind has to be 0."""
+    if word in USED_WORDS[kind]:
+        return {'read': 20}
+    if word == 1 or word == 0 and kind != 'baseline':
+        return {'read': 1, 'refused': 15}
+    return {'refused': 18}
+
+
+def sets_in_force():
+    """The sets of refusals that may apply to an entry in force: a place beyond 1 to 256 has no entry either."""
+    sets = itertools.product(('', '2'), ('', '10'), ('', '18 night'), ('', '18 day'), ('', '20'))
+    return [', '.join(filter(None, names)) or 'nothing' for names in sets if names[0] == '' or names[-1] == '20']
+
+
+def sets_of(*numbers):
+    return [', '.join(filter(None, names)) or 'nothing' for names in itertools.product(*(('', number) for number in numbers))]
+
+
+FILES = {
+    **{'word %d of a %s, its sum wrong' % (word, kind): {'refused': 18} for kind, word in itertools.product(USED_WORDS, range(16))},
+    **{'word %d of a %s, its sum right' % (word, kind): one_word(kind, word) for kind, word in itertools.product(USED_WORDS, range(15))},
+    'places of entries': {**dict.fromkeys(('%d: refused' % place for place in (0, 257, -1, 2 ** 32 + 1, 2 ** 62, 2 ** 63 - 1, -2 ** 63)), 3), '1: read': 3, '256: read': 3},
+    'places asked for': dict.fromkeys((0, 1, 256, 257, -1, 2 ** 32 + 1, 2 ** 62, 2 ** 63 - 1, -2 ** 63), 2),
+    'random whole files': {0: 400, 1: 380, 2: 800, 3: 800},              # by entries; 3 is three or more
+    **dict.fromkeys((
+        'a bit', 'a word', 'the front cut off', 'two entries exchanged', 'an entry left out', 'an entry twice', 'bytes appended', 'two files in one', 'the first points back',
+        'a later one without a previous', 'a trailer that points elsewhere', 'the whole moved', 'a gap', 'the later entries as a file', 'a place beyond'), {'refused': 70}),
+    'cut': {'refused': 70, 'read': 0},
+    **dict.fromkeys(('cut between entries', 'an entry appended'), {'read': 70}),
+    'a word, the sum right': {'refused': 45, 'read': 30},
+    **dict.fromkeys(('two words of an entry exchanged', 'two words changed, the sum right'), {'refused': 55, 'read': 16}),
+    'check_file': {0: 3000, 18: 3200},
+    'entry_in_force': {0: 1500, 2: 950, 10: 400, 18: 1400, 20: 850},
+    'shown': {**dict.fromkeys(('a record of the day file, the other has nothing', 'a record of the night file, the other has nothing', 'a record of the night file, the other has a record'), 250),
+              **dict.fromkeys(('a strike of the day file, the other has nothing', 'a strike of the night file, the other has nothing', 'a strike of the night file, the other has a record',
+                               'a record of the night file, the other has a strike'), 110), 'a strike of the night file, the other has a strike': 50},
+    'entries for the place in the file that is shown': {'one': 850, 'several': 600},
+    'what refuses an entry in force': dict.fromkeys(sets_in_force(), 6),
+    'what refuses write_file': dict.fromkeys(sets_of('25', '10', '19'), 30),
+    'what refuses enter_file': dict.fromkeys(sets_of('25', '10', '18'), 30),
+    'write_file': {0: 1100, 10: 1100, 19: 1500, 25: 300},
+    'enter_file': {0: 430, 10: 350, 18: 420, 25: 300},
+    'answers to entries': {
+        'baseline: 0': 5000, 'baseline: 3': 140, 'baseline: 4': 330, 'baseline: 5': 210, 'baseline: 6': 190, 'height difference: 0': 5700, 'height difference: 3': 140,
+        'height difference: 4': 55, 'height difference: 6': 55, 'strike: 0': 1600, 'strike: 7': 1900},
+    'room for a file': {**{name + ': written': 240 for name in ('as asked', 'a byte long', 'an item long', 'far longer')},
+                        **{name + ': refused': 360 for name in ('as asked', 'a byte short', 'an item short', 'a byte long', 'an item long', 'far longer')}},
+    'room for answers': {**{name + ': 0': 22 for name in ('as asked', 'a byte long', 'an item long', 'far longer')},
+                         **{name + ': 18': 2 for name in ('as asked', 'a byte long', 'an item long', 'far longer')}, 'a byte short: 10': 22, 'an item short: 10': 22},
+    'a part of an entry at the end': {10: 240, 18: 360},
+    'not carried': dict.fromkeys(('%s at %s' % at for at in itertools.product(
+        ('a position', 'a height at from', 'a height at to', 'two heights'), ('1', '256', 'a place between'))), 30),
+    'damaged books': {'refused': 180, 'read': 20},
+    'round trips by records': {**dict.fromkeys((0, 1, 2, 63, 64, 65, 255, 256), 6), 'others': 20},
+    'large files': {'read': 1, 'refused': 3, 'entered': 1},
+    'words in docs/FILES.md': {'compared': 32},
+    'open': {0: 150},
+    'enter_baseline': {0: 370, 2: 0, 3: 0, 4: 0, 5: 0, 6: 0},             # refused edits by themselves are for calls.py
+    'enter_height': {0: 85, 2: 0, 3: 0, 4: 0, 6: 0},
+    'enter_position': {0: 220, 2: 0, 3: 0, 4: 0, 5: 0, 6: 0},
+    'strike': {0: 35, 2: 0, 7: 0},
+    'undo': {0: 2200, 8: 0},
+    'record': {0: 21_000},
+}
+
 # tests/host/flips.py, by the part of the book; the antenna heights and the words of positions are among the places and the journal
 FLIPS = {
     'flips': {'tried': 449_792},

@@ -1,6 +1,6 @@
 """What each C call answers and writes, by documents 01 and 02, include/dombrelat.h and docs/BOOK.md, independently of the library.
 
-A result is the refusal's number plus 256 times the number that the call gives. A book is given as a layout.Book; bytes that hold none are refused with 25 before all else."""
+A result is the refusal's number plus 256 times the number that the call gives; that of write_file is its number or a length, a multiple of 128. A book is given as a layout.Book; bytes that hold none are refused with 25 before all else."""
 import struct
 
 from layout import BYTES, PLACES, Book, record_words
@@ -10,12 +10,13 @@ EDITS = ('enter_baseline', 'enter_height', 'enter_position', 'strike', 'undo')
 CHECKS = ('check', 'check_sheet')
 READINGS = ('unknowns', 'sheet_bytes', 'stations', 'record')
 ON_BOOKS = EDITS + CHECKS + ('check_distance', 'propose') + READINGS
+FILE_CALLS = ('write_file', 'check_file', 'entry_in_force', 'enter_file')      # what they answer is in tests/reference/files.py
 NO_BOOK, BAD_LIST, BAD_PLACE, BAD_LENGTHS, NO_PROPOSAL = 25, 1, 2, 10, -1
 
 
 def refusal(result):
     """DOMBRELAT_REFUSAL: C's remainder, so that −1 and −2 stay"""
-    return result % 256 if result >= 0 else result
+    return result % 128 if result >= 0 else result
 
 
 def result_of(answer):
