@@ -1,8 +1,9 @@
-/* The stack that a call takes at most, on a full book: 32 stations, 48 unknowns, 256 records, each eighth a position, a journal of 64. Each call runs on a painted stack of its own,
- * and what is no longer painted was used. Prints the largest, in bytes; ends in 1 where it is more than the header says, more than the budget of 150,000 bytes, or where a call is
- * refused. */
+/* The stack that a call takes at most, on a full book: 32 stations, 48 unknowns, 256 records, each eighth a position, a journal of 64. The calls on files come after: files
+ * of 3 and of 10,000 entries are entered, read and asked, and the book that they filled is written. Each call runs on a painted stack of its own, and what is no longer painted was used. Prints the
+ * largest, in bytes; ends in 1 where it is more than the header says, more than the budget of 150,000 bytes, where a call is refused, or where one takes more on the longer file. */
 #define _GNU_SOURCE
 #include "dombrelat.h"
+#include "entries.h"
 
 #include <pthread.h>
 #include <stdio.h>
@@ -13,8 +14,14 @@
 #define PAINT 0xA5
 #define BUDGET 150000u
 #define CALLS 18
+#define FEW 3
+#define MANY 10000
+#define SLACK 64u /* a frame may begin at another remainder */
 
-static uint8_t book[DOMBRELAT_BOOK_BYTES];
+static uint8_t book[DOMBRELAT_BOOK_BYTES], carried[DOMBRELAT_BOOK_BYTES];
+static uint8_t file[MANY * ENTRY_BYTES], day[MANY * ENTRY_BYTES], written[DOMBRELAT_PLACES * ENTRY_BYTES];
+static int64_t found[2], answers[MANY];
+static size_t length;
 static int64_t stations[DOMBRELAT_STATIONS][4], x[DOMBRELAT_UNKNOWNS], m[DOMBRELAT_UNKNOWNS * DOMBRELAT_UNKNOWNS];
 static int64_t sheet[DOMBRELAT_SHEET_BYTES / 8];
 static int which;
@@ -56,48 +63,111 @@ static void *run(void *unused) {
     return NULL;
 }
 
-int main(void) {
+/* The calls on files; those that read one take its first `length` bytes. */
+static void write_one(void) { answer = dombrelat_write_file(carried, sizeof carried, written, sizeof written); }
+static void check_one(void) { answer = dombrelat_check_file(file, length); }
+static void ask_one(void) { answer = dombrelat_entry_in_force(file, length, day, length, 1, (uint8_t *)found, sizeof found); }
+static void enter_one(void) { answer = dombrelat_enter_file(carried, sizeof carried, file, length, (uint8_t *)answers, sizeof answers); }
+static void (*file_call)(void);
+
+static void *run_file_call(void *unused) {
+    file_call();
+    return unused;
+}
+
+/* The bytes of stack that a call takes, which is printed with its name. A refused call ends the program. */
+static size_t stack_of(const char *name, void *(*call)(void *)) {
+    uint8_t *stack;
+    size_t unused = 0;
+    pthread_attr_t attr;
+    pthread_t thread;
+    if (posix_memalign((void **)&stack, 4096, SIZE)) {
+        exit(1);
+    }
+    memset(stack, PAINT, SIZE);
+    pthread_attr_init(&attr);
+    pthread_attr_setstack(&attr, stack, SIZE);
+    if (pthread_create(&thread, &attr, call, NULL) || pthread_join(thread, NULL)) {
+        exit(1);
+    }
+    while (unused < SIZE && stack[unused] == PAINT) {
+        unused++;
+    }
+    free(stack);
+    fprintf(stderr, "%s: %zu bytes\n", name, SIZE - unused);
+    if (DOMBRELAT_REFUSAL(answer)) {
+        fprintf(stderr, "%s is refused with %lld\n", name, (long long)answer);
+        exit(1);
+    }
+    return SIZE - unused;
+}
+
+static size_t larger(size_t a, size_t b) { return a > b ? a : b; }
+
+/* The largest of the calls on a book. Once it is open, it is filled but for the last place. */
+static size_t most_on_books(void) {
     static const char *const calls[CALLS] = {"open", "enter_baseline", "enter_baseline over a record", "enter_position over a record", "enter_height over a record", "strike",
                                              "enter_height", "undo", "undo", "undo", "propose", "check", "check_sheet", "unknowns", "sheet_bytes", "stations", "record",
                                              "check_distance"};
     size_t most = 0;
     int k;
+    for (which = 0; which < CALLS; which++) {
+        most = larger(most, stack_of(calls[which], run));
+        for (k = 1; which == 0 && k < DOMBRELAT_PLACES; k++) {
+            if (k % 8 == 5 ? position(k, k % 5) : baseline(k, k % 5)) {
+                exit(1);
+            }
+        }
+    }
+    return most;
+}
+
+/* The larger of what a call takes on the files of FEW and of MANY entries; where it takes more on the longer one, the program ends. */
+static size_t stack_on_files(const char *name, void (*call)(void)) {
+    size_t few, many;
+    file_call = call;
+    length = FEW * ENTRY_BYTES;
+    few = stack_of(name, run_file_call);
+    length = sizeof file;
+    many = stack_of(name, run_file_call);
+    if (many > few + SLACK) {
+        fprintf(stderr, "%s takes more on a longer file\n", name);
+        exit(1);
+    }
+    return larger(few, many);
+}
+
+/* The largest of the calls on files. A book is filled by the longer one, whose records are all accepted, and written. */
+static size_t most_on_files(void) {
+    size_t most;
+    int k;
+    put_file(day, MANY);
+    put_file(file, MANY);
+    if (dombrelat_open((const uint8_t *)stations, sizeof stations, carried, sizeof carried)) {
+        exit(1);
+    }
+    most = stack_on_files("enter_file", enter_one);
+    for (k = 0; k < MANY; k++) {
+        if (answers[k] && answers[k] != DOMBRELAT_PLACE_EMPTY) {
+            fprintf(stderr, "entry %d is refused with %lld\n", k, (long long)answers[k]);
+            exit(1);
+        }
+    }
+    most = larger(most, stack_on_files("check_file", check_one));
+    most = larger(most, stack_on_files("entry_in_force", ask_one));
+    file_call = write_one;
+    return larger(most, stack_of("write_file", run_file_call));
+}
+
+int main(void) {
+    size_t most;
+    int k;
     for (k = 0; k < DOMBRELAT_STATIONS; k++) {
         stations[k][0] = k < 14 ? DOMBRELAT_FREE : k < 20 ? DOMBRELAT_HEIGHT : DOMBRELAT_KNOWN;
         stations[k][1] = 10 * k, stations[k][2] = -10 * k, stations[k][3] = k;
     }
-    for (which = 0; which < CALLS; which++) {
-        uint8_t *stack;
-        size_t used = 0;
-        pthread_attr_t attr;
-        pthread_t thread;
-        if (posix_memalign((void **)&stack, 4096, SIZE)) {
-            return 1;
-        }
-        memset(stack, PAINT, SIZE);
-        pthread_attr_init(&attr);
-        pthread_attr_setstack(&attr, stack, SIZE);
-        if (pthread_create(&thread, &attr, run, NULL) || pthread_join(thread, NULL)) {
-            return 1;
-        }
-        while (used < SIZE && stack[used] == PAINT) {
-            used++;
-        }
-        free(stack);
-        used = SIZE - used;
-        fprintf(stderr, "%s: %zu bytes\n", calls[which], used);
-        if (DOMBRELAT_REFUSAL(answer)) {
-            fprintf(stderr, "%s is refused with %lld\n", calls[which], (long long)answer);
-            return 1;
-        }
-        most = used > most ? used : most;
-        /* once it is open, the book is filled but for the last place */
-        for (k = 1; which == 0 && k < DOMBRELAT_PLACES; k++) {
-            if (k % 8 == 5 ? position(k, k % 5) : baseline(k, k % 5)) {
-                return 1;
-            }
-        }
-    }
+    most = most_on_books();
+    most = larger(most, most_on_files());
     printf("%zu\n", most);
     return most > DOMBRELAT_STACK_BYTES || most > BUDGET;
 }
