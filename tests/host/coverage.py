@@ -201,6 +201,7 @@ def sets_of(*numbers):
 FILES = {
     **{'word %d of a %s, its sum wrong' % (word, kind): {'refused': 18} for kind, word in itertools.product(USED_WORDS, range(16))},
     **{'word %d of a %s, its sum right' % (word, kind): one_word(kind, word) for kind, word in itertools.product(USED_WORDS, range(15))},
+    'each bit flipped': {'refused': 3 * 8 * 128},
     'places of entries': {**dict.fromkeys(('%d: refused' % place for place in (0, 257, -1, 2 ** 32 + 1, 2 ** 62, 2 ** 63 - 1, -2 ** 63)), 3), '1: read': 3, '256: read': 3},
     'places asked for': dict.fromkeys((0, 1, 256, 257, -1, 2 ** 32 + 1, 2 ** 62, 2 ** 63 - 1, -2 ** 63), 2),
     'random whole files': {0: 400, 1: 380, 2: 800, 3: 800},              # by entries; 3 is three or more
@@ -211,7 +212,7 @@ FILES = {
     **dict.fromkeys(('cut between entries', 'an entry appended'), {'read': 70}),
     'a word, the sum right': {'refused': 45, 'read': 30},
     **dict.fromkeys(('two words of an entry exchanged', 'two words changed, the sum right'), {'refused': 55, 'read': 16}),
-    'check_file': {0: 3000, 18: 3200},
+    'check_file': {0: 3000, 18: 4700},
     'entry_in_force': {0: 1500, 2: 950, 10: 400, 18: 1400, 20: 850},
     'shown': {**dict.fromkeys(('a record of the day file, the other has nothing', 'a record of the night file, the other has nothing', 'a record of the night file, the other has a record'), 250),
               **dict.fromkeys(('a strike of the day file, the other has nothing', 'a strike of the night file, the other has nothing', 'a strike of the night file, the other has a record',

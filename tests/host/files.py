@@ -1,5 +1,5 @@
 """Files of entries on the static library, from a fixed seed: every answer and every byte of every lent slice against the independent implementation in tests/reference. Each word of an
-entry changed alone, with its sum wrong and right; random files of any entries, whole and damaged in each way of damaged_files.py; the entry in force in each case of two files. Books
+entry changed alone, with its sum wrong and right; each bit flipped; random files of any entries, whole and damaged in each way of damaged_files.py; the entry in force in each case of two files. Books
 written in rooms of just the bytes, fewer and more, with a record that no file carries at any place, and damaged; files entered among other edits and undos, whole, damaged and with too
 few answers; each set of refusals that apply. What is written and entered on a new book of the same stations gives the same records, N and u. Files of 10,000 entries, and the one that
 docs/FILES.md prints. Fails too where it meets less than coverage.py asks. Prints 'N passed, M failed' last.
@@ -103,6 +103,14 @@ class Files(Edits):
                 if other != data:
                     what = 'word %d of a %s, its sum %s' % (word, KINDS[kind], 'right' if mended else 'wrong')
                     self.coverage.note(what, 'read' if self.check_file(other) else 'refused')
+
+    def each_bit(self):
+        """Each bit of a file of an entry of each kind flipped: none reads, since a flip changes the sum, or what it is compared with, by a power of 2."""
+        data = files.write([files.entry_of(9, survey.Baseline(1, 2, (10, -20, 30), (100, 3, -2, 120, 1, 90))), files.entry_of(9, survey.Level(2, 1, -30, 100)), files.entry_of(9, None)])
+        for bit in range(8 * len(data)):
+            flipped = bytearray(data)
+            flipped[bit // 8] ^= 1 << bit % 8
+            self.coverage.note('each bit flipped', 'read' if self.check_file(bytes(flipped)) else 'refused')
 
     def places(self):
         """In an entry, and asked for."""
@@ -333,6 +341,7 @@ class Files(Edits):
         self.same('the calls on files of the header', [name for name in header.calls if 'file' in name or 'entry' in name], list(FILE_CALLS))
         self.document()
         self.each_word()
+        self.each_bit()
         self.places()
         for turn in range(PAIRS):
             self.pair(turn)
