@@ -1,8 +1,8 @@
 """Files of entries on the static library, from a fixed seed: every answer and every byte of every lent slice against the independent implementation in tests/reference. Each word of an
-entry changed alone, with its sum wrong and right; each bit flipped; random files of any entries, whole and damaged in each way of damaged_files.py; the entry in force in each case of two files. Books
-written in rooms of just the bytes, fewer and more, with a record that no file carries at any place, and damaged; files entered among other edits and undos, whole, damaged and with too
-few answers; each set of refusals that apply. What is written and entered on a new book of the same stations gives the same records, N and u. Files of 10,000 entries, and the one that
-docs/FILES.md prints. Fails too where it meets less than coverage.py asks. Prints 'N passed, M failed' last.
+entry changed alone, with its sum wrong and right; each bit flipped; random files of any entries, whole and damaged in each way of damaged_files.py; the entry in force in each case of
+two files. Books written in rooms of just the bytes, fewer and more, with a record that no file carries at any place, and damaged; files entered among other edits and undos, whole,
+damaged and with too few answers; each set of refusals that apply. What is written and entered on a new book of the same stations gives the same records, N and u. Files of 10,000
+entries, and the one that docs/FILES.md prints. Fails too where it meets less than coverage.py asks. Prints 'N passed, M failed' last.
 
     python3 tests/host/files.py LIBRARY.so
 """
@@ -51,10 +51,12 @@ def room_of(name, asked, item):
 class Files(Edits):
     # ---- one call
     def check_file(self, data):
-        """Whether the file reads."""
-        number = 0 if files.read(data) is not None else files.BAD_FILE
-        self.compare('check_file', self.call('check_file', Buffer(data)), number, [data])
-        return number == 0
+        """Whether the file reads. One that does is the file of its entries."""
+        entries = files.read(data)
+        self.compare('check_file', self.call('check_file', Buffer(data)), files.BAD_FILE if entries is None else 0, [data])
+        if entries is not None:
+            self.same('the file of the entries of one that reads', files.write([entry for _, entry in entries]), data)
+        return entries is not None
 
     def in_force(self, night, day, place, room=16):
         lent = self.arguments.bytes(room)
@@ -207,12 +209,12 @@ class Files(Edits):
         for name in ROOMS:
             room = room_of(name, 128 * len(model.records), 128)
             if room is not None:
-                number = self.write(book, model, room) is None
-                self.coverage.note('room for a file', '%s: %s' % (name, 'refused' if number else 'written'))
+                refused = self.write(book, model, room) is None
+                self.coverage.note('room for a file', '%s: %s' % (name, 'refused' if refused else 'written'))
 
     def damaged_book(self, book, model, _):
         """Both calls on damaged bytes of the book: 25 and nothing written, or where they still hold a book what the calls do on that one."""
-        kind, data = self.arguments.damage(book.get())
+        data = self.arguments.damage(book.get())[1]
         found = judge(data)
         self.write(Buffer(data), found, 128 * len((found or model).records))
         self.enter_file(Buffer(data), found, self.file_for(found or model, 3), 24)
