@@ -11,7 +11,7 @@
  * Nothing else: every call answers every input. A refused call writes nothing at all.
  *
  * The calls keep no state and allocate nothing, so they are re-entrant: threads may call at the same time, on books of their own. One book has one writer at a time (open, enter,
- * also of a file, strike and undo write), and nobody reads it meanwhile; calls that only read may share it. Files are lent as books are.
+ * also of a file, strike and undo write), and nobody reads it meanwhile; calls that only read may share it. So it is with a file, on which dombrelat_write_file writes.
  *
  * A result is refusal + 256 * number, but for dombrelat_write_file, whose result is a refusal or a length in bytes as it is, a multiple of 128. DOMBRELAT_REFUSAL(result) is 0 (done,
  * accepted, agreed, or a length) or the refusal's number: DOMBRELAT_ constants below, all of them less than 128, in words in docs/REFUSALS.md. Where several apply, the lowest number is
