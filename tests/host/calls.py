@@ -151,7 +151,7 @@ class Calls(Comparison):
                 self.network(*SIZES[size])
 
     def header(self):
-        """The header has just the calls that are tested here and those that files.py tests, and the constants that follow from them; the library has no call that is gone."""
+        """The header has just the calls that are tested here and those that file_calls.py tests, and the constants that follow from them; the library has no call that is gone."""
         header = Header()
         for name, want in HEADER.items():
             self.same('%s in the header' % name, header.constants.get(name), want)

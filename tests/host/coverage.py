@@ -174,7 +174,7 @@ POSITIONS = {
     'one position more': {'known': 5, 'free': 26, 'height': 9},
 }
 
-# tests/host/files.py. Each word of an entry changed alone: with its sum wrong none reads; with it right, words that the kind uses and that are judged only when entered do, and of the
+# tests/host/file_calls.py. Each word of an entry changed alone: with its sum wrong none reads; with it right, words that the kind uses and that are judged only when entered do, and of the
 # kind and the place some values. Then the ways of damage: two of them leave a file, some may. What is shown, each set of refusals that apply, rooms, and what was written and entered.
 USED_WORDS = {'baseline': range(2, 13), 'height difference': (2, 3, 6, 12), 'strike': ()}      # beside the kind and the place
 

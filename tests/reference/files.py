@@ -22,7 +22,7 @@ def signed(v):
 
 
 # ---- writing
-def sealed(entry, start, previous):
+def with_trailer(entry, start, previous):
     """The sixteen words of an entry that starts at that byte, after a trailer that starts at `previous`."""
     fifteen = (*entry, start, previous)
     return (*fifteen, signed(sum(fifteen)))
@@ -33,7 +33,7 @@ def write(entries):
     data, previous = bytearray(), NO_PREVIOUS
     for entry in entries:
         start = len(data)
-        data += struct.pack('<16q', *sealed(entry, start, previous))
+        data += struct.pack('<16q', *with_trailer(entry, start, previous))
         previous = len(data) - TRAILER_BYTES
     return bytes(data)
 
@@ -58,7 +58,7 @@ def write_book(records, room):
 
 
 # ---- reading
-def good(words):
+def right(words):
     """Whether the kind, the place, the unused words and the sum are right."""
     unused = [words[k] for k in range(13) if k not in USED.get(words[KIND], ())]
     return words[KIND] in USED and 1 <= words[PLACE] <= PLACES and not any(unused) and words[15] == signed(sum(words[:15]))
@@ -75,7 +75,7 @@ def read(data):
         if start < 0 or start + ENTRY_BYTES != trailer + TRAILER_BYTES:
             return None
         words = struct.unpack_from('<16q', data, start)
-        if not good(words):
+        if not right(words):
             return None
         entries.append((start, words[:13]))
         if previous == NO_PREVIOUS:

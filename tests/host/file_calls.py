@@ -4,7 +4,7 @@ two files. Books written in rooms of just the bytes, fewer and more, with a reco
 damaged and with too few answers; each set of refusals that apply. What is written and entered on a new book of the same stations gives the same records, N and u. Files of 10,000
 entries, and the one that docs/FILES.md prints. Fails too where it meets less than coverage.py asks. Prints 'N passed, M failed' last.
 
-    python3 tests/host/files.py LIBRARY.so
+    python3 tests/host/file_calls.py LIBRARY.so
 """
 from dataclasses import replace
 import itertools
@@ -18,7 +18,7 @@ from expected import FILE_CALLS, NO_BOOK, edit_given, entering, outcome, packed
 from layout import BYTES, MATRIX_AT, NEXT_AT, PLACES, PLACES_AT, judge
 from library import Buffer, Header, Library
 from damaged_files import DAMAGE, EXTREME, PREVIOUS, START, SUM, changed, damaged, entries as any_entries, rows as rows_of
-import files                              # that of tests/reference: layout puts its folder first
+import files
 import survey
 
 PAIRS, BOOKS, STEPS, TURNS = 2400, 80, 24, 6      # random pairs of files, random books and what is done on each, turns of each set of refusals
