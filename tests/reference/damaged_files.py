@@ -1,7 +1,7 @@
 """Random files of entries and damage to them, for the tests of request 6. Damage leaves the sums of the entries right where its name says so, or where it only moves entries and words."""
 import struct
 
-from files import BASELINE, ENTRY_BYTES, HEIGHT_DIFFERENCE, NO_PREVIOUS, PLACE, PLACES, STRIKE, TRAILER_BYTES, USED, read, with_trailer, signed, write
+from files import BASELINE, ENTRY_BYTES, HEIGHT_DIFFERENCE, NO_PREVIOUS, PLACE, PLACES, STRIKE, TRAILER_BYTES, USED, read, signed, with_trailer, write
 
 EXTREME = (0, 1, -1, 2, 3, 4, 255, 256, 257, 2 ** 31, 2 ** 32 + 1, 2 ** 62, 2 ** 63 - 1, -2 ** 63, -2 ** 63 + 1, -2 ** 62)
 START, PREVIOUS, SUM = 13, 14, 15                      # words of the trailer
