@@ -1,6 +1,7 @@
 // One record as the words of an entry, and an entry as the call that it asks for.
 use book::Call;
 use book::Change;
+use files::Entry;
 use network::Baseline;
 use network::Record;
 ghost use mathlib.Core.Path.{_≡_};
@@ -87,7 +88,7 @@ pub fn call_in(w: [i64; 16]) -> Call
 {
     let kind = w[0];
     let place = w[1];
-    if words::same(kind, 3) {
+    if words::same(kind, Entry::STRIKE) {
         return Call::Edit(place, Change::Strike);
     }
     let v = record_words_in(w);

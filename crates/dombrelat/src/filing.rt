@@ -1,6 +1,7 @@
 // The C calls on files: a book written, a file tested, the entry in force of two files, a file entered.
 use book_files::Entered;
 use book_files::Written;
+use files::Entry;
 use files::Found;
 ghost use mathlib.Core.Path.{_≡_};
 ghost use Prim.Native.Nat.{_≤_};
@@ -87,7 +88,7 @@ pub extern "C" fn dombrelat_entry_in_force(
     ensures { λ r. ⌜ r ≡ foundCall (now (night .entry)) (now (day .entry)) place (now (found .entry)) .answer ⌝ }
     ensures { λ _. ⌜ now (found .exit) ≡ foundCall (now (night .entry)) (now (day .entry)) place (now (found .entry)) .bytes ⌝ }
 {
-    if !words::between(place, 1, 256) {
+    if !words::between(place, 1, Entry::PLACES) {
         return 2;
     }
     if found.len() < FOUND_BYTES {

@@ -57,7 +57,7 @@ unfoldable pub entryWords : ℕ → List ℤ → List ℤ
 entryWords start e = fifteenWords start e ++ (sumOf (fifteenWords start e) ∷ [])
 
 -- ════ tests of sixteen words
--- "a right kind, place, zeros and sum by CR 6"
+-- a right kind, place, zeros and sum
 unfoldable pub rightEntry : List ℤ → Bool
 rightEntry w = rightWords w && eqZ (getD w 15 (pos 0)) (sumOf (take 15 w))
 

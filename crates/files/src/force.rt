@@ -43,7 +43,7 @@ fn latest_of_two(night: &[u8], day: &[u8], place: i64) -> Found
 pub fn find(night: &[u8], day: &[u8], place: i64) -> Found
     ensures { λ r. ⌜ r ≡ inForce (now (night .entry)) (now (day .entry)) place ⌝ }
 {
-    if !words::between(place, 1, 256) {
+    if !words::between(place, 1, Entry::PLACES) {
         return Found::Refused(FileRefusal::BadPlace);
     }
     if !(holds_file(night) & holds_file(day)) {

@@ -29,9 +29,22 @@ pub enum Found {
     Refused(FileRefusal),
 }
 
+// What document 02 fixes of an entry.
 pub struct Entry {}
 
 impl Entry {
-    // An entry's length in bytes.
+    // Its length in bytes, and that of its trailer, which is its last three words.
     pub const BYTES: usize = 128;
+
+    pub const TRAILER_BYTES: usize = 24;
+
+    // Its first word.
+    pub const BASELINE: i64 = 1;
+
+    pub const HEIGHT_DIFFERENCE: i64 = 2;
+
+    pub const STRIKE: i64 = 3;
+
+    // Places are numbered from 1 to this.
+    pub const PLACES: i64 = 256;
 }

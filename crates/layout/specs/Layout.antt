@@ -68,7 +68,7 @@ unfoldable pub reversalWords : Reversal → List ℤ
 reversalWords u = signed (u .place) ∷ recordWords (u .prior)
 
 -- ════ a book's words. A count is kept as the word with its bits
--- the layout's number: 2 since words 12 and 13 of a record are antenna heights (document 02, request 4); in 1 they were 0
+-- the layout's number: 3 since a record may be a position, of kind 4 (document 02, request 5); 2 when words 12 and 13 of a record became antenna heights (request 4); in 1 they were 0
 abbrev pub layoutNumber : ℤ
 layoutNumber = pos 3
 
