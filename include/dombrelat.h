@@ -56,7 +56,7 @@ extern "C" {
 /* The bytes of an entry in a file. */
 #define DOMBRELAT_ENTRY_BYTES 128
 
-/* The stack to give a thread that makes a call. tests/host/stack.c measured 135,384 bytes on x86-64 (check_sheet on a full book; an edit takes 68,984); the rest is margin. */
+/* The stack to give a thread that makes a call. tests/host/stack.c measured 135,384 bytes on x86-64 (check_sheet on a full book; an edit takes 65,448); the rest is margin. */
 #define DOMBRELAT_STACK_BYTES 163840
 
 /* Limits. */
