@@ -10,7 +10,7 @@ use lib.ListN.{getD}
 use lib.IntN.{ℤ, pos}
 use Rattle.words.specs.SignedLaws.{index-suc}
 use Rattle.network.specs.Records.{recordAt, isEmpty}
-use Rattle.network.specs.Rules.{inList, recordNo, recordFits}
+use Rattle.network.specs.Rules.{inList, recordFits}
 use Rattle.network.specs.RuleLaws.{filled-accepted, empty-is}
 use Rattle.network.specs.declared.Network.{Network}
 use Rattle.network.specs.declared.Record.{Record}
@@ -20,7 +20,7 @@ use Rattle.book.specs.declared.Book.{Book}
 use Rattle.book.specs.declared.Change.the-variants.{Enter}
 use Rattle.book.specs.declared.Call.{Call}
 use Rattle.book.specs.declared.Call.the-variants.{Edit}
-use Rattle.book.specs.Calls.{placeOf, first, placeNo, changeNo, sizeNo, callNo, puts, unless, changed}
+use Rattle.book.specs.Calls.{placeOf, first, placeNo, changeNo, callNo, puts, unless, changed}
 use Rattle.book.specs.PlaceLaws.{changed-same, changed-other, record-set, is-placesOf}
 use Rattle.book.specs.SizeLaws.{size-none}
 use Rattle.book.specs.Book.{openedBook, edited, bookAccepts, bookSays, bookNext}
@@ -28,7 +28,7 @@ use Rattle.book.specs.Sound.{SoundParts}
 use Rattle.book.specs.SoundLaws.{sound-next}
 use Rattle.book.specs.Opened.{empty-at, sound-opened}
 use Rattle.book.specs.Run.{final, answers, final-append, answers-append}
-use Rattle.book_files.specs.Writing.{entryOf, recordEntries, entriesBelow, bookEntries, allCarried, carried}
+use Rattle.book_files.specs.Writing.{recordEntries, entriesBelow, bookEntries, allCarried}
 use Rattle.book_files.specs.Entering.{callIn}
 use Rattle.book_files.specs.Carried.{place-right, carried-at, entry-call}
 

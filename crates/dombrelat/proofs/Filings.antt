@@ -1,12 +1,11 @@
 -- The cases of the calls on files. Assumes nothing.
-use Prim.Native.Nat.{ℕ, _*_, _<_, _≤_}
+use Prim.Native.Nat.{ℕ, _<_, _≤_}
 use mathlib.Core.Path.{_≡_, refl, sym, ap, _∙_}
 use mathlib.Core.Bool.{true, false}
 use mathlib.Core.List.{List, [], _∷_}
 use borrow.Author.Tests.{le-leb, lt-leb}
 use lib.ListN.{length}
 use lib.IntN.{ℤ, pos}
-use Rattle.words.specs.Signed.{signed}
 use Rattle.words.specs.Words.{putWord}
 use Rattle.words.specs.Runs.{putWords}
 use Rattle.network.specs.Rules.{inList}
@@ -19,8 +18,8 @@ use Rattle.book_files.specs.Entering.{callsIn, entered, bookLeft, answersLeft}
 use Rattle.book_files.specs.declared.Written.{Written}
 use Rattle.book_files.specs.declared.Entered.{Entered}
 use Rattle.book_files.specs.declared.Entered.the-variants.{Done, Refused}
-use Rattle.dombrelat.specs.Calls.{Returned, refusedWith}
-use Rattle.dombrelat.specs.FileCalls.{FileEntered, writtenWord, writeCall, checkFileCall, foundIn, givenFound, foundCall, enteredWord, enteredInto, enterCall}
+use Rattle.dombrelat.specs.Calls.{Returned}
+use Rattle.dombrelat.specs.FileCalls.{FileEntered, writtenWord, writeCall, checkFileCall, givenFound, foundCall, enteredWord, enteredInto, enterCall}
 use Rattle.dombrelat.specs.FileCallLaws.{run-bytes, run-said}
 
 -- an answer and the bytes left are those of a call

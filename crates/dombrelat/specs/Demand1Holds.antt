@@ -44,7 +44,6 @@ use Rattle.files.specs.declared.Found.{Found}
 use Rattle.files.specs.declared.Found.the-variants.{InNight, InDay, Refused as notFound}
 use Rattle.book_files.specs.Writing.{bookEntries, allCarried, written, fileLeft}
 use Rattle.book_files.specs.Entering.{callsIn, entered}
-use Rattle.book_files.specs.declared.Written.{Written}
 use Rattle.book_files.specs.declared.Written.the-variants.{Length, Refused as notWritten}
 use Rattle.book_files.specs.declared.Entered.{Entered}
 use Rattle.book_files.specs.declared.Entered.the-variants.{Done, Refused as notEntered}

@@ -1,12 +1,11 @@
 -- Laws of the C calls on files: their numbers are small, a file's length too, and a file entered is a run of C edits. Assumes nothing.
-use Prim.Native.Nat.{ℕ, _+_, _*_, _<_, _≤_}
+use Prim.Native.Nat.{ℕ, _*_, _<_, _≤_}
 use mathlib.Core.Path.{_≡_, refl, sym, ap, _∙_, subst}
 use mathlib.Core.Bool.{Bool, true, false, cond}
 use mathlib.Core.List.{List}
 use native.Mathlib.Omega.{arith}
 use lib.Dec.{leb}
 use lib.ListN.{length}
-use lib.IntN.{ℤ, pos}
 use Rattle.book.specs.declared.Book.{Book}
 use Rattle.book.specs.declared.Call.{Call}
 use Rattle.book.specs.Book.{outcome}
@@ -18,11 +17,10 @@ use Rattle.files.specs.declared.FileRefusal.the-variants.{BadPlace, NoRoom, Unr
 use Rattle.book_files.specs.Writing.{bookEntries, allCarried, written}
 use Rattle.book_files.specs.WritingLaws.{entries-few}
 use Rattle.book_files.specs.Entering.{leftBy, saidTo}
-use Rattle.book_files.specs.declared.Written.{Written}
 use Rattle.book_files.specs.declared.Written.the-variants.{Length, Refused}
 use Rattle.dombrelat.specs.Calls.{Returned, bytesNext, bytesSays}
 use Rattle.dombrelat.specs.Demand3Holds.{through-fits, stays, holds-own}
-use Rattle.dombrelat.specs.FileCalls.{LengthSmall, longestFile}
+use Rattle.dombrelat.specs.FileCalls.{LengthSmall}
 
 -- ════ numbers
 pub number-least : (r : FileRefusal) → 0 < fileNumber r

@@ -69,7 +69,7 @@ abbrev pub enteredWord : Entered → ℤ
 enteredWord Done = pos 0
 enteredWord (notEntered r) = pos (fileNumber r)
 
--- "each judged as a call …, one answer word each"
+-- each is judged as a call of its own, and has an answer word of its own
 abbrev pub enteredInto : Entered → List ℕ → List ℕ → List ℕ → FileEntered
 enteredInto Done s file before =
     record { answer = pos 0; book = final bytesNext s (callsIn file); answers = putWords before 0 (answers bytesNext bytesSays s (callsIn file)) }

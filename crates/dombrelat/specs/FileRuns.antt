@@ -1,11 +1,12 @@
 -- Demand 3 of runs that have files entered among them: after an accepted opening, any run of C enters, strikes, undos and files entered, refused ones among them, leaves the bytes, and gave the
 -- answers, of the run of its single calls, a file's entries in their order. Of that run demand 3 says what the ledger says. Assumes nothing.
 use Prim.Native.Nat.{ℕ}
-use mathlib.Core.Path.{_≡_, refl, sym, ap, ap₂, _∙_}
-use mathlib.Core.Bool.{Bool, true, cond}
+use mathlib.Core.Path.{_≡_, refl, sym, ap, _∙_}
+use mathlib.Core.Bool.{true}
 use mathlib.Core.List.{List, [], _∷_, _++_}
 use lib.ListN.{length}
 use lib.IntN.{ℤ, pos}
+use Rattle.words.specs.Runs.{putWords}
 use Rattle.book.specs.declared.Call.{Call}
 use Rattle.book.specs.Run.{final, answers, final-append, answers-append}
 use Rattle.layout.specs.Bytes.{bytesFit}
@@ -13,7 +14,7 @@ use Rattle.book_files.specs.Entering.{callsIn, entered}
 use Rattle.book_files.specs.declared.Entered.{Entered}
 use Rattle.book_files.specs.declared.Entered.the-variants.{Done, Refused}
 use Rattle.dombrelat.specs.Calls.{bytesNext, bytesSays, openCall}
-use Rattle.dombrelat.specs.FileCalls.{FileEntered, enteredInto, enterCall}
+use Rattle.dombrelat.specs.FileCalls.{enteredInto, enterCall}
 use Rattle.dombrelat.specs.FileCallLaws.{run-fits}
 use Rattle.dombrelat.specs.Demand3.{bytesAfter, bytesAnswers, Demand}
 use Rattle.dombrelat.specs.Demand3Holds.{opened-fits-next, demand-3}
@@ -37,7 +38,7 @@ unfoldable pub allCalls : List Step → List Call
 allCalls [] = []
 allCalls (x ∷ xs) = callsOf x ++ allCalls xs
 
--- the bytes that a step leaves, and the answers to its calls: those of a file's entries are the words that `enterCall` writes
+-- the bytes that a step leaves, and the answers to its calls: those of a file's entries are the words that `enterCall` writes (`answers-written`)
 abbrev pub stepNext : List ℕ → Step → List ℕ
 stepNext s (single c) = bytesNext s c
 stepNext s (whole file before) = enterCall s file before .book
@@ -84,6 +85,11 @@ steps-said s f [] = refl
 steps-said s f (x ∷ xs) =
     ap (λ (l : List ℤ). stepSays s x ++ l) (steps-said (stepNext s x) (step-fits s f x) xs ∙ ap (λ (t : List ℕ). answers bytesNext bytesSays t (allCalls xs)) (step-run s f x))
     ∙ sym (answers-append bytesNext bytesSays s (callsOf x) (allCalls xs))
+
+-- the words that a file entered writes are the answers to its calls
+pub answers-written : (s file before : List ℕ) → bytesFit s ≡ true → entered file (length before) ≡ Done → enterCall s file before .answers ≡ putWords before 0 (stepSays s (whole file before))
+unfolding enterCall
+answers-written s file before f e = rw (f, e)
 
 pub file-runs : FileRuns
 file-runs list s a steps =

@@ -1,5 +1,6 @@
--- What the C calls answer and leave (Calls, CheckCalls, Proposal, Reading), the three demands over bytes (Demand1, Demand2, Demand3),
--- an edit with its undo (EditUndo), a record with antenna heights and the same taken to the marks (AtMarks), and their laws. The layout of a book's bytes is in crate layout.
+-- What the C calls answer and leave (Calls, CheckCalls, Proposal, Reading, FileCalls), the three demands over bytes (Demand1, Demand2, Demand3), demand 3 of runs with files entered
+-- among them (FileRuns), a book's file entered on a new book (FileRoundTrip), an edit with its undo (EditUndo), a record with antenna heights and the same taken to the marks (AtMarks), and
+-- their laws. The layout of a book's bytes is in crate layout.
 pub mod Calls
 pub mod CheckCalls
 pub mod Proposal

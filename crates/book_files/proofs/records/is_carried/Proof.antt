@@ -1,5 +1,4 @@
 -- By the record, case by case. Assumes nothing.
-use mathlib.Core.Path.{_∙_}
 use borrow.Author.Needs.{needs}
 use Rattle.book_files.specs.Writing.{carried}
 use Rattle.book_files.proofs.records.is_carried.Statement.{statement}

@@ -1,10 +1,7 @@
 -- By whether the record is empty: nothing, or its entry. Assumes nothing.
-use Prim.Native.Nat.{_+_, _*_}
-use mathlib.Core.Path.{_≡_, sym, _∙_}
+use mathlib.Core.Path.{sym, _∙_}
 use native.Mathlib.Omega.{arith}
 use denote.Ref.{now}
-use Rattle.network.specs.Records.{isEmpty}
-use Rattle.book_files.specs.Writing.{recordEntries}
 use Rattle.book_files.specs.WritingLaws.{one-entry, put-none, put-one}
 use borrow.Author.Needs.{needs}
 use Rattle.book_files.proofs.writing.put_record.Statement.{statement}

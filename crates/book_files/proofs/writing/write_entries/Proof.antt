@@ -1,6 +1,5 @@
 -- The loop writes the entries of the places passed (`Wrote`). Assumes nothing.
 use Prim.Native.Nat.{_-_, _≤_}
-use mathlib.Core.Path.{_≡_}
 use native.Mathlib.Omega.{arith}
 use Rattle.layout.specs.Bytes.{bookOf}
 use Rattle.book_files.specs.WritingLaws.{Wrote, wrote-none, wrote-more, room-next, wrote-all}

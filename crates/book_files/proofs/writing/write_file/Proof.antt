@@ -1,5 +1,5 @@
 -- The refusals in their order, and then the entries. Assumes nothing.
-use mathlib.Core.Path.{_≡_, sym, _∙_}
+use mathlib.Core.Path.{sym, _∙_}
 use native.Mathlib.Omega.{arith}
 use borrow.Author.Tests.{not-true, not-false}
 use Rattle.book_files.specs.WritingLaws.{written-room, written-carried, written-length, file-left, file-stays}

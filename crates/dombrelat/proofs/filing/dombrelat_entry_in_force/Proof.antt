@@ -1,9 +1,6 @@
 -- The refusals in their order, and then what was found. Assumes nothing.
 use native.Mathlib.Omega.{arith}
 use mathlib.Core.Path.{_≡_, sym, ap, _∙_}
-use mathlib.Core.Bool.{_&&_}
-use lib.IntN.{ℤ, pos}
-use lib.Signed.{leZ}
 use mir.Syntax.{w64}
 use mir.Facts.{toZ-ofZ}
 use denote.Ref.{now}

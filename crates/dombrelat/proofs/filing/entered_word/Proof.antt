@@ -5,7 +5,6 @@ use lib.IntN.{pos}
 use mir.Syntax.{w64}
 use mir.Val.{SFits}
 use mir.Facts.{toZ-ofZ}
-use Rattle.dombrelat.specs.FileCalls.{enteredWord}
 use Rattle.dombrelat.specs.FileCallLaws.{number-most}
 use borrow.Author.Needs.{needs}
 use Rattle.dombrelat.proofs.filing.entered_word.Statement.{statement}

@@ -1,5 +1,4 @@
 -- `part`, by what was found: the part of the entry in its file, or the empty one. Assumes nothing.
-use mathlib.Core.Path.{_≡_, ap, _∙_}
 use borrow.Author.Needs.{needs}
 use Rattle.files.specs.Force.{Inside, shown, liesAt}
 use Rattle.files.proofs.force.part.Statement.{statement}
