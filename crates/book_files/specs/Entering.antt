@@ -53,8 +53,8 @@ abbrev pub enteredAnswers : List ℕ → List ℕ → List ℤ
 enteredAnswers s file = answers leftBy saidTo s (callsIn file)
 
 -- ════ the answer, given the room for answers in bytes: one word each is asked, and a file that reads
-unfoldable pub entered : List ℕ → ℕ → Entered
-entered file room = cond (leb (8 * (length file / 128)) room) (cond (reads file) Done (Refused Unreadable)) (Refused NoRoom)
+unfoldable pub enterAnswer : List ℕ → ℕ → Entered
+enterAnswer file room = cond (leb (8 * (length file / 128)) room) (cond (reads file) Done (Refused Unreadable)) (Refused NoRoom)
 
 -- the book's bytes and the answers afterwards
 unfoldable pub bookLeft : Entered → List ℕ → List ℕ → List ℕ

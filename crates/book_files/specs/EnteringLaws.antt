@@ -32,7 +32,7 @@ use Rattle.files.specs.FileLaws.{length-entries, entry-at}
 use Rattle.files.specs.declared.FileRefusal.{FileRefusal}
 use Rattle.files.specs.declared.FileRefusal.the-variants.{NoRoom, Unreadable}
 use Rattle.book_files.specs.declared.Entered.the-variants.{Done, Refused}
-use Rattle.book_files.specs.Entering.{recordWordsIn, changeIn, callIn, callsIn, leftBy, saidTo, enteredBook, enteredAnswers, entered, bookLeft, answersLeft}
+use Rattle.book_files.specs.Entering.{recordWordsIn, changeIn, callIn, callsIn, leftBy, saidTo, enteredBook, enteredAnswers, enterAnswer, bookLeft, answersLeft}
 
 module _ (w : List ℤ) where
   pub call-strikes : eqZ (getD w 0 (pos 0)) (pos 3) ≡ true → Edit (getD w 1 (pos 0)) Strike ≡ callIn w
@@ -127,16 +127,16 @@ module _ (s file before : List ℕ) where
 
 -- ════ the answer of the whole
 module _ (file : List ℕ) (room : ℕ) where
-  pub entered-room : room / 8 < length file / 128 → Refused NoRoom ≡ entered file room
-  unfolding entered
+  pub entered-room : room / 8 < length file / 128 → Refused NoRoom ≡ enterAnswer file room
+  unfolding enterAnswer
   entered-room h = rw (lt-leb (8 * (length file / 128)) room (omega arith))
 
-  pub entered-unread : length file / 128 ≤ room / 8 → reads file ≡ false → Refused Unreadable ≡ entered file room
-  unfolding entered
+  pub entered-unread : length file / 128 ≤ room / 8 → reads file ≡ false → Refused Unreadable ≡ enterAnswer file room
+  unfolding enterAnswer
   entered-unread h e = rw (le-leb (8 * (length file / 128)) room (omega arith), e)
 
-  pub entered-done : length file / 128 ≤ room / 8 → reads file ≡ true → Done ≡ entered file room
-  unfolding entered
+  pub entered-done : length file / 128 ≤ room / 8 → reads file ≡ true → Done ≡ enterAnswer file room
+  unfolding enterAnswer
   entered-done h e = rw (le-leb (8 * (length file / 128)) room (omega arith), e)
 
 pub left-stays : (r : FileRefusal) (s file before : List ℕ) → (s ≡ bookLeft (Refused r) s file) × (before ≡ answersLeft (Refused r) s file before)

@@ -40,7 +40,7 @@ bookCalls b = map callIn (bookEntries b)
 abbrev pub restored : Book → Book
 restored b = final bookNext (openedBook (b .network)) (bookCalls b)
 
-pub record Restores (b : Book) : Type 0 where
+pub record RestoresBook (b : Book) : Type 0 where
   -- every answer is 0
   pub accepted : (k : ℕ) → getD (answers bookNext bookSays (openedBook (b .network)) (bookCalls b)) k 0 ≡ 0
   pub places : restored b .places ≡ b .places
@@ -164,7 +164,7 @@ module _ (b : Book) (o : SoundParts b) (all : allCarried b ≡ true) where
       go true e x = rw (e, append-nil (map callIn (entriesBelow (b .places) n))) (half-empty n (map callIn (entriesBelow (b .places) n)) e x)
       go false e x = rw (e, entry-call n (recordAt (b .places) n) (carried-at b o all n (omega arith))) (half-filled n (omega arith) (map callIn (entriesBelow (b .places) n)) x e)
 
-  pub restores : Restores b
+  pub restores : RestoresBook b
   restores =
       let h = half 256 (omega arith) in
       let x = restored b in

@@ -19,8 +19,8 @@ use Rattle.files.specs.FileLaws.{AllLong, write-append, file-one, put-file}
 use Rattle.files.specs.declared.FileRefusal.{FileRefusal}
 use Rattle.files.specs.declared.FileRefusal.the-variants.{NoRoom, NotCarried}
 use Rattle.book.specs.declared.Book.{Book}
-use Rattle.book_files.specs.declared.Written.the-variants.{Length, Refused}
-use Rattle.book_files.specs.Writing.{entryOf, recordEntries, entriesBelow, bookEntries, allCarried, written, fileLeft}
+use Rattle.book_files.specs.declared.FileWritten.the-variants.{Length, Refused}
+use Rattle.book_files.specs.Writing.{recordEntry, recordEntries, entriesBelow, bookEntries, allCarried, writeAnswer, fileLeft}
 
 -- ════ lists of entries, each with a property
 pub each-append : (P : List ℤ → Type 0) (a b : List (List ℤ)) → ((i : ℕ) → i < length a → P (getD a i [])) → ((i : ℕ) → i < length b → P (getD b i []))
@@ -30,7 +30,7 @@ each-append P (x ∷ a) b f g zero h = f 0 (omega arith)
 each-append P (x ∷ a) b f g (suc i) h = each-append P a b (λ k l. f (suc k) (omega arith)) g i (omega arith)
 
 module _ (P : List ℤ → Type 0) (places : List Place) where
-  pub each-below : (n : ℕ) → ((p : ℕ) → p < n → isEmpty (recordAt places p) ≡ false → P (entryOf p (recordAt places p)))
+  pub each-below : (n : ℕ) → ((p : ℕ) → p < n → isEmpty (recordAt places p) ≡ false → P (recordEntry p (recordAt places p)))
       → (i : ℕ) → i < length (entriesBelow places n) → P (getD (entriesBelow places n) i [])
   unfolding entriesBelow recordEntries
   each-below zero h i l = absurd (omega arith)
@@ -58,7 +58,7 @@ pub entries-one : (p : ℕ) (r : Record) → length (recordEntries p r) ≤ 1
 unfolding recordEntries
 entries-one p r = go (isEmpty r)
   where
-    go : (t : Bool) → length (cond {A = List (List ℤ)} t [] (entryOf p r ∷ [])) ≤ 1
+    go : (t : Bool) → length (cond {A = List (List ℤ)} t [] (recordEntry p r ∷ [])) ≤ 1
     go true = let h : 0 ≤ 1 = omega arith in h
     go false = let h : 1 ≤ 1 = omega arith in h
 
@@ -81,8 +81,8 @@ entries-most : (places : List Place) (n m : ℕ) → n ≤ m → length (entries
 entries-most places n m h = let e : n + (m - n) ≡ m = omega arith in let z = ap (λ (k : ℕ). length (entriesBelow places k)) e in omega (arith, z, entries-rise places n (m - n))
 
 -- ════ each has thirteen words
-length-entry-of : (p : ℕ) (r : Record) → length (entryOf p r) ≡ 13
-unfolding entryOf
+length-entry-of : (p : ℕ) (r : Record) → length (recordEntry p r) ≡ 13
+unfolding recordEntry
 length-entry-of p r = refl
 
 pub entries-long : (places : List Place) (n : ℕ) → AllLong (entriesBelow places n)
@@ -98,12 +98,12 @@ module _ (p : ℕ) (r : Record) where
   unfolding recordEntries fileWords putWords
   put-none s at e = let z : at ≡ at + 128 * 0 = omega arith in (rw e z, rw e)
 
-  pub put-one : (s : List ℕ) (at : ℕ) {w : List ℤ} → isEmpty r ≡ false → w ≡ entryOf p r
+  pub put-one : (s : List ℕ) (at : ℕ) {w : List ℤ} → isEmpty r ≡ false → w ≡ recordEntry p r
       → (at + 128 ≡ at + 128 * length (recordEntries p r)) × (putWords s at (entryWords at w) ≡ putWords s at (fileWords at (recordEntries p r)))
   unfolding recordEntries
   put-one s at e q =
       let z : at + 128 ≡ at + 128 * 1 = omega arith in
-      (rw e z, rw e (ap (putWords s at) (ap (entryWords at) q ∙ sym (file-one at (entryOf p r)))))
+      (rw e z, rw e (ap (putWords s at) (ap (entryWords at) q ∙ sym (file-one at (recordEntry p r)))))
 
 -- ════ written place by place
 write-more : (s : List ℕ) (places : List Place) (n : ℕ)
@@ -144,16 +144,16 @@ module _ (s : List ℕ) (places : List Place) (p at : ℕ) (t : List ℕ) (w : W
 
 -- ════ the answer
 module _ (b : Book) (room : ℕ) {n : ℕ} (count : n ≡ length (bookEntries b)) where
-  pub written-room : room / 128 < n → Refused NoRoom ≡ written b room
-  unfolding written
+  pub written-room : room / 128 < n → Refused NoRoom ≡ writeAnswer b room
+  unfolding writeAnswer
   written-room h = rw (lt-leb (128 * length (bookEntries b)) room (omega arith))
 
-  pub written-carried : n ≤ room / 128 → allCarried b ≡ false → Refused NotCarried ≡ written b room
-  unfolding written
+  pub written-carried : n ≤ room / 128 → allCarried b ≡ false → Refused NotCarried ≡ writeAnswer b room
+  unfolding writeAnswer
   written-carried h e = rw (le-leb (128 * length (bookEntries b)) room (omega arith), e)
 
-  pub written-length : n ≤ room / 128 → allCarried b ≡ true → Length (128 * n) ≡ written b room
-  unfolding written
+  pub written-length : n ≤ room / 128 → allCarried b ≡ true → Length (128 * n) ≡ writeAnswer b room
+  unfolding writeAnswer
   written-length h e = rw (le-leb (128 * length (bookEntries b)) room (omega arith), e) (ap (λ (k : ℕ). Length (128 * k)) count)
 
 -- the bytes written, as a file and the rest

@@ -10,7 +10,7 @@ use files::FileRefusal;
 pub use writing::write_file;
 
 // What the writing of a book is answered: the file's length in bytes, or why there is none.
-pub enum Written {
+pub enum FileWritten {
     Length(usize),
     Refused(FileRefusal),
 }

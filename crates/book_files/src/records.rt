@@ -1,7 +1,7 @@
 // One record as the words of an entry, and an entry as the call that it asks for.
 use book::Call;
 use book::Change;
-use files::Entry;
+use files::FileEntry;
 use network::Baseline;
 use network::Record;
 ghost use mathlib.Core.Path.{_≡_};
@@ -11,7 +11,7 @@ ghost use lib.IntN.{pos};
 ghost use lib.ListN.{take};
 ghost use Rattle.words.specs.Signed.{eqZ};
 ghost use Rattle.network.specs.Units.{placeCount};
-ghost use Rattle.book_files.specs.Writing.{carried, entryOf};
+ghost use Rattle.book_files.specs.Writing.{carried, recordEntry};
 ghost use Rattle.book_files.specs.Entering.{recordWordsIn, callIn};
 
 // Both antenna heights are 0.
@@ -36,7 +36,7 @@ pub fn is_carried(r: Record) -> bool
 // The words of the entry of a record at a place, counted from 0; its trailer's are 0 yet.
 pub fn entry_of(p: usize, r: Record) -> [i64; 16]
     requires { ⌜ p < placeCount ⌝ }
-    ensures { λ w. ⌜ take 13 w ≡ entryOf p r ⌝ }
+    ensures { λ w. ⌜ take 13 w ≡ recordEntry p r ⌝ }
 {
     let w = network::record_words(r);
     let place = (p + 1) as i64;
@@ -88,7 +88,7 @@ pub fn call_in(w: [i64; 16]) -> Call
 {
     let kind = w[0];
     let place = w[1];
-    if words::same(kind, Entry::STRIKE) {
+    if words::same(kind, FileEntry::STRIKE) {
         return Call::Edit(place, Change::Strike);
     }
     let v = record_words_in(w);

@@ -1,8 +1,8 @@
 // A book written as a file: its records by rising place.
-use super::Written;
+use super::FileWritten;
 use super::records::entry_of;
 use super::records::is_carried;
-use files::Entry;
+use files::FileEntry;
 use files::FileRefusal;
 use network::Record;
 use network::Unit;
@@ -15,7 +15,7 @@ ghost use Rattle.network.specs.Units.{placeCount};
 ghost use Rattle.layout.specs.Bytes.{bookOf};
 ghost use Rattle.layout.specs.Layout.{bookBytes};
 ghost use Rattle.files.specs.Files.{fileWords};
-ghost use Rattle.book_files.specs.Writing.{recordEntries, bookEntries, allCarried, written, fileLeft};
+ghost use Rattle.book_files.specs.Writing.{recordEntries, bookEntries, allCarried, writeAnswer, fileLeft};
 
 fn entry_count(p: usize, r: Record) -> usize
     ensures { λ n. ⌜ n ≡ length (recordEntries p r) ⌝ }
@@ -53,7 +53,7 @@ fn all_carried(book: &[u8]) -> bool
 }
 
 // Writes the entry of a record, if it is one, at byte `at`; gives the byte after it.
-fn put_record(file: &mut [u8], at: usize, p: usize, r: Record) -> usize
+fn put_entry(file: &mut [u8], at: usize, p: usize, r: Record) -> usize
     requires { ⌜ (p < placeCount) × (at % 128 ≡ 0) × (at + 128 * length (recordEntries p r) ≤ length (now file)) ⌝ }
     ensures { λ n. ⌜ (n ≡ at + 128 * length (recordEntries p r)) × (now (file .exit) ≡ putWords (now (file .entry)) at (fileWords at (recordEntries p r))) ⌝ }
 {
@@ -62,7 +62,7 @@ fn put_record(file: &mut [u8], at: usize, p: usize, r: Record) -> usize
     }
     let w = entry_of(p, r);
     files::write_entry(file, at, w);
-    at + Entry::BYTES
+    at + FileEntry::BYTES
 }
 
 // The entries of all records, one after the other.
@@ -74,23 +74,23 @@ fn write_entries(book: &[u8], file: &mut [u8])
     let mut p: usize = 0;
     while p < Unit::PLACES {
         let r = layout::record_in(book, p);
-        at = put_record(file, at, p, r);
+        at = put_entry(file, at, p, r);
         p += 1;
     }
 }
 
 // Writes a book at the front of lent bytes. A refusal writes nothing.
-pub fn write_file(book: &[u8], file: &mut [u8]) -> Written
+pub fn write_file(book: &[u8], file: &mut [u8]) -> FileWritten
     requires { ⌜ bookBytes ≤ length (now book) ⌝ }
-    ensures { λ r. ⌜ (r ≡ written (bookOf (now (book .entry))) (length (now (file .entry)))) × (now (file .exit) ≡ fileLeft r (bookOf (now (book .entry))) (now (file .entry))) ⌝ }
+    ensures { λ r. ⌜ (r ≡ writeAnswer (bookOf (now (book .entry))) (length (now (file .entry)))) × (now (file .exit) ≡ fileLeft r (bookOf (now (book .entry))) (now (file .entry))) ⌝ }
 {
     let n = count_entries(book);
-    if file.len() / Entry::BYTES < n {
-        return Written::Refused(FileRefusal::NoRoom);
+    if file.len() / FileEntry::BYTES < n {
+        return FileWritten::Refused(FileRefusal::NoRoom);
     }
     if !all_carried(book) {
-        return Written::Refused(FileRefusal::NotCarried);
+        return FileWritten::Refused(FileRefusal::NotCarried);
     }
     write_entries(book, file);
-    Written::Length(Entry::BYTES * n)
+    FileWritten::Length(FileEntry::BYTES * n)
 }

@@ -12,10 +12,10 @@ use Rattle.network.specs.Rules.{inList}
 use Rattle.layout.specs.Bytes.{bookOf, bytesFit}
 use Rattle.files.specs.Files.{reads}
 use Rattle.files.specs.Force.{inForce}
-use Rattle.files.specs.declared.Found.{Found}
-use Rattle.book_files.specs.Writing.{written, fileLeft}
-use Rattle.book_files.specs.Entering.{callsIn, entered, bookLeft, answersLeft}
-use Rattle.book_files.specs.declared.Written.{Written}
+use Rattle.files.specs.declared.EntryFound.{EntryFound}
+use Rattle.book_files.specs.Writing.{writeAnswer, fileLeft}
+use Rattle.book_files.specs.Entering.{callsIn, enterAnswer, bookLeft, answersLeft}
+use Rattle.book_files.specs.declared.FileWritten.{FileWritten}
 use Rattle.book_files.specs.declared.Entered.{Entered}
 use Rattle.book_files.specs.declared.Entered.the-variants.{Done, Refused}
 use Rattle.dombrelat.specs.Calls.{Returned}
@@ -32,9 +32,9 @@ module _ (s file : List ℕ) where
   unfolding writeCall
   write-unfit e = rw e (refl, refl)
 
-  pub write-fit : {w : Written} {r : ℤ} {t : List ℕ} → bytesFit s ≡ true → w ≡ written (bookOf s) (length file) → r ≡ writtenWord w → t ≡ fileLeft w (bookOf s) file → Gives r t (writeCall s file)
+  pub write-fit : {w : FileWritten} {r : ℤ} {t : List ℕ} → bytesFit s ≡ true → w ≡ writeAnswer (bookOf s) (length file) → r ≡ writtenWord w → t ≡ fileLeft w (bookOf s) file → Gives r t (writeCall s file)
   unfolding writeCall
-  write-fit e f g h = rw e (g ∙ ap writtenWord f, h ∙ ap (λ (w : Written). fileLeft w (bookOf s) file) f)
+  write-fit e f g h = rw e (g ∙ ap writtenWord f, h ∙ ap (λ (w : FileWritten). fileLeft w (bookOf s) file) f)
 
 -- ════ a file tested
 module _ (file : List ℕ) where
@@ -60,7 +60,7 @@ module _ (night day : List ℕ) (p : ℤ) (out : List ℕ) where
   unfolding foundCall
   found-room e h = rw (e, lt-leb 16 (length out) h) (refl, refl)
 
-  pub found-given : {f : Found} {r : ℤ} {t : List ℕ} → inList 256 p ≡ true → 16 ≤ length out → f ≡ inForce night day p → Gives r t (givenFound f out) → Gives r t (foundCall night day p out)
+  pub found-given : {f : EntryFound} {r : ℤ} {t : List ℕ} → inList 256 p ≡ true → 16 ≤ length out → f ≡ inForce night day p → Gives r t (givenFound f out) → Gives r t (foundCall night day p out)
   unfolding foundCall
   found-given e h q g = rw (e, le-leb 16 (length out) h, sym q) g
 
@@ -78,7 +78,7 @@ module _ (s file before : List ℕ) where
   enter-into Done f g h k = (g, (h ∙ run-bytes s f (callsIn file), k ∙ ap (putWords before 0) (run-said s f (callsIn file))))
   enter-into (Refused x) f g h k = (g, (h, k))
 
-  pub enter-fit : {e : Entered} {r : ℤ} {t a : List ℕ} → bytesFit s ≡ true → e ≡ entered file (length before) → r ≡ enteredWord e → t ≡ bookLeft e s file → a ≡ answersLeft e s file before
+  pub enter-fit : {e : Entered} {r : ℤ} {t a : List ℕ} → bytesFit s ≡ true → e ≡ enterAnswer file (length before) → r ≡ enteredWord e → t ≡ bookLeft e s file → a ≡ answersLeft e s file before
       → Enters r t a (enterCall s file before)
   unfolding enterCall
   enter-fit {e} f q g h k = rw (f, sym q) (enter-into e f g h k)

@@ -40,11 +40,11 @@ use Rattle.files.specs.Files.{reads}
 use Rattle.files.specs.Force.{fileNumber, inForce}
 use Rattle.files.specs.declared.FileRefusal.{FileRefusal}
 use Rattle.files.specs.declared.FileRefusal.the-variants.{BadPlace, NoRoom, NotCarried}
-use Rattle.files.specs.declared.Found.{Found}
-use Rattle.files.specs.declared.Found.the-variants.{InNight, InDay, Refused as notFound}
-use Rattle.book_files.specs.Writing.{bookEntries, allCarried, written, fileLeft}
-use Rattle.book_files.specs.Entering.{callsIn, entered}
-use Rattle.book_files.specs.declared.Written.the-variants.{Length, Refused as notWritten}
+use Rattle.files.specs.declared.EntryFound.{EntryFound}
+use Rattle.files.specs.declared.EntryFound.the-variants.{InNight, InDay, Refused as notFound}
+use Rattle.book_files.specs.Writing.{bookEntries, allCarried, writeAnswer, fileLeft}
+use Rattle.book_files.specs.Entering.{callsIn, enterAnswer}
+use Rattle.book_files.specs.declared.FileWritten.the-variants.{Length, Refused as notWritten}
 use Rattle.book_files.specs.declared.Entered.{Entered}
 use Rattle.book_files.specs.declared.Entered.the-variants.{Done, Refused as notEntered}
 use Rattle.dombrelat.specs.Calls.{Returned, refusedWith, answeredWith, through, editCall, openCall}
@@ -257,7 +257,7 @@ unfolding refusalIn
 length-none k = ap pos (let z : 128 * k % 128 ≡ 0 = omega arith in z)
 
 write-right : (s file : List ℕ) → Right (pos (128 * length (bookEntries (bookOf s)))) file (writeCall s file)
-unfolding writeCall written fileLeft
+unfolding writeCall writeAnswer fileLeft
 write-right s file =
     go (bytesFit s) (leb (128 * length (bookEntries (bookOf s))) (length file)) (allCarried (bookOf s))
   where
@@ -281,7 +281,7 @@ found-right night day p out =
     either (pos 0) out (inList 256 p) (cond (leb 16 (length out)) g (refusedWith 10 out)) (refusedWith 2 out)
     (either (pos 0) out (leb 16 (length out)) g (refusedWith 10 out) (shown (inForce night day p)) (number-right (pos 0) out NoRoom)) (number-right (pos 0) out BadPlace)
   where
-    shown : (f : Found) → Right (pos 0) out (givenFound f out)
+    shown : (f : EntryFound) → Right (pos 0) out (givenFound f out)
     shown (InNight at) = record { told = told-given (pos 0); stays = λ h. absurd (h (given-none 0)) }
     shown (InDay at) = record { told = told-given (pos 0); stays = λ h. absurd (h (given-none 0)) }
     shown (notFound r) = number-right (pos 0) out r
@@ -294,7 +294,7 @@ record EntersRight (s before : List ℕ) (e : FileEntered) : Type 0 where
 
 enter-right : (s file before : List ℕ) → EntersRight s before (enterCall s file before)
 unfolding enterCall
-enter-right s file before = go (bytesFit s) refl (entered file (length before))
+enter-right s file before = go (bytesFit s) refl (enterAnswer file (length before))
   where
     small : (n : ℕ) → 0 < n → n < 128 → EntersRight s before (record { answer = pos n; book = s; answers = before })
     small n h l = record { told = told-refusal (pos 0) n h l; stays = λ z. (refl, refl); fits = λ e. absurd (let z : n ≡ 0 = ap natAbs e in omega arith) }

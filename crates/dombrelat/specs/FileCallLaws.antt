@@ -14,10 +14,10 @@ use Rattle.layout.specs.Bytes.{bookOf, bytesFit}
 use Rattle.files.specs.Force.{fileNumber}
 use Rattle.files.specs.declared.FileRefusal.{FileRefusal}
 use Rattle.files.specs.declared.FileRefusal.the-variants.{BadPlace, NoRoom, Unreadable, NotCarried, NoEntry}
-use Rattle.book_files.specs.Writing.{bookEntries, allCarried, written}
+use Rattle.book_files.specs.Writing.{bookEntries, allCarried, writeAnswer}
 use Rattle.book_files.specs.WritingLaws.{entries-few}
 use Rattle.book_files.specs.Entering.{leftBy, saidTo}
-use Rattle.book_files.specs.declared.Written.the-variants.{Length, Refused}
+use Rattle.book_files.specs.declared.FileWritten.the-variants.{Length, Refused}
 use Rattle.dombrelat.specs.Calls.{Returned, bytesNext, bytesSays}
 use Rattle.dombrelat.specs.Demand3Holds.{through-fits, stays, holds-own}
 use Rattle.dombrelat.specs.FileCalls.{LengthSmall}
@@ -38,8 +38,8 @@ number-most NotCarried = let h : 19 ≤ 20 = omega arith in h
 number-most NoEntry = let h : 20 ≤ 20 = omega arith in h
 
 -- the length of a book's file
-pub length-small : (b : Book) (room : ℕ) → LengthSmall (written b room)
-unfolding written
+pub length-small : (b : Book) (room : ℕ) → LengthSmall (writeAnswer b room)
+unfolding writeAnswer
 length-small b room = go (leb (128 * length (bookEntries b)) room) (allCarried b)
   where
     go : (t u : Bool) → LengthSmall (cond t (cond u (Length (128 * length (bookEntries b))) (Refused NotCarried)) (Refused NoRoom))

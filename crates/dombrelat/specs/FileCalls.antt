@@ -14,31 +14,31 @@ use Rattle.layout.specs.Bytes.{bookOf, bytesFit}
 use Rattle.files.specs.Files.{reads}
 use Rattle.files.specs.Force.{fileNumber, inForce}
 use Rattle.files.specs.declared.FileRefusal.the-variants.{BadPlace, NoRoom, Unreadable}
-use Rattle.files.specs.declared.Found.{Found}
-use Rattle.files.specs.declared.Found.the-variants.{InNight, InDay, Refused as notFound}
-use Rattle.book_files.specs.Writing.{written, fileLeft}
-use Rattle.book_files.specs.Entering.{callsIn, entered}
-use Rattle.book_files.specs.declared.Written.{Written}
-use Rattle.book_files.specs.declared.Written.the-variants.{Length, Refused as notWritten}
+use Rattle.files.specs.declared.EntryFound.{EntryFound}
+use Rattle.files.specs.declared.EntryFound.the-variants.{InNight, InDay, Refused as notFound}
+use Rattle.book_files.specs.Writing.{writeAnswer, fileLeft}
+use Rattle.book_files.specs.Entering.{callsIn, enterAnswer}
+use Rattle.book_files.specs.declared.FileWritten.{FileWritten}
+use Rattle.book_files.specs.declared.FileWritten.the-variants.{Length, Refused as notWritten}
 use Rattle.book_files.specs.declared.Entered.{Entered}
 use Rattle.book_files.specs.declared.Entered.the-variants.{Done, Refused as notEntered}
 use Rattle.dombrelat.specs.Calls.{Returned, refusedWith, bytesNext, bytesSays}
 
 -- ════ a book written. "A write returns its length": no refusal's number is a multiple of 128
-abbrev pub writtenWord : Written → ℤ
+abbrev pub writtenWord : FileWritten → ℤ
 writtenWord (Length n) = pos n
 writtenWord (notWritten r) = pos (fileNumber r)
 
 unfoldable pub writeCall : List ℕ → List ℕ → Returned
 writeCall s file =
-    let w = written (bookOf s) (length file) in
+    let w = writeAnswer (bookOf s) (length file) in
     cond (bytesFit s) (record { answer = writtenWord w; bytes = fileLeft w (bookOf s) file }) (refusedWith 25 file)
 
 -- the longest file of a book: 128 bytes for each of 256 places
 abbrev pub longestFile : ℕ
 longestFile = 32768
 
-abbrev pub LengthSmall : Written → Type 0
+abbrev pub LengthSmall : FileWritten → Type 0
 LengthSmall (Length n) = n ≤ longestFile
 LengthSmall (notWritten r) = Unit {0}
 
@@ -50,7 +50,7 @@ checkFileCall file = cond (reads file) (pos 0) (pos (fileNumber Unreadable))
 abbrev pub foundIn : ℤ → ℕ → List ℕ → Returned
 foundIn file at out = record { answer = pos 0; bytes = putWords out 0 (file ∷ signed at ∷ []) }
 
-abbrev pub givenFound : Found → List ℕ → Returned
+abbrev pub givenFound : EntryFound → List ℕ → Returned
 givenFound (InNight at) out = foundIn (pos 1) at out
 givenFound (InDay at) out = foundIn (pos 2) at out
 givenFound (notFound r) out = refusedWith (fileNumber r) out
@@ -77,4 +77,4 @@ enteredInto (notEntered r) s file before = record { answer = pos (fileNumber r);
 
 unfoldable pub enterCall : List ℕ → List ℕ → List ℕ → FileEntered
 enterCall s file before =
-    cond (bytesFit s) (enteredInto (entered file (length before)) s file before) (record { answer = pos 25; book = s; answers = before })
+    cond (bytesFit s) (enteredInto (enterAnswer file (length before)) s file before) (record { answer = pos 25; book = s; answers = before })

@@ -25,12 +25,12 @@ use Rattle.layout.specs.CodecLaws.{fits-sound}
 use Rattle.files.specs.Files.{fileOf, reads, entriesOf}
 use Rattle.files.specs.declared.FileRefusal.the-variants.{NoRoom, NotCarried}
 use Rattle.files.specs.FileLaws.{AllFit, fit-long, length-file, file-front, written-reads, written-entries}
-use Rattle.book_files.specs.Writing.{bookEntries, allCarried, written, fileLeft}
+use Rattle.book_files.specs.Writing.{bookEntries, allCarried, writeAnswer, fileLeft}
 use Rattle.book_files.specs.WritingLaws.{entries-few}
-use Rattle.book_files.specs.Entering.{callIn, callsIn, entered}
+use Rattle.book_files.specs.Entering.{callIn, callsIn, enterAnswer}
 use Rattle.book_files.specs.Carried.{entries-fit}
-use Rattle.book_files.specs.RoundTrip.{bookCalls, restored, Restores, restores}
-use Rattle.book_files.specs.declared.Written.the-variants.{Length, Refused}
+use Rattle.book_files.specs.RoundTrip.{bookCalls, restored, RestoresBook, restores}
+use Rattle.book_files.specs.declared.FileWritten.the-variants.{Length, Refused}
 use Rattle.book_files.specs.declared.Entered.the-variants.{Done}
 use Rattle.dombrelat.specs.Calls.{Returned, refusedWith, bytesNext, bytesSays, openCall}
 use Rattle.dombrelat.specs.FileCalls.{FileEntered, writtenWord, writeCall, enteredInto, enterCall}
@@ -71,7 +71,7 @@ no-length : (n k : ℕ) {X : Type 0} → 0 < n → n < 128 → pos n ≡ pos (12
 no-length n k h l e = absurd (let z : n ≡ 128 * k = ap natAbs e in omega arith)
 
 accepted-write : (s file : List ℕ) (k : ℕ) → writeCall s file .answer ≡ pos (128 * k) → Accepted s file k
-unfolding writeCall written fileLeft
+unfolding writeCall writeAnswer fileLeft
 accepted-write s file k a = go (bytesFit s) (leb (128 * length (bookEntries (bookOf s))) (length file)) (allCarried (bookOf s)) refl refl refl a
   where
     wrote : (t u v : Bool) → Returned
@@ -133,11 +133,11 @@ words-said next says s (c ∷ cs) zero = refl
 words-said next says s (c ∷ cs) (suc i) = words-said next says (next s c) cs i
 
 enter-done : (s file before : List ℕ) → bytesFit s ≡ true → reads file ≡ true → 8 * (length file / 128) ≤ length before → enterCall s file before ≡ enteredInto Done s file before
-unfolding enterCall entered
+unfolding enterCall enterAnswer
 enter-done s file before f r h = rw (f, le-leb (8 * (length file / 128)) (length before) h, r)
 
 -- each answer word is 0
-answered-at : (list t before f : List ℕ) (b : Book) → openCall list t .answer ≡ pos 0 → networkOf (wordsAt list 0 (length list / 8)) ≡ b .network → callsIn f ≡ bookCalls b → Restores b
+answered-at : (list t before f : List ℕ) (b : Book) → openCall list t .answer ≡ pos 0 → networkOf (wordsAt list 0 (length list / 8)) ≡ b .network → callsIn f ≡ bookCalls b → RestoresBook b
     → 8 * length (callsIn f) ≤ length before → (i : ℕ) → i < length (callsIn f) → wordAt (putWords before 0 (bytesAnswers list t (callsIn f))) (8 * i) ≡ pos 0
 answered-at list t before f b o net calls again room i h =
     let l = bytesAnswers list t (callsIn f) in

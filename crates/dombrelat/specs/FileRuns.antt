@@ -10,7 +10,7 @@ use Rattle.words.specs.Runs.{putWords}
 use Rattle.book.specs.declared.Call.{Call}
 use Rattle.book.specs.Run.{final, answers, final-append, answers-append}
 use Rattle.layout.specs.Bytes.{bytesFit}
-use Rattle.book_files.specs.Entering.{callsIn, entered}
+use Rattle.book_files.specs.Entering.{callsIn, enterAnswer}
 use Rattle.book_files.specs.declared.Entered.{Entered}
 use Rattle.book_files.specs.declared.Entered.the-variants.{Done, Refused}
 use Rattle.dombrelat.specs.Calls.{bytesNext, bytesSays, openCall}
@@ -32,7 +32,7 @@ enteredCalls (Refused r) file = []
 
 abbrev pub callsOf : Step → List Call
 callsOf (single c) = c ∷ []
-callsOf (whole file before) = enteredCalls (entered file (length before)) file
+callsOf (whole file before) = enteredCalls (enterAnswer file (length before)) file
 
 unfoldable pub allCalls : List Step → List Call
 allCalls [] = []
@@ -62,7 +62,7 @@ FileRuns = (list s : List ℕ) → openCall list s .answer ≡ pos 0 → (steps 
 step-run : (s : List ℕ) → bytesFit s ≡ true → (x : Step) → stepNext s x ≡ final bytesNext s (callsOf x)
 unfolding final enterCall
 step-run s f (single c) = refl
-step-run s f (whole file before) = let z : enterCall s file before .book ≡ final bytesNext s (enteredCalls (entered file (length before)) file) = rw f (go (entered file (length before))) in z
+step-run s f (whole file before) = let z : enterCall s file before .book ≡ final bytesNext s (enteredCalls (enterAnswer file (length before)) file) = rw f (go (enterAnswer file (length before))) in z
   where
     go : (e : Entered) → enteredInto e s file before .book ≡ final bytesNext s (enteredCalls e file)
     go Done = refl
@@ -87,7 +87,7 @@ steps-said s f (x ∷ xs) =
     ∙ sym (answers-append bytesNext bytesSays s (callsOf x) (allCalls xs))
 
 -- the words that a file entered writes are the answers to its calls
-pub answers-written : (s file before : List ℕ) → bytesFit s ≡ true → entered file (length before) ≡ Done → enterCall s file before .answers ≡ putWords before 0 (stepSays s (whole file before))
+pub answers-written : (s file before : List ℕ) → bytesFit s ≡ true → enterAnswer file (length before) ≡ Done → enterCall s file before .answers ≡ putWords before 0 (stepSays s (whole file before))
 unfolding enterCall
 answers-written s file before f e = rw (f, e)
 

@@ -1,8 +1,8 @@
 // The C calls on files: a book written, a file tested, the entry in force of two files, a file entered.
 use book_files::Entered;
-use book_files::Written;
-use files::Entry;
-use files::Found;
+use book_files::FileWritten;
+use files::EntryFound;
+use files::FileEntry;
 ghost use mathlib.Core.Path.{_≡_};
 ghost use Prim.Native.Nat.{_≤_};
 ghost use lib.ListN.{length};
@@ -16,13 +16,13 @@ const DAY: i64 = 2;
 // The bytes of the two words that say where an entry is.
 const FOUND_BYTES: usize = 16;
 
-fn written_word(w: Written) -> i64
+fn written_word(w: FileWritten) -> i64
     requires { ⌜ LengthSmall w ⌝ }
     ensures { λ r. ⌜ r ≡ writtenWord w ⌝ }
 {
     match w {
-        Written::Length(n) => n as i64,
-        Written::Refused(refusal) => files::file_number(refusal) as i64,
+        FileWritten::Length(n) => n as i64,
+        FileWritten::Refused(refusal) => files::file_number(refusal) as i64,
     }
 }
 
@@ -66,14 +66,14 @@ fn put_found(out: &mut [u8], file: i64, at: usize) -> i64
     0
 }
 
-fn give_found(found: Found, out: &mut [u8]) -> i64
+fn give_found(found: EntryFound, out: &mut [u8]) -> i64
     requires { ⌜ 16 ≤ length (now out) ⌝ }
     ensures { λ r. ⌜ (r ≡ givenFound found (now (out .entry)) .answer) × (now (out .exit) ≡ givenFound found (now (out .entry)) .bytes) ⌝ }
 {
     match found {
-        Found::InNight(at) => put_found(out, NIGHT, at),
-        Found::InDay(at) => put_found(out, DAY, at),
-        Found::Refused(refusal) => files::file_number(refusal) as i64,
+        EntryFound::InNight(at) => put_found(out, NIGHT, at),
+        EntryFound::InDay(at) => put_found(out, DAY, at),
+        EntryFound::Refused(refusal) => files::file_number(refusal) as i64,
     }
 }
 
@@ -88,7 +88,7 @@ pub extern "C" fn dombrelat_entry_in_force(
     ensures { λ r. ⌜ r ≡ foundCall (now (night .entry)) (now (day .entry)) place (now (found .entry)) .answer ⌝ }
     ensures { λ _. ⌜ now (found .exit) ≡ foundCall (now (night .entry)) (now (day .entry)) place (now (found .entry)) .bytes ⌝ }
 {
-    if !words::between(place, 1, Entry::PLACES) {
+    if !words::between(place, 1, FileEntry::PLACES) {
         return 2;
     }
     if found.len() < FOUND_BYTES {

@@ -11,8 +11,8 @@ use lib.Signed.{leZ}
 use Rattle.files.specs.Files.{reads, latestEntry}
 use Rattle.files.specs.Force.{forceIn, inForce}
 use Rattle.files.specs.declared.FileRefusal.the-variants.{BadPlace, Unreadable, NoEntry}
-use Rattle.files.specs.declared.Found.{Found}
-use Rattle.files.specs.declared.Found.the-variants.{InNight, InDay, Refused}
+use Rattle.files.specs.declared.EntryFound.{EntryFound}
+use Rattle.files.specs.declared.EntryFound.the-variants.{InNight, InDay, Refused}
 
 module _ (night day : List ℕ) (p : ℤ) where
   pub in-night : {n : ℕ} → n ≡ latestEntry night p → n < length night → InNight n ≡ forceIn night day p
@@ -41,6 +41,6 @@ module _ (night day : List ℕ) (p : ℤ) where
   unfolding inForce
   reads-no e f = rw (e, f)
 
-  pub both-read : {r : Found} → leZ (pos 1) p && leZ p (pos 256) ≡ true → reads night && reads day ≡ true → r ≡ forceIn night day p → r ≡ inForce night day p
+  pub both-read : {r : EntryFound} → leZ (pos 1) p && leZ p (pos 256) ≡ true → reads night && reads day ≡ true → r ≡ forceIn night day p → r ≡ inForce night day p
   unfolding inForce
   both-read e f h = rw (e, f) h

@@ -19,7 +19,7 @@ use Rattle.files.specs.Files.{reads, latestEntryTo, latestEntry}
 use Rattle.files.specs.FileLaws.{reads-whole}
 use Rattle.files.specs.Force.{forceIn, inForce, Inside}
 use Rattle.files.specs.declared.FileRefusal.the-variants.{BadPlace, Unreadable, NoEntry}
-use Rattle.files.specs.declared.Found.the-variants.{InNight, InDay, Refused}
+use Rattle.files.specs.declared.EntryFound.the-variants.{InNight, InDay, Refused}
 
 -- ════ the latest entry for a place
 -- its number, its place, and that no later one is for the place

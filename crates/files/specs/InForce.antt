@@ -20,8 +20,8 @@ use Rattle.files.specs.Files.{reads, entriesFrom, entriesOf, latestEntry
 use Rattle.files.specs.FileLaws.{reads-whole, entries-more}
 use Rattle.files.specs.Force.{forceIn, inForce, shown}
 use Rattle.files.specs.declared.FileRefusal.the-variants.{NoEntry}
-use Rattle.files.specs.declared.Found.{Found}
-use Rattle.files.specs.declared.Found.the-variants.{InNight, InDay, Refused}
+use Rattle.files.specs.declared.EntryFound.{EntryFound}
+use Rattle.files.specs.declared.EntryFound.the-variants.{InNight, InDay, Refused}
 
 -- the latest of entries for a place, else `none`
 unfoldable pub latestFor : List (List ℤ) → ℤ → List ℤ → List ℤ
@@ -67,7 +67,7 @@ thirteen : (f : List ℕ) (at : ℕ) → wordsAt (take 128 (drop at f)) 0 13 ≡
 thirteen f at = sym (words-take (take 128 (drop at f)) 0 13 3) ∙ ap (take 13) (words-part f at 16) ∙ words-take f at 13 3
 
 -- the part shown holds the words of the entry e; or there is no entry, and the call is refused so
-abbrev pub Shows : List ℕ → List ℕ → Found → List ℤ → Type 0
+abbrev pub Shows : List ℕ → List ℕ → EntryFound → List ℤ → Type 0
 Shows night day (InNight at) e = wordsAt (shown (InNight at) night day) 0 13 ≡ e
 Shows night day (InDay at) e = wordsAt (shown (InDay at) night day) 0 13 ≡ e
 Shows night day (Refused r) e = (r ≡ NoEntry) × (e ≡ [])

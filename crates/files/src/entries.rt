@@ -1,5 +1,5 @@
 // The sixteen words of an entry, tested.
-use super::Entry;
+use super::FileEntry;
 ghost use mathlib.Core.Path.{_≡_};
 ghost use Prim.Native.Nat.{_+_, _≤_, _%_};
 ghost use lib.ListN.{length};
@@ -27,20 +27,20 @@ fn kind_right(w: &[i64]) -> bool
     ensures { λ r. ⌜ r ≡ kindRight (now (w .entry)) ⌝ }
 {
     let kind = w[0];
-    if words::same(kind, Entry::BASELINE) {
+    if words::same(kind, FileEntry::BASELINE) {
         return true;
     }
-    if words::same(kind, Entry::HEIGHT_DIFFERENCE) {
+    if words::same(kind, FileEntry::HEIGHT_DIFFERENCE) {
         return zeros(w, 4, 2) & zeros(w, 7, 5);
     }
-    words::same(kind, Entry::STRIKE) & zeros(w, 2, 11)
+    words::same(kind, FileEntry::STRIKE) & zeros(w, 2, 11)
 }
 
 fn right_words(w: &[i64]) -> bool
     requires { ⌜ 13 ≤ length (now w) ⌝ }
     ensures { λ r. ⌜ r ≡ rightWords (now (w .entry)) ⌝ }
 {
-    words::between(w[1], 1, Entry::PLACES) & kind_right(w)
+    words::between(w[1], 1, FileEntry::PLACES) & kind_right(w)
 }
 
 // The sum of all of w, modulo 2^64.
@@ -72,7 +72,7 @@ pub fn previous_trailer(at: usize) -> i64
     if at == 0 {
         -1
     } else {
-        words::to_signed((at - Entry::TRAILER_BYTES) as u64)
+        words::to_signed((at - FileEntry::TRAILER_BYTES) as u64)
     }
 }
 

@@ -1,7 +1,7 @@
 // The entry in force of a night file and a day file, as a part of whichever holds it.
-use super::Entry;
+use super::EntryFound;
+use super::FileEntry;
 use super::FileRefusal;
-use super::Found;
 use super::reading::holds_file;
 use super::reading::latest_entry;
 ghost use mathlib.Core.Path.{_≡_};
@@ -25,29 +25,29 @@ pub fn file_number(refusal: FileRefusal) -> u64
 }
 
 // The latest entry of the night file, else of the day file.
-fn latest_of_two(night: &[u8], day: &[u8], place: i64) -> Found
+fn latest_of_two(night: &[u8], day: &[u8], place: i64) -> EntryFound
     ensures { λ r. ⌜ r ≡ forceIn (now (night .entry)) (now (day .entry)) place ⌝ }
 {
     let n = latest_entry(night, place);
     if n < night.len() {
-        return Found::InNight(n);
+        return EntryFound::InNight(n);
     }
     let d = latest_entry(day, place);
     if d < day.len() {
-        return Found::InDay(d);
+        return EntryFound::InDay(d);
     }
-    Found::Refused(FileRefusal::NoEntry)
+    EntryFound::Refused(FileRefusal::NoEntry)
 }
 
 // Where the entry in force for a place is, or why there is none.
-pub fn find(night: &[u8], day: &[u8], place: i64) -> Found
+pub fn find(night: &[u8], day: &[u8], place: i64) -> EntryFound
     ensures { λ r. ⌜ r ≡ inForce (now (night .entry)) (now (day .entry)) place ⌝ }
 {
-    if !words::between(place, 1, Entry::PLACES) {
-        return Found::Refused(FileRefusal::BadPlace);
+    if !words::between(place, 1, FileEntry::PLACES) {
+        return EntryFound::Refused(FileRefusal::BadPlace);
     }
     if !(holds_file(night) & holds_file(day)) {
-        return Found::Refused(FileRefusal::Unreadable);
+        return EntryFound::Refused(FileRefusal::Unreadable);
     }
     latest_of_two(night, day, place)
 }
@@ -57,7 +57,7 @@ fn entry_part(file: &[u8], at: usize) -> &[u8]
     requires { ⌜ at + 128 ≤ length (now file) ⌝ }
     ensures { λ r. ⌜ (now r ≡ take 128 (drop at (now (file .entry)))) × (ptr r ≡ (ptr (file .entry) .0, at + ptr (file .entry) .1)) ⌝ }
 {
-    let end = at + Entry::BYTES;
+    let end = at + FileEntry::BYTES;
     &file[at..end]
 }
 
@@ -68,14 +68,14 @@ fn empty_part(file: &[u8]) -> &[u8]
     &file[0..0]
 }
 
-fn part<'a>(night: &'a [u8], day: &'a [u8], found: Found) -> &'a [u8]
+fn part<'a>(night: &'a [u8], day: &'a [u8], found: EntryFound) -> &'a [u8]
     requires { ⌜ Inside found (length (now night)) (length (now day)) ⌝ }
     ensures { λ r. ⌜ (now r ≡ shown found (now (night .entry)) (now (day .entry))) × (ptr r ≡ liesAt found (ptr (night .entry)) (ptr (day .entry))) ⌝ }
 {
     match found {
-        Found::InNight(at) => entry_part(night, at),
-        Found::InDay(at) => entry_part(day, at),
-        Found::Refused(refusal) => empty_part(night),
+        EntryFound::InNight(at) => entry_part(night, at),
+        EntryFound::InDay(at) => entry_part(day, at),
+        EntryFound::Refused(refusal) => empty_part(night),
     }
 }
 

@@ -23,16 +23,16 @@ pub enum FileRefusal {
 }
 
 // Where the entry in force starts: at a byte of the night file or of the day file.
-pub enum Found {
+pub enum EntryFound {
     InNight(usize),
     InDay(usize),
     Refused(FileRefusal),
 }
 
 // What document 02 fixes of an entry.
-pub struct Entry {}
+pub struct FileEntry {}
 
-impl Entry {
+impl FileEntry {
     // Its length in bytes, and that of its trailer, which is its last three words.
     pub const BYTES: usize = 128;
 

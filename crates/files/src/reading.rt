@@ -1,5 +1,5 @@
 // Whole files, read from the last byte back.
-use super::Entry;
+use super::FileEntry;
 use super::entries::linked_at;
 ghost use mathlib.Core.Path.{_≡_};
 ghost use Rattle.files.specs.Files.{reads, latestEntry};
@@ -8,12 +8,12 @@ ghost use Rattle.files.specs.Files.{reads, latestEntry};
 pub fn holds_file(file: &[u8]) -> bool
     ensures { λ r. ⌜ r ≡ reads (now (file .entry)) ⌝ }
 {
-    if file.len() % Entry::BYTES != 0 {
+    if file.len() % FileEntry::BYTES != 0 {
         return false;
     }
     let mut end = file.len();
     while end > 0 {
-        end -= Entry::BYTES;
+        end -= FileEntry::BYTES;
         if !linked_at(file, end) {
             return false;
         }
@@ -25,10 +25,10 @@ pub fn holds_file(file: &[u8]) -> bool
 pub fn latest_entry(file: &[u8], place: i64) -> usize
     ensures { λ r. ⌜ r ≡ latestEntry (now (file .entry)) place ⌝ }
 {
-    let mut n = file.len() / Entry::BYTES;
+    let mut n = file.len() / FileEntry::BYTES;
     while n > 0 {
         n -= 1;
-        let at = Entry::BYTES * n;
+        let at = FileEntry::BYTES * n;
         if words::same(words::word_at(file, at + 8), place) {
             return at;
         }

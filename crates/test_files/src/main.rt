@@ -1,6 +1,6 @@
 // Writes a day file and a night file, reads them and parts of them, and asks for entries in force, which come back as parts of the two files; prints what came of it. The C calls cannot give a
 // part, so tests/host does not reach this.
-use files::Found;
+use files::EntryFound;
 ghost use mathlib.Core.Path.{_≡_};
 ghost use lib.ListN.{length};
 
@@ -63,17 +63,17 @@ fn reading(what: &[u8], f: &[u8]) {
 }
 
 // Which file, and the byte where the entry starts; or the refusal's number.
-fn where_found(found: Found) {
+fn where_found(found: EntryFound) {
     match found {
-        Found::InNight(at) => {
+        EntryFound::InNight(at) => {
             io::write_all(1, b" night file, byte ");
             io::print_decimal(1, at as u64);
         }
-        Found::InDay(at) => {
+        EntryFound::InDay(at) => {
             io::write_all(1, b" day file, byte ");
             io::print_decimal(1, at as u64);
         }
-        Found::Refused(refusal) => {
+        EntryFound::Refused(refusal) => {
             io::write_all(1, b" refused with ");
             io::print_decimal(1, files::file_number(refusal));
         }

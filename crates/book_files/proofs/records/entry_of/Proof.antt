@@ -8,7 +8,7 @@ use lib.IntN.{ℤ, pos}
 use mir.Syntax.{w64}
 use mir.ValLaws.{toZ-ofZ}
 use Rattle.network.specs.RecordWords.{recordWords}
-use Rattle.book_files.specs.Writing.{entryOf}
+use Rattle.book_files.specs.Writing.{recordEntry}
 use borrow.Author.Needs.{needs, sfits-of}
 use Rattle.book_files.proofs.records.entry_of.Statement.{statement}
 use Rattle.book_files.proofs.records.entry_of.Tie as tie
@@ -59,7 +59,7 @@ array-copy-out-t42 : tie.Need-array-copy-out-t42
 array-copy-out-t42 c = search needs
 
 returns : tie.Need-returns
-unfolding entryOf
+unfolding recordEntry
 returns c =
     let w = c .before .before .before .before .before .before .before .before .before .before .before .before in
     let s = w .before in

@@ -19,8 +19,8 @@ loop-holds c = (search needs, wrote-none _ _)
 record-in-requires : tie.Need-record-in-requires Inv-loop μ-loop
 record-in-requires c κs = search needs
 
-put-record-requires : tie.Need-put-record-requires Inv-loop μ-loop
-put-record-requires c κs =
+put-entry-requires : tie.Need-put-entry-requires Inv-loop μ-loop
+put-entry-requires c κs =
     let r = c .before in
     let a = r .before .before in
     (search needs, omega (arith, a .loop .inv .1 .next), room-next _ _ _ _ _ (a .loop .inv .1) (r .record-in .ensures) (r .before .loop-test .taken) (a .before .before .before .pre .1))
@@ -36,7 +36,7 @@ loop-again c =
     let w = c .before .before in
     let r = w .before .before in
     let a = r .before .before in
-    (search needs, wrote-more _ _ _ _ _ (a .loop .inv .1) (r .record-in .ensures) (w .put-record .ensures .0) (w .put-record .ensures .1))
+    (search needs, wrote-more _ _ _ _ _ (a .loop .inv .1) (r .record-in .ensures) (w .put-entry .ensures .0) (w .put-entry .ensures .1))
 
 same-length : tie.Need-same-length Inv-loop μ-loop
 same-length c = search needs
@@ -52,7 +52,7 @@ write-entries-spec =
     μ-loop
     loop-holds
     record-in-requires
-    put-record-requires
+    put-entry-requires
     add-p
     loop-less
     loop-again

@@ -4,8 +4,8 @@ use native.Mathlib.Omega.{arith}
 use denote.Ref.{now}
 use Rattle.book_files.specs.WritingLaws.{one-entry, put-none, put-one}
 use borrow.Author.Needs.{needs}
-use Rattle.book_files.proofs.writing.put_record.Statement.{statement}
-use Rattle.book_files.proofs.writing.put_record.Tie as tie
+use Rattle.book_files.proofs.writing.put_entry.Statement.{statement}
+use Rattle.book_files.proofs.writing.put_entry.Tie as tie
 
 is-empty-requires : tie.Need-is-empty-requires
 is-empty-requires c κs = search needs
@@ -41,8 +41,8 @@ returns-2 c =
     let one = put-one (s .args .p) (s .args .r) (now (s .args .file)) (s .args .at) (sym (e .before .is-empty .ensures) ∙ e .if1 .left) (w .before .before .entry-of .ensures) in
     (one .0, w .write-entry .ensures ∙ one .1)
 
-pub put-record-spec : {M : Type 1} → statement M
-put-record-spec =
+pub put-entry-spec : {M : Type 1} → statement M
+put-entry-spec =
     tie.close
     (tie.spec
     is-empty-requires
