@@ -1,4 +1,4 @@
-"""Files of entries, an independent implementation of request 6 of document 02, for the tests: written from its words alone, with no thought for speed. A file is bytes, an entry
+"""Files of entries, an independent implementation of request 6 of document 02, for the tests: written from its words, and where they leave something open by what docs/DECISIONS.md decides, with no thought for speed. A file is bytes, an entry
 its first thirteen words as a tuple; the trailer is worked out where a file is written, and followed back where one is read."""
 import struct
 
