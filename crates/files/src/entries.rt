@@ -57,7 +57,7 @@ pub fn sum(w: &[i64]) -> i64
 }
 
 // A right kind, place, zeros and sum.
-fn right_entry(w: &[i64]) -> bool
+pub fn right_entry(w: &[i64]) -> bool
     requires { ⌜ length (now w) ≡ 16 ⌝ }
     ensures { λ r. ⌜ r ≡ rightEntry (now (w .entry)) ⌝ }
 {

@@ -7,6 +7,7 @@ mod reading;
 mod writing;
 
 pub use entries::entry_words;
+pub use entries::right_entry;
 pub use force::file_number;
 pub use force::find;
 pub use force::in_force;

@@ -1,0 +1,42 @@
+-- One pair, or none. Assumes nothing.
+use mathlib.Core.Path.{sym, ap, _∙_}
+use mathlib.Core.List.{List}
+use Prim.Native.Nat.{ℕ, _+_, _*_}
+use native.Mathlib.Nat.{add-zero}
+use native.Mathlib.Omega.{arith}
+use lib.ListN.{length}
+use Rattle.words.specs.Runs.{putWords}
+use Rattle.salvage.specs.Salvage.{runWords}
+use Rattle.salvage.proofs.Counted.{run-one, run-no}
+use borrow.Author.Needs.{needs}
+use Rattle.salvage.proofs.writing.put_run.Statement.{statement}
+use Rattle.salvage.proofs.writing.put_run.Tie as tie
+
+sub-put-pair : tie.Need-sub-put-pair
+sub-put-pair c = search needs
+
+put-pair-requires : tie.Need-put-pair-requires
+put-pair-requires c κs = omega (arith, c .before .before .before .pre, ap length (run-one _ _ (c .before .if1 .taken)))
+
+add-result : tie.Need-add-result
+add-result c = search needs
+
+same-length : tie.Need-same-length
+same-length c = search needs
+
+returns : tie.Need-returns
+unfolding runWords
+returns c =
+    let s = c .before .before .before .before .before .before in
+    let t = sym (run-one (s .args .a) (s .args .b) (c .before .before .before .before .if1 .taken)) in
+    (ap (λ (l : List (ℕ × ℕ)). s .args .i + length l) t, c .before .before .put-pair .ensures ∙ ap (λ (l : List (ℕ × ℕ)). putWords (s .args .list .now) (16 * s .args .i) (runWords l)) t)
+
+returns-2 : tie.Need-returns-2
+unfolding runWords putWords
+returns-2 c =
+    let s = c .before .before in
+    let t = sym (run-no (s .args .a) (s .args .b) (c .if1 .left)) in
+    (sym (add-zero (s .args .i)) ∙ ap (λ (l : List (ℕ × ℕ)). s .args .i + length l) t, ap (λ (l : List (ℕ × ℕ)). putWords (s .args .list .now) (16 * s .args .i) (runWords l)) t)
+
+pub put-run-spec : {M : Type 1} → statement M
+put-run-spec = tie.close (tie.spec sub-put-pair put-pair-requires add-result same-length returns returns-2)
