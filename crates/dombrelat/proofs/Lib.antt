@@ -5,3 +5,4 @@ mod Lent
 mod Offered
 mod Openings
 mod Readings
+mod Salvages

@@ -4,7 +4,7 @@
 --   checkCall, sheetCall, distanceCall   specs/CheckCalls.antt
 --   Proposes               specs/Proposal.antt
 --   unknownsCall, sheetBytesCall, stationsCall, recordCall   specs/Reading.antt; numbered: 256 · the number that a call gives
---   writeCall, checkFileCall, foundCall, enterCall   specs/FileCalls.antt
+--   writeCall, checkFileCall, foundCall, enterCall   specs/FileCalls.antt; salvageCall   specs/SalvageCall.antt
 --   bytesFit               layout, specs/Bytes.antt   what 25 tests of lent book bytes
 use Prim.Native.Nat.{ℕ, _*_, _%_}
 use mathlib.Core.Path.{_≡_}
@@ -23,6 +23,7 @@ use Rattle.dombrelat.specs.CheckCalls.{checkCall, sheetCall, distanceCal
 use Rattle.dombrelat.specs.Proposal.{Proposes}
 use Rattle.dombrelat.specs.Reading.{numbered, unknownsCall, sheetBytesCall, stationsCall, recordCall}
 use Rattle.dombrelat.specs.FileCalls.{writeCall, checkFileCall, foundCall, enterCall}
+use Rattle.dombrelat.specs.SalvageCall.{salvageCall}
 
 -- ════ a C call with all that it is lent: a later call joins by a line here, and by one in each definition below
 pub data Asked : Type 0 where
@@ -40,6 +41,7 @@ pub data Asked : Type 0 where
   toCheckFile : (file : List ℕ) → Asked
   toFindEntry : (night day : List ℕ) → (place : ℤ) → (found : List ℕ) → Asked
   toEnterFile : (book file answers : List ℕ) → Asked
+  toSalvage : (damaged fresh skipped kept counts : List ℕ) → Asked
 
 -- the book bytes that it is lent to write on, if it is, and every other slice that it may write on. Slices that are lent to read cannot change
 pub record Left : Type 0 where
@@ -62,6 +64,7 @@ given (toWriteFile book file) = record { books = []; others = file ∷ [] }
 given (toCheckFile file) = record { books = []; others = [] }
 given (toFindEntry night day place found) = record { books = []; others = found ∷ [] }
 given (toEnterFile book file answers) = record { books = book ∷ []; others = answers ∷ [] }
+given (toSalvage damaged fresh skipped kept counts) = record { books = []; others = fresh ∷ skipped ∷ kept ∷ counts ∷ [] }
 
 -- the answer r, and the slices afterwards: as the contracts have it
 unfoldable pub Returns : Asked → ℤ → Left → Type 0
@@ -84,6 +87,9 @@ Returns (toFindEntry night day place found) r left =
     (r ≡ foundCall night day place found .answer) × (left ≡ record { books = []; others = foundCall night day place found .bytes ∷ [] })
 Returns (toEnterFile book file answers) r left =
     (r ≡ enterCall book file answers .answer) × (left ≡ record { books = enterCall book file answers .book ∷ []; others = enterCall book file answers .answers ∷ [] })
+Returns (toSalvage damaged fresh skipped kept counts) r left =
+    let s = salvageCall damaged fresh skipped kept counts in
+    (r ≡ s .answer) × (left ≡ record { books = []; others = s .fresh ∷ s .skipped ∷ s .kept ∷ s .counts ∷ [] })
 
 -- ════ an answer taken apart: refusal + 256 · number, or the length of a file, a multiple of 128
 -- the refusal, below 128, as the header's DOMBRELAT_REFUSAL gives it: 0 where the call is not refused. −1, no proposal, and −2, the answer that a distance does not agree, stand by themselves; what is said below of refusals holds of both
@@ -107,6 +113,7 @@ unrefused (toWriteFile book file) = pos (128 * length (bookEntries (bookOf book)
 unrefused (toCheckFile file) = pos 0
 unrefused (toFindEntry night day place found) = pos 0
 unrefused (toEnterFile book file answers) = pos 0
+unrefused (toSalvage damaged fresh skipped kept counts) = pos 0
 
 -- ════ the demand
 pub record Demand (asked : Asked) : Type 0 where

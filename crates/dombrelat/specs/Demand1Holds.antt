@@ -47,14 +47,18 @@ use Rattle.book_files.specs.Entering.{callsIn, enterAnswer}
 use Rattle.book_files.specs.declared.FileWritten.the-variants.{Length, Refused as notWritten}
 use Rattle.book_files.specs.declared.Entered.{Entered}
 use Rattle.book_files.specs.declared.Entered.the-variants.{Done, Refused as notEntered}
+use Rattle.salvage.specs.Salvage.{salvageAnswer, freshLeft, skippedLeft, keptLeft}
+use Rattle.salvage.specs.declared.Salvaged.{Salvaged}
+use Rattle.salvage.specs.declared.Salvaged.the-variants.{Counts, Refused as notSalvaged}
 use Rattle.dombrelat.specs.Calls.{Returned, refusedWith, answeredWith, through, editCall, openCall}
 use Rattle.dombrelat.specs.CheckCalls.{Judged, judgedLent, checkCall, sheetCall, distanceCall}
 use Rattle.dombrelat.specs.Proposal.{Proposes}
 use Rattle.dombrelat.specs.Reading.{numbered, gives, listWords, unknownsCall, sheetBytesCall, stationsCall, recordCall}
 use Rattle.dombrelat.specs.FileCalls.{FileEntered, writtenWord, writeCall, checkFileCall, givenFound, foundCall, enteredInto, enterCall}
+use Rattle.dombrelat.specs.SalvageCall.{SalvageReturned, salvagedWord, countsLeft, salvageCall}
 use Rattle.dombrelat.specs.FileCallLaws.{number-least, number-most, run-fits}
 use Rattle.dombrelat.specs.Demand3Holds.{opened-fits-next, edited-next}
-use Rattle.dombrelat.specs.Demand1.{Asked, toOpen, toEdit, toCheck, toCheckSheet, toCheckDistance, toPropose, toReadUnknowns, toReadSheetBytes, toReadStations, toReadRecord, toWriteFile, toCheckFile, toFindEntry, toEnterFile, Left, given, Returns, refusalIn, unrefused, Demand1}
+use Rattle.dombrelat.specs.Demand1.{Asked, toOpen, toEdit, toCheck, toCheckSheet, toCheckDistance, toPropose, toReadUnknowns, toReadSheetBytes, toReadStations, toReadRecord, toWriteFile, toCheckFile, toFindEntry, toEnterFile, toSalvage, Left, given, Returns, refusalIn, unrefused, Demand1}
 
 -- ════ answers taken apart
 -- an answer r without a refusal is k
@@ -304,6 +308,21 @@ enter-right s file before = go (bytesFit s) refl (enterAnswer file (length befor
     go true f (notEntered r) = small (fileNumber r) (number-least r) (let h = number-most r in omega arith)
     go false f e = small 25 (omega arith) (omega arith)
 
+-- a file salvaged: one refused leaves all four slices as they came
+record SalvagesRight (fresh skipped kept counts : List ℕ) (r : SalvageReturned) : Type 0 where
+  told : Told (pos 0) (r .answer)
+  stays : (refusalIn (r .answer) ≡ pos 0 → ⊥) → (r .fresh ≡ fresh) × (r .skipped ≡ skipped) × (r .kept ≡ kept) × (r .counts ≡ counts)
+
+salvage-right : (f fresh skipped kept counts : List ℕ) → SalvagesRight fresh skipped kept counts (salvageCall f fresh skipped kept counts)
+unfolding salvageCall freshLeft skippedLeft keptLeft
+salvage-right f fresh skipped kept counts = go (cond (leb 16 (length counts)) (salvageAnswer f (length fresh) (length skipped) (length kept)) (notSalvaged NoRoom))
+  where
+    go : (s : Salvaged)
+        → SalvagesRight fresh skipped kept counts
+        (record { answer = salvagedWord s; fresh = freshLeft s f fresh; skipped = skippedLeft s f skipped; kept = keptLeft s f kept; counts = countsLeft s counts })
+    go (Counts n) = record { told = told-given (pos 0); stays = λ h. absurd (h (given-none 0)) }
+    go (notSalvaged r) = record { told = told-refusal (pos 0) (fileNumber r) (number-least r) (let h = number-most r in omega arith); stays = λ h. (refl, refl, refl, refl) }
+
 -- ════ all calls
 told-as : (k r n : ℤ) → r ≡ n → Told k n → Told k r
 told-as k r n e t = subst (Told k) (sym e) t
@@ -324,6 +343,7 @@ told-all (toWriteFile book file) r left (e, q) = told-as _ r _ e (write-right bo
 told-all (toCheckFile file) r left (e, q) = told-as (pos 0) r _ e (check-file-told file)
 told-all (toFindEntry night day place found) r left (e, q) = told-as (pos 0) r _ e (found-right night day place found .told)
 told-all (toEnterFile book file answers) r left (e, q) = told-as (pos 0) r _ e (enter-right book file answers .told)
+told-all (toSalvage f fresh skipped kept counts) r left (e, q) = told-as (pos 0) r _ e (salvage-right f fresh skipped kept counts .told)
 
 -- the refusal of an answer given in two ways
 refused-as : (r n : ℤ) → r ≡ n → (refusalIn r ≡ pos 0 → ⊥) → refusalIn n ≡ pos 0 → ⊥
@@ -349,6 +369,9 @@ refused-all (toFindEntry night day place found) r left (e, q) h = q ∙ ap (λ (
 refused-all (toEnterFile book file answers) r left (e, q) h =
     let s = enter-right book file answers .stays (refused-as r _ e h) in
     q ∙ (λ i. record { books = s .0 i ∷ []; others = s .1 i ∷ [] })
+refused-all (toSalvage f fresh skipped kept counts) r left (e, q) h =
+    let s = salvage-right f fresh skipped kept counts .stays (refused-as r _ e h) in
+    q ∙ (λ i. record { books = []; others = s .0 i ∷ s .1 i ∷ s .2 i ∷ s .3 i ∷ [] })
 
 answers : (asked : Asked) → (r : ℤ) × (left : Left) × Returns asked r left
 unfolding Returns
@@ -366,6 +389,7 @@ answers (toWriteFile book file) = (_, _, (refl, refl))
 answers (toCheckFile file) = (_, _, (refl, refl))
 answers (toFindEntry night day place found) = (_, _, (refl, refl))
 answers (toEnterFile book file said) = (_, _, (refl, refl))
+answers (toSalvage f fresh skipped kept counts) = (_, _, (refl, refl))
 
 only : (x y : List ℕ) (l : List (List ℕ)) → l ≡ x ∷ [] → l ≡ y ∷ [] → x ≡ y
 only x y l p q = cc
@@ -392,6 +416,7 @@ accepted (toCheckFile file) left book (e, q) h = none book (left .books) (ap (λ
 accepted (toFindEntry night day place found) left book (e, q) h = none book (left .books) (ap (λ (y : Left). y .books) q) h
 accepted (toEnterFile s file answers) left book (e, q) h =
     subst (λ (k : List ℕ). bytesFit k ≡ true) (only (enterCall s file answers .book) book (left .books) (ap (λ (y : Left). y .books) q) h) (enter-right s file answers .fits (sym e))
+accepted (toSalvage f fresh skipped kept counts) left book (e, q) h = none book (left .books) (ap (λ (y : Left). y .books) q) h
 
 pub demand-1 : Demand1
 unfolding Told

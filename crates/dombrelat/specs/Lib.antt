@@ -1,4 +1,4 @@
--- What the C calls answer and leave (Calls, CheckCalls, Proposal, Reading, FileCalls), the three demands over bytes (Demand1, Demand2, Demand3), demand 3 of runs with files entered
+-- What the C calls answer and leave (Calls, CheckCalls, Proposal, Reading, FileCalls, SalvageCall), the three demands over bytes (Demand1, Demand2, Demand3), demand 3 of runs with files entered
 -- among them (FileRuns), a book's file entered on a new book (FileRoundTrip), an edit with its undo (EditUndo), a record with antenna heights and the same taken to the marks (AtMarks), and
 -- their laws. The layout of a book's bytes is in crate layout.
 pub mod Calls
@@ -6,6 +6,7 @@ pub mod CheckCalls
 pub mod Proposal
 pub mod Reading
 pub mod FileCalls
+pub mod SalvageCall
 pub mod Demand1
 pub mod Demand1Holds
 pub mod Demand2
