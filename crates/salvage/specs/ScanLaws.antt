@@ -15,7 +15,7 @@ use Rattle.salvage.specs.Salvage.{keptAt, scan, keptFrom}
 
 pub kept-inside : (f : List ℕ) (at : ℕ) → keptAt f at ≡ true → at + 128 ≤ length f
 unfolding keptAt
-kept-inside f at e = leb-true _ _ (and-left (leb (at + 128) (length f)) (rightAt f at) e)
+kept-inside f at e = leb-true _ _ (and-left (leb (at + 128) (length f)) _ e)
 
 pub kept-right : (f : List ℕ) (at : ℕ) → keptAt f at ≡ true → rightAt f at ≡ true
 unfolding keptAt
@@ -23,7 +23,7 @@ kept-right f at e = and-right (leb (at + 128) (length f)) (rightAt f at) e
 
 beyond : (f : List ℕ) (at : ℕ) → length f < at + 128 → keptAt f at ≡ false
 unfolding keptAt
-beyond f at h = and-no-left (leb (at + 128) (length f)) (rightAt f at) (lt-leb _ _ h)
+beyond f at h = and-no-left (leb (at + 128) (length f)) _ (lt-leb _ _ h)
 
 -- ════ steps enough are all the same
 scan-beyond : (f : List ℕ) (k at : ℕ) → length f < at + 128 → scan f k at ≡ []

@@ -75,7 +75,7 @@ skipped-run j a b h = go (decLt a b)
     none (yes p) l = within-low a b j p
     none (no p) l = within-high a b j (omega arith)
 
-    go : Dec (a < b) → timesSkipped j (cond (ltb a b) ((a, b - a) ∷ []) []) ≡ within a b j
+    go : Dec (a < b) → timesSkipped j (runBetween a b) ≡ within a b j
     go (yes l) = let e : a + (b - a) ≡ b = omega arith in rw (lt-ltb a b l, e) (omega arith)
     go (no l) = rw (le-ltb a b (omega arith)) (sym (none (decLt j a) (omega arith)))
 
@@ -107,7 +107,7 @@ run-parted : (from b : ℕ) (rs : List (ℕ × ℕ)) → from ≤ b → Parted (
 unfolding runBetween
 run-parted from b rs h p = go (decLt from b)
   where
-    go : Dec (from < b) → Parted from (cond (ltb from b) ((from, b - from) ∷ []) [] ++ rs)
+    go : Dec (from < b) → Parted from (runBetween from b ++ rs)
     go (yes l) = let e : from + (b - from) ≡ b = omega arith in rw (lt-ltb from b l) (omega arith, omega arith, rw e p)
     go (no l) = rw (le-ltb from b (omega arith)) (parted-less from (suc b) rs (omega arith) p)
 
