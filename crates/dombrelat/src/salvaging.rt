@@ -14,20 +14,20 @@ ghost use Rattle.dombrelat.specs.SalvageCall.{salvagedWord, countsLeft, 
 const COUNTS_BYTES: usize = 16;
 
 // Puts the counts of a salvage, skipped runs first.
-fn put_counts(n: SalvageCounts, counts: &mut [u8]) -> i64
+fn put_salvage_counts(n: SalvageCounts, counts: &mut [u8]) -> i64
     requires { ⌜ 16 ≤ length (now counts) ⌝ }
     ensures { λ r. ⌜ (r ≡ pos 0) × (now (counts .exit) ≡ putWords (now (counts .entry)) 0 (signed (n .skipped) ∷ signed (n .kept) ∷ [])) ⌝ }
 {
-    salvage::put_pair(counts, 0, n.skipped, n.kept);
+    salvage::list_pair(counts, 0, n.skipped, n.kept);
     0
 }
 
-fn give_counts(s: Salvaged, counts: &mut [u8]) -> i64
+fn give_salvaged(s: Salvaged, counts: &mut [u8]) -> i64
     requires { ⌜ 16 ≤ length (now counts) ⌝ }
     ensures { λ r. ⌜ (r ≡ salvagedWord s) × (now (counts .exit) ≡ countsLeft s (now (counts .entry))) ⌝ }
 {
     match s {
-        Salvaged::Counts(n) => put_counts(n, counts),
+        Salvaged::Counts(n) => put_salvage_counts(n, counts),
         Salvaged::Refused(refusal) => files::file_number(refusal) as i64,
     }
 }
@@ -51,5 +51,5 @@ pub extern "C" fn dombrelat_salvage(
         return 10;
     }
     let s = salvage::salvage(damaged, fresh, skipped, kept);
-    give_counts(s, counts)
+    give_salvaged(s, counts)
 }

@@ -10,7 +10,7 @@ use lib.ListN.{length, length-append}
 use Rattle.words.specs.Bools.{and-both, and-no-right}
 use Rattle.files.specs.Files.{rightAt}
 use Rattle.salvage.specs.declared.SalvageCounts.{SalvageCounts}
-use Rattle.salvage.specs.Salvage.{keptAt, keptFrom, keptStarts, runBetween, runsBetween, skippedRuns, countsOf}
+use Rattle.salvage.specs.Salvage.{keptAt, keptFrom, keptStarts, runBetween, runsBetween, skippedRuns, salvageCounts}
 use Rattle.salvage.specs.ScanLaws.{scan-keep, scan-skip, scan-end}
 use Rattle.salvage.specs.SalvageLaws.{kept-few, run-few, runs-few}
 
@@ -45,15 +45,15 @@ module _ (a b : ℕ) where
   run-no h = rw (le-ltb a b h)
 
 -- ---- what is counted before byte `at`, where the last entry kept ended at byte `end`
-pub record Counted (f : List ℕ) (skipped kept end at : ℕ) : Type 0 where
+pub record CountedTo (f : List ℕ) (skipped kept end at : ℕ) : Type 0 where
   pub inside : at ≤ length f
   pub entries : kept + length (keptFrom f at) ≡ length (keptStarts f)
   pub runs : skipped + length (runsBetween end (keptFrom f at) (length f)) ≡ length (skippedRuns f)
 
-pub counted-none : (f : List ℕ) → Counted f 0 0 0 0
+pub counted-none : (f : List ℕ) → CountedTo f 0 0 0 0
 counted-none f = record { inside = omega arith; entries = omega arith; runs = omega arith }
 
-module _ (f : List ℕ) (skipped kept end at : ℕ) (c : Counted f skipped kept end at) where
+module _ (f : List ℕ) (skipped kept end at : ℕ) (c : CountedTo f skipped kept end at) where
   -- no count gets large
   pub counted-few : (128 * skipped ≤ length f + 128) × (128 * kept ≤ length f)
   counted-few =
@@ -61,7 +61,7 @@ module _ (f : List ℕ) (skipped kept end at : ℕ) (c : Counted f skipped kept 
       let runs = runs-few 0 (keptStarts f) (length f) in
       (omega (arith, c .runs), omega (arith, c .entries))
 
-  pub counted-keep : at + 128 ≤ length f → rightAt f at ≡ true → Counted f (skipped + length (runBetween end at)) (kept + 1) (at + 128) (at + 128)
+  pub counted-keep : at + 128 ≤ length f → rightAt f at ≡ true → CountedTo f (skipped + length (runBetween end at)) (kept + 1) (at + 128) (at + 128)
   counted-keep h r =
       record {
         inside = h;
@@ -74,7 +74,7 @@ module _ (f : List ℕ) (skipped kept end at : ℕ) (c : Counted f skipped kept 
         );
       }
 
-  pub counted-skip : at + 128 ≤ length f → rightAt f at ≡ false → Counted f skipped kept end (at + 8)
+  pub counted-skip : at + 128 ≤ length f → rightAt f at ≡ false → CountedTo f skipped kept end (at + 8)
   counted-skip h r =
       record {
         inside = omega arith;
@@ -89,5 +89,5 @@ module _ (f : List ℕ) (skipped kept end at : ℕ) (c : Counted f skipped kept 
     all-skipped : skipped + length (runBetween end (length f)) ≡ length (skippedRuns f)
     all-skipped = ap (λ (rs : List (ℕ × ℕ)). skipped + length rs) (sym (runs-end f at end over)) ∙ c .runs
 
-    pub counted-all : {n : ℕ} → n ≡ length (runBetween end (length f)) → record { skipped = skipped + n; kept = kept } ≡ countsOf f
+    pub counted-all : {n : ℕ} → n ≡ length (runBetween end (length f)) → record { skipped = skipped + n; kept = kept } ≡ salvageCounts f
     counted-all e = (λ i. record { skipped = (ap (λ (m : ℕ). skipped + m) e ∙ all-skipped) i; kept = all-kept i })

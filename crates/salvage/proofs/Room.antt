@@ -14,7 +14,7 @@ use Rattle.files.specs.declared.FileRefusal.the-variants.{NoRoom}
 use Rattle.salvage.specs.declared.SalvageCounts.{SalvageCounts}
 use Rattle.salvage.specs.declared.Salvaged.{Salvaged}
 use Rattle.salvage.specs.declared.Salvaged.the-variants.{Counts, Refused}
-use Rattle.salvage.specs.Salvage.{keptStarts, keptEntries, skippedRuns, runWords, startWords, countsOf, roomFor, salvageAnswer, freshLeft, skippedLeft, keptLeft}
+use Rattle.salvage.specs.Salvage.{keptStarts, keptEntries, skippedRuns, runWords, startWords, salvageCounts, roomFor, salvageAnswer, freshLeft, skippedLeft, keptLeft}
 
 by-128 : (k n : ℕ) → leb k (n / 128) ≡ leb (128 * k) n
 by-128 k n =
@@ -32,8 +32,8 @@ unfolding roomFor
 room-test n fresh skipped kept = (λ i. by-128 (n .kept) fresh i && by-16 (n .skipped) skipped i && by-16 (n .kept) kept i)
 
 -- the counts n that the code has are those of f
-module _ (f fresh skipped kept : List ℕ) {n : SalvageCounts} {t : Bool} (counts : n ≡ countsOf f) (tested : t ≡ roomFor n (length fresh) (length skipped) (length kept)) where
-  pub room-is : roomFor (countsOf f) (length fresh) (length skipped) (length kept) ≡ t
+module _ (f fresh skipped kept : List ℕ) {n : SalvageCounts} {t : Bool} (counts : n ≡ salvageCounts f) (tested : t ≡ roomFor n (length fresh) (length skipped) (length kept)) where
+  pub room-is : roomFor (salvageCounts f) (length fresh) (length skipped) (length kept) ≡ t
   room-is = sym (tested ∙ ap (λ (m : SalvageCounts). roomFor m (length fresh) (length skipped) (length kept)) counts)
 
   -- an answer, and the lent bytes afterwards

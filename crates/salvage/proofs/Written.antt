@@ -14,10 +14,10 @@ use Rattle.files.specs.BytesLaws.{put-append}
 use Rattle.files.specs.Entries.{entryWords}
 use Rattle.files.specs.EntryLaws.{length-entry}
 use Rattle.files.specs.Files.{rightAt, fileWords}
-use Rattle.salvage.specs.Salvage.{keptFrom, keptStarts, entriesAt, keptEntries, runBetween, runsBetween, skippedRuns, runWords, startWords, countsOf, roomFor}
+use Rattle.salvage.specs.Salvage.{keptFrom, keptStarts, entriesAt, keptEntries, runBetween, runsBetween, skippedRuns, runWords, startWords, salvageCounts, roomFor}
 use Rattle.salvage.specs.ScanLaws.{scan-end}
 use Rattle.salvage.specs.SalvageLaws.{length-runs, room-each}
-use Rattle.salvage.proofs.Counted.{keeps, skips, runs-keep, runs-end, Counted, counted-none, counted-keep, counted-skip}
+use Rattle.salvage.proofs.Counted.{keeps, skips, runs-keep, runs-end, CountedTo, counted-none, counted-keep, counted-skip}
 
 -- ---- words of runs
 pub pair-put : (s : List ℕ) (at : ℕ) (a b : ℤ) → putWord (putWord s at a) (at + 8) b ≡ putWords s at (a ∷ b ∷ [])
@@ -39,8 +39,8 @@ skippedRest f end at = runWords (runsBetween end (keptFrom f at) (length f))
 abbrev keptRest : List ℕ → ℕ → ℕ → List ℤ
 keptRest f entries at = startWords (128 * entries) (keptFrom f at)
 
-pub record Written (f fresh₀ skipped₀ kept₀ fresh skipped kept : List ℕ) (runs entries end at : ℕ) : Type 0 where
-  pub counted : Counted f runs entries end at
+pub record WrittenTo (f fresh₀ skipped₀ kept₀ fresh skipped kept : List ℕ) (runs entries end at : ℕ) : Type 0 where
+  pub counted : CountedTo f runs entries end at
   pub freshLong : length fresh ≡ length fresh₀
   pub skippedLong : length skipped ≡ length skipped₀
   pub keptLong : length kept ≡ length kept₀
@@ -48,7 +48,7 @@ pub record Written (f fresh₀ skipped₀ kept₀ fresh skipped kept : List ℕ)
   pub skippedWhole : putWords skipped (16 * runs) (skippedRest f end at) ≡ putWords skipped₀ 0 (runWords (skippedRuns f))
   pub keptWhole : putWords kept (16 * entries) (keptRest f entries at) ≡ putWords kept₀ 0 (startWords 0 (keptStarts f))
 
-pub written-none : (f fresh skipped kept : List ℕ) → Written f fresh skipped kept fresh skipped kept 0 0 0 0
+pub written-none : (f fresh skipped kept : List ℕ) → WrittenTo f fresh skipped kept fresh skipped kept 0 0 0 0
 written-none f fresh skipped kept =
     record { counted = counted-none f; freshLong = refl; skippedLong = refl; keptLong = refl; freshWhole = refl; skippedWhole = refl; keptWhole = refl }
 
@@ -93,13 +93,13 @@ module _ (f : List ℕ) (at : ℕ) (inside : at + 128 ≤ length f) (right : rig
       ∙ sym (put-append skipped (16 * runs) (runWords r) (runWords rest))
       ∙ ap (putWords skipped (16 * runs)) (sym (runs-append r rest) ∙ ap runWords (sym (runs-keep f at end inside right)))
 
-module _ {f fresh₀ skipped₀ kept₀ fresh skipped kept : List ℕ} {runs entries end at : ℕ} (w : Written f fresh₀ skipped₀ kept₀ fresh skipped kept runs entries end at) where
+module _ {f fresh₀ skipped₀ kept₀ fresh skipped kept : List ℕ} {runs entries end at : ℕ} (w : WrittenTo f fresh₀ skipped₀ kept₀ fresh skipped kept runs entries end at) where
   pub written-keep : {fresh′ skipped′ kept′ : List ℕ} {runs′ : ℕ} → at + 128 ≤ length f → rightAt f at ≡ true
       → runs′ ≡ runs + length (runBetween end at)
       → fresh′ ≡ putWords fresh (128 * entries) (entryWords (128 * entries) (wordsAt f at 13))
       → skipped′ ≡ putWords skipped (16 * runs) (runWords (runBetween end at))
       → kept′ ≡ putWords kept (16 * entries) (signed at ∷ signed (128 * entries) ∷ [])
-      → Written f fresh₀ skipped₀ kept₀ fresh′ skipped′ kept′ runs′ (entries + 1) (at + 128) (at + 128)
+      → WrittenTo f fresh₀ skipped₀ kept₀ fresh′ skipped′ kept′ runs′ (entries + 1) (at + 128) (at + 128)
   written-keep h r n ff ss kk =
       record {
         counted = rw n (counted-keep f runs entries end at (w .counted) h r);
@@ -111,7 +111,7 @@ module _ {f fresh₀ skipped₀ kept₀ fresh skipped kept : List ℕ} {runs ent
         keptWhole = ap (λ (l : List ℕ). putWords l (16 * (entries + 1)) (keptRest f (entries + 1) (at + 128))) kk ∙ kept-keep f at h r kept entries ∙ w .keptWhole;
       }
 
-  pub written-skip : at + 128 ≤ length f → rightAt f at ≡ false → Written f fresh₀ skipped₀ kept₀ fresh skipped kept runs entries end (at + 8)
+  pub written-skip : at + 128 ≤ length f → rightAt f at ≡ false → WrittenTo f fresh₀ skipped₀ kept₀ fresh skipped kept runs entries end (at + 8)
   written-skip h r =
       let s : keptFrom f (at + 8) ≡ keptFrom f at = sym (skips f at r) in
       record {
@@ -125,10 +125,10 @@ module _ {f fresh₀ skipped₀ kept₀ fresh skipped kept : List ℕ} {runs ent
       }
 
   -- ---- room for an entry and for a run
-  module _ (room : roomFor (countsOf f) (length fresh₀) (length skipped₀) (length kept₀) ≡ true) where
+  module _ (room : roomFor (salvageCounts f) (length fresh₀) (length skipped₀) (length kept₀) ≡ true) where
     pub room-kept : at + 128 ≤ length f → rightAt f at ≡ true → (128 * entries + 128 ≤ length fresh₀) × (16 * entries + 16 ≤ length kept₀)
     room-kept h r =
-        let each = room-each (countsOf f) (length fresh₀) (length skipped₀) (length kept₀) room in
+        let each = room-each (salvageCounts f) (length fresh₀) (length skipped₀) (length kept₀) room in
         let n = w .counted .entries in
         let k = ap length (keeps f at h r) in
         (omega (arith, each .0), omega (arith, each .2))
@@ -137,7 +137,7 @@ module _ {f fresh₀ skipped₀ kept₀ fresh skipped kept : List ℕ} {runs ent
     room-run h r =
         omega (
           arith,
-          room-each (countsOf f) (length fresh₀) (length skipped₀) (length kept₀) room .1,
+          room-each (salvageCounts f) (length fresh₀) (length skipped₀) (length kept₀) room .1,
           w .counted .runs,
           ap length (runs-keep f at end h r),
           length-append (runBetween end at) (runsBetween (at + 128) (keptFrom f (at + 128)) (length f)),
@@ -145,7 +145,7 @@ module _ {f fresh₀ skipped₀ kept₀ fresh skipped kept : List ℕ} {runs ent
 
     pub room-last : length f < at + 128 → 16 * runs + 16 * length (runBetween end (length f)) ≤ length skipped₀
     room-last h =
-        omega (arith, room-each (countsOf f) (length fresh₀) (length skipped₀) (length kept₀) room .1, w .counted .runs, ap length (runs-end f at end h))
+        omega (arith, room-each (salvageCounts f) (length fresh₀) (length skipped₀) (length kept₀) room .1, w .counted .runs, ap length (runs-end f at end h))
 
   -- ---- the end
   module _ (over : length f < at + 128) where

@@ -68,8 +68,8 @@ startWords new (k ∷ ks) = signed k ∷ signed new ∷ startWords (new + 128) k
 
 -- ════ the answer, given the room in bytes for the fresh file and the two lists
 -- "both counts are returned"
-abbrev pub countsOf : List ℕ → SalvageCounts
-countsOf f = record { skipped = length (skippedRuns f); kept = length (keptStarts f) }
+abbrev pub salvageCounts : List ℕ → SalvageCounts
+salvageCounts f = record { skipped = length (skippedRuns f); kept = length (keptStarts f) }
 
 -- 128 bytes an entry, and two words a pair
 unfoldable pub roomFor : SalvageCounts → ℕ → ℕ → ℕ → Bool
@@ -77,7 +77,7 @@ roomFor n fresh skipped kept = leb (128 * n .kept) fresh && leb (16 * n .skipped
 
 -- "Refusals: 10 where the output or a list has no room"
 unfoldable pub salvageAnswer : List ℕ → ℕ → ℕ → ℕ → Salvaged
-salvageAnswer f fresh skipped kept = cond (roomFor (countsOf f) fresh skipped kept) (Counts (countsOf f)) (Refused NoRoom)
+salvageAnswer f fresh skipped kept = cond (roomFor (salvageCounts f) fresh skipped kept) (Counts (salvageCounts f)) (Refused NoRoom)
 
 -- the lent bytes afterwards; "then none is written"
 unfoldable pub freshLeft : Salvaged → List ℕ → List ℕ → List ℕ

@@ -24,7 +24,7 @@ use Rattle.files.specs.Files.{fileWords, fileOf, rightAt, linkedAt, reads, entr
 use Rattle.files.specs.FileLaws.{AllFit, fit-long, reads-whole, read-fits, read-written, written-reads, written-entries, length-file, put-file, file-front}
 use Rattle.salvage.specs.declared.SalvageCounts.{SalvageCounts}
 use Rattle.salvage.specs.declared.Salvaged.the-variants.{Counts}
-use Rattle.salvage.specs.Salvage.{keptAt, keptFrom, keptStarts, entriesAt, keptEntries, freshFile, runBetween, runsBetween, skippedRuns, runWords, startWords, countsOf, roomFor, freshLeft, skippedLeft, keptLeft}
+use Rattle.salvage.specs.Salvage.{keptAt, keptFrom, keptStarts, entriesAt, keptEntries, freshFile, runBetween, runsBetween, skippedRuns, runWords, startWords, salvageCounts, roomFor, freshLeft, skippedLeft, keptLeft}
 use Rattle.salvage.specs.ScanLaws.{kept-apart, apart-room, kept-each-right, scan-keep, scan-end}
 
 -- ════ how much there is
@@ -54,7 +54,7 @@ room-each n fresh skipped kept e =
 
 -- as many bytes as the input has, and in each list a pair for each whole 128 of them and one more, are always enough
 pub room-enough : (f : List ℕ) (fresh skipped kept : ℕ) → length f ≤ fresh → 16 * (length f / 128 + 1) ≤ skipped → 16 * (length f / 128 + 1) ≤ kept
-    → roomFor (countsOf f) fresh skipped kept ≡ true
+    → roomFor (salvageCounts f) fresh skipped kept ≡ true
 unfolding roomFor
 room-enough f fresh skipped kept h l m =
     let few = kept-few f in

@@ -15,18 +15,18 @@ use Rattle.salvage.specs.ScanLaws.{Apart, kept-apart, apart-room}
 
 -- ════ the statements
 -- 1 where byte j is one of those from a to before b, else 0
-unfoldable pub within : ℕ → ℕ → ℕ → ℕ
-within a b j = cond (leb a j && ltb j b) 1 0
+unfoldable pub timesWithin : ℕ → ℕ → ℕ → ℕ
+timesWithin a b j = cond (leb a j && ltb j b) 1 0
 
 -- how often byte j lies in an entry that starts at one of ks
 unfoldable pub timesKept : ℕ → List ℕ → ℕ
 timesKept j [] = 0
-timesKept j (k ∷ ks) = within k (k + 128) j + timesKept j ks
+timesKept j (k ∷ ks) = timesWithin k (k + 128) j + timesKept j ks
 
 -- how often byte j lies in one of these runs
 unfoldable pub timesSkipped : ℕ → List (ℕ × ℕ) → ℕ
 timesSkipped j [] = 0
-timesSkipped j (r ∷ rs) = within (r .0) (r .0 + r .1) j + timesSkipped j rs
+timesSkipped j (r ∷ rs) = timesWithin (r .0) (r .0 + r .1) j + timesSkipped j rs
 
 -- by rising start from byte `from` on: none is empty, and between two of them there is a byte
 abbrev pub Parted : ℕ → List (ℕ × ℕ) → Type 0
@@ -41,22 +41,22 @@ pub record Longest (f : List ℕ) (r : ℕ × ℕ) : Type 0 where
 
 -- ════ tiling
 module _ (a b j : ℕ) where
-  within-yes : a ≤ j → j < b → within a b j ≡ 1
-  unfolding within
+  within-yes : a ≤ j → j < b → timesWithin a b j ≡ 1
+  unfolding timesWithin
   within-yes h l = rw (le-leb a j h, lt-ltb j b l)
 
-  within-low : j < a → within a b j ≡ 0
-  unfolding within
+  within-low : j < a → timesWithin a b j ≡ 0
+  unfolding timesWithin
   within-low h = rw (lt-leb a j h)
 
-  within-high : b ≤ j → within a b j ≡ 0
-  unfolding within
+  within-high : b ≤ j → timesWithin a b j ≡ 0
+  unfolding timesWithin
   within-high h = rw (and-no-right (leb a j) (ltb j b) (le-ltb j b h))
 
-within-split : (a b c j : ℕ) → a ≤ b → b ≤ c → within a b j + within b c j ≡ within a c j
+within-split : (a b c j : ℕ) → a ≤ b → b ≤ c → timesWithin a b j + timesWithin b c j ≡ timesWithin a c j
 within-split a b c j h l = go (decLt j a) (decLt j b) (decLt j c)
   where
-    go : Dec (j < a) → Dec (j < b) → Dec (j < c) → within a b j + within b c j ≡ within a c j
+    go : Dec (j < a) → Dec (j < b) → Dec (j < c) → timesWithin a b j + timesWithin b c j ≡ timesWithin a c j
     go (yes p) q r = rw (within-low a b j p, within-low b c j (omega arith), within-low a c j p)
     go (no p) (yes q) r = rw (within-yes a b j (omega arith) q, within-low b c j q, within-yes a c j (omega arith) (omega arith))
     go (no p) (no q) (yes r) = rw (within-high a b j (omega arith), within-yes b c j (omega arith) r, within-yes a c j (omega arith) r)
@@ -67,19 +67,19 @@ unfolding timesSkipped
 skipped-append j [] s = omega arith
 skipped-append j (x ∷ r) s = omega (arith, skipped-append j r s)
 
-skipped-run : (j a b : ℕ) → a ≤ b → timesSkipped j (runBetween a b) ≡ within a b j
+skipped-run : (j a b : ℕ) → a ≤ b → timesSkipped j (runBetween a b) ≡ timesWithin a b j
 unfolding timesSkipped runBetween
 skipped-run j a b h = go (decLt a b)
   where
-    none : Dec (j < a) → b ≤ a → within a b j ≡ 0
+    none : Dec (j < a) → b ≤ a → timesWithin a b j ≡ 0
     none (yes p) l = within-low a b j p
     none (no p) l = within-high a b j (omega arith)
 
-    go : Dec (a < b) → timesSkipped j (runBetween a b) ≡ within a b j
+    go : Dec (a < b) → timesSkipped j (runBetween a b) ≡ timesWithin a b j
     go (yes l) = let e : a + (b - a) ≡ b = omega arith in rw (lt-ltb a b l, e) (omega arith)
     go (no l) = rw (le-ltb a b (omega arith)) (sym (none (decLt j a) (omega arith)))
 
-runs-tile : (j from : ℕ) (ks : List ℕ) (end : ℕ) → Apart from ks end → timesKept j ks + timesSkipped j (runsBetween from ks end) ≡ within from end j
+runs-tile : (j from : ℕ) (ks : List ℕ) (end : ℕ) → Apart from ks end → timesKept j ks + timesSkipped j (runsBetween from ks end) ≡ timesWithin from end j
 unfolding timesKept runsBetween
 runs-tile j from [] end a = let e = skipped-run j from end a in omega arith
 runs-tile j from (k ∷ ks) end a =
@@ -95,7 +95,7 @@ runs-tile j from (k ∷ ks) end a =
     )
 
 -- every byte of the input lies once in an entry kept or a run skipped, and no other byte does
-pub tiles : (f : List ℕ) (j : ℕ) → timesKept j (keptStarts f) + timesSkipped j (skippedRuns f) ≡ within 0 (length f) j
+pub tiles : (f : List ℕ) (j : ℕ) → timesKept j (keptStarts f) + timesSkipped j (skippedRuns f) ≡ timesWithin 0 (length f) j
 tiles f j = runs-tile j 0 (keptStarts f) (length f) (kept-apart f 0 (omega arith))
 
 -- ════ rising

@@ -7,7 +7,7 @@ mod writing;
 
 use files::FileRefusal;
 pub use salvaging::salvage;
-pub use writing::put_pair;
+pub use writing::list_pair;
 
 // How many runs of bytes a salvage skips, and how many entries it keeps.
 pub struct SalvageCounts {

@@ -1,7 +1,8 @@
 // A damaged file salvaged into lent bytes.
 use super::SalvageCounts;
 use super::Salvaged;
-use super::scanning::count;
+use super::scanning::salvage_counts;
+use super::writing::PAIR_BYTES;
 use super::writing::write_salvaged;
 use files::FileEntry;
 use files::FileRefusal;
@@ -9,11 +10,8 @@ ghost use mathlib.Core.Path.{_≡_};
 ghost use lib.ListN.{length};
 ghost use Rattle.salvage.specs.Salvage.{roomFor, salvageAnswer, freshLeft, skippedLeft, keptLeft};
 
-// The bytes of a pair of words in a list.
-const PAIR_BYTES: usize = 16;
-
 // Whether there is room for so much, in lent bytes of these lengths. By quotients, since a product could be too large.
-fn has_room(n: SalvageCounts, fresh: usize, skipped: usize, kept: usize) -> bool
+fn room_for(n: SalvageCounts, fresh: usize, skipped: usize, kept: usize) -> bool
     ensures { λ r. ⌜ r ≡ roomFor n fresh skipped kept ⌝ }
 {
     (n.kept <= fresh / FileEntry::BYTES)
@@ -29,8 +27,8 @@ pub fn salvage(damaged: &[u8], fresh: &mut [u8], skipped: &mut [u8], kept: &mut 
         × (now (skipped .exit) ≡ skippedLeft r (now (damaged .entry)) (now (skipped .entry)))
         × (now (kept .exit) ≡ keptLeft r (now (damaged .entry)) (now (kept .entry))) ⌝ }
 {
-    let n = count(damaged);
-    if !has_room(n, fresh.len(), skipped.len(), kept.len()) {
+    let n = salvage_counts(damaged);
+    if !room_for(n, fresh.len(), skipped.len(), kept.len()) {
         return Salvaged::Refused(FileRefusal::NoRoom);
     }
     write_salvaged(damaged, fresh, skipped, kept);

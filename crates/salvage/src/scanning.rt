@@ -5,7 +5,7 @@ ghost use mathlib.Core.Path.{_≡_};
 ghost use Prim.Native.Nat.{_+_, _≤_};
 ghost use lib.ListN.{length};
 ghost use Rattle.files.specs.Files.{rightAt};
-ghost use Rattle.salvage.specs.Salvage.{runBetween, countsOf};
+ghost use Rattle.salvage.specs.Salvage.{runBetween, salvageCounts};
 
 // The scan goes forward by so many bytes where it keeps nothing.
 pub const STEP: usize = 8;
@@ -31,8 +31,8 @@ fn run_count(a: usize, b: usize) -> usize
 }
 
 // What a salvage of these bytes skips and keeps.
-pub fn count(file: &[u8]) -> SalvageCounts
-    ensures { λ r. ⌜ r ≡ countsOf (now (file .entry)) ⌝ }
+pub fn salvage_counts(file: &[u8]) -> SalvageCounts
+    ensures { λ r. ⌜ r ≡ salvageCounts (now (file .entry)) ⌝ }
 {
     let mut skipped: usize = 0;
     let mut kept: usize = 0;

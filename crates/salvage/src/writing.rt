@@ -11,7 +11,10 @@ ghost use Rattle.words.specs.Signed.{signed};
 ghost use Rattle.words.specs.Runs.{wordsAt, putWords};
 ghost use Rattle.files.specs.Entries.{entryWords};
 ghost use Rattle.files.specs.Files.{fileWords};
-ghost use Rattle.salvage.specs.Salvage.{keptStarts, keptEntries, skippedRuns, runBetween, runWords, startWords, countsOf, roomFor};
+ghost use Rattle.salvage.specs.Salvage.{keptStarts, keptEntries, skippedRuns, runBetween, runWords, startWords, salvageCounts, roomFor};
+
+// The bytes of a pair of words in a list.
+pub const PAIR_BYTES: usize = 16;
 
 // Writes the thirteen words at byte `at` of a file as the entry that starts at byte `start` of a fresh one, with a new trailer.
 fn copy_entry(file: &[u8], at: usize, fresh: &mut [u8], start: usize)
@@ -23,21 +26,21 @@ fn copy_entry(file: &[u8], at: usize, fresh: &mut [u8], start: usize)
 }
 
 // Puts a and b as the pair i of a list of pairs of words.
-pub fn put_pair(list: &mut [u8], i: usize, a: usize, b: usize)
+pub fn list_pair(list: &mut [u8], i: usize, a: usize, b: usize)
     requires { ⌜ 16 * i + 16 ≤ length (now list) ⌝ }
     ensures { λ _. ⌜ now (list .exit) ≡ putWords (now (list .entry)) (16 * i) (signed a ∷ signed b ∷ []) ⌝ }
 {
-    words::put_word(list, 16 * i, words::to_signed(a as u64));
-    words::put_word(list, 16 * i + 8, words::to_signed(b as u64));
+    words::put_word(list, PAIR_BYTES * i, words::to_signed(a as u64));
+    words::put_word(list, PAIR_BYTES * i + 8, words::to_signed(b as u64));
 }
 
 // Puts the skipped run between bytes a and b, if there is one, as the pair i of a list; gives the count of pairs after it.
-fn put_run(list: &mut [u8], i: usize, a: usize, b: usize) -> usize
+fn list_run(list: &mut [u8], i: usize, a: usize, b: usize) -> usize
     requires { ⌜ 16 * i + 16 * length (runBetween a b) ≤ length (now list) ⌝ }
     ensures { λ r. ⌜ (r ≡ i + length (runBetween a b)) × (now (list .exit) ≡ putWords (now (list .entry)) (16 * i) (runWords (runBetween a b))) ⌝ }
 {
     if a < b {
-        put_pair(list, i, a, b - a);
+        list_pair(list, i, a, b - a);
         i + 1
     } else {
         i
@@ -46,7 +49,7 @@ fn put_run(list: &mut [u8], i: usize, a: usize, b: usize) -> usize
 
 // Writes what a salvage keeps and the two lists.
 pub fn write_salvaged(file: &[u8], fresh: &mut [u8], skipped: &mut [u8], kept: &mut [u8])
-    requires { ⌜ roomFor (countsOf (now file)) (length (now fresh)) (length (now skipped)) (length (now kept)) ≡ true ⌝ }
+    requires { ⌜ roomFor (salvageCounts (now file)) (length (now fresh)) (length (now skipped)) (length (now kept)) ≡ true ⌝ }
     ensures { λ _. ⌜ (now (fresh .exit) ≡ putWords (now (fresh .entry)) 0 (fileWords 0 (keptEntries (now (file .entry)))))
         × (now (skipped .exit) ≡ putWords (now (skipped .entry)) 0 (runWords (skippedRuns (now (file .entry)))))
         × (now (kept .exit) ≡ putWords (now (kept .entry)) 0 (startWords 0 (keptStarts (now (file .entry))))) ⌝ }
@@ -57,9 +60,9 @@ pub fn write_salvaged(file: &[u8], fresh: &mut [u8], skipped: &mut [u8], kept: &
     let mut at: usize = 0;
     while file.len() - at >= FileEntry::BYTES {
         if right_at(file, at) {
-            runs = put_run(skipped, runs, end, at);
+            runs = list_run(skipped, runs, end, at);
             let start = FileEntry::BYTES * entries;
-            put_pair(kept, entries, at, start);
+            list_pair(kept, entries, at, start);
             copy_entry(file, at, fresh, start);
             entries += 1;
             at += FileEntry::BYTES;
@@ -68,5 +71,5 @@ pub fn write_salvaged(file: &[u8], fresh: &mut [u8], skipped: &mut [u8], kept: &
             at += STEP;
         }
     }
-    put_run(skipped, runs, end, file.len());
+    list_run(skipped, runs, end, file.len());
 }

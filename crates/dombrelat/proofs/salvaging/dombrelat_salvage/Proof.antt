@@ -13,8 +13,8 @@ returns c = salvage-no-room _ _ _ _ _ (c .if1 .taken)
 salvage-requires : tie.Need-salvage-requires
 salvage-requires c κs = search needs
 
-give-counts-requires : tie.Need-give-counts-requires
-give-counts-requires c κs = search needs
+give-salvaged-requires : tie.Need-give-salvaged-requires
+give-salvaged-requires c κs = search needs
 
 same-length : tie.Need-same-length
 same-length c = search needs
@@ -31,7 +31,7 @@ same-length-4 c = search needs
 returns-2 : tie.Need-returns-2
 returns-2 c =
     let g = c .before .before in
-    let w = g .give-counts in
+    let w = g .give-salvaged in
     let p = g .before .before .before .before .before .before .before .before in
     let s = p .salvage .ensures in
     salvage-given _ _ _ _ _ (p .before .before .before .before .if1 .left) (s .0) (toZ-ofZ {w = w64} {z = w .result} (sfits-of (w .ok)) ∙ w .ensures .0) (s .1) (s .2) (s .3) (w .ensures .1)
@@ -42,7 +42,7 @@ dombrelat-salvage-spec =
     (tie.spec
     returns
     salvage-requires
-    give-counts-requires
+    give-salvaged-requires
     same-length
     same-length-2
     same-length-3

@@ -6,23 +6,23 @@ use borrow.Author.Needs.{needs}
 use Rattle.salvage.proofs.salvaging.salvage.Statement.{statement}
 use Rattle.salvage.proofs.salvaging.salvage.Tie as tie
 
-count-requires : tie.Need-count-requires
-count-requires c κs = search needs
+salvage-counts-requires : tie.Need-salvage-counts-requires
+salvage-counts-requires c κs = search needs
 
-has-room-requires : tie.Need-has-room-requires
-has-room-requires c κs = search needs
+room-for-requires : tie.Need-room-for-requires
+room-for-requires c κs = search needs
 
 returns : tie.Need-returns
 returns c =
     let t = c .before in
-    gives-no-room _ _ _ _ (t .before .count .ensures) (t .has-room .ensures) (not-true _ (c .if1 .taken))
+    gives-no-room _ _ _ _ (t .before .salvage-counts .ensures) (t .room-for .ensures) (not-true _ (c .if1 .taken))
 
 write-salvaged-requires : tie.Need-write-salvaged-requires
 write-salvaged-requires c κs =
     let e = c .before .before .before in
     let t = e .before in
     let a = t .before .before .before .before .before .before .args in
-    room-is _ (a .fresh .now) (a .skipped .now) (a .kept .now) (t .before .count .ensures) (t .has-room .ensures) ∙ not-false _ (e .if1 .left)
+    room-is _ (a .fresh .now) (a .skipped .now) (a .kept .now) (t .before .salvage-counts .ensures) (t .room-for .ensures) ∙ not-false _ (e .if1 .left)
 
 same-length : tie.Need-same-length
 same-length c = search needs
@@ -39,14 +39,14 @@ returns-2 c =
     let e = w .before .before .before .before in
     let t = e .before in
     let p = w .write-salvaged .ensures in
-    gives-all _ _ _ _ (t .before .count .ensures) (t .has-room .ensures) (not-false _ (e .if1 .left)) (p .0) (p .1) (p .2)
+    gives-all _ _ _ _ (t .before .salvage-counts .ensures) (t .room-for .ensures) (not-false _ (e .if1 .left)) (p .0) (p .1) (p .2)
 
 pub salvage-spec : {M : Type 1} → statement M
 salvage-spec =
     tie.close
     (tie.spec
-    count-requires
-    has-room-requires
+    salvage-counts-requires
+    room-for-requires
     returns
     write-salvaged-requires
     same-length

@@ -1,18 +1,18 @@
--- The loop has written what it has passed (`Written`). Assumes nothing.
+-- The loop has written what it has passed (`WrittenTo`). Assumes nothing.
 use mathlib.Core.Path.{_≡_, sym, ap, _∙_}
 use Prim.Native.Nat.{_+_, _-_, _*_, _≤_}
 use native.Mathlib.Omega.{arith}
 use mathlib.Core.Bool.{true}
 use lib.ListN.{length}
 use Rattle.files.specs.Files.{rightAt}
-use Rattle.salvage.proofs.Written.{Written, written-none, written-keep, written-skip, written-fresh, written-kept, written-skipped, room-kept, room-run, room-last}
+use Rattle.salvage.proofs.Written.{WrittenTo, written-none, written-keep, written-skip, written-fresh, written-kept, written-skipped, room-kept, room-run, room-last}
 use borrow.Author.Needs.{needs}
 use Rattle.salvage.proofs.writing.write_salvaged.Statement.{statement}
 use Rattle.salvage.proofs.writing.write_salvaged.Tie as tie
 
 abbrev Inv-loop : tie.InvT-loop
 Inv-loop file fresh₀ skipped₀ kept₀ runs₀ entries₀ end₀ at₀ fresh skipped kept runs entries end at =
-    Written file fresh₀ skipped₀ kept₀ fresh skipped kept runs entries end at
+    WrittenTo file fresh₀ skipped₀ kept₀ fresh skipped kept runs entries end at
 
 abbrev μ-loop : tie.MeasureT-loop
 μ-loop file fresh₀ skipped₀ kept₀ runs₀ entries₀ end₀ at₀ fresh skipped kept runs entries end at = length file - at
@@ -41,8 +41,8 @@ sub-loop c = c .loop .inv .counted .inside
 right-at-requires : tie.Need-right-at-requires Inv-loop μ-loop
 right-at-requires c κs = search needs
 
-put-run-requires : tie.Need-put-run-requires Inv-loop μ-loop
-put-run-requires c κs =
+list-run-requires : tie.Need-list-run-requires Inv-loop μ-loop
+list-run-requires c κs =
     let t = c .before in
     let a = t .before .before .before in
     omega (arith, room-run (a .loop .inv) (a .before .before .before .before .before .pre) (inside t) (right t), a .loop .inv .skippedLong)
@@ -50,8 +50,8 @@ put-run-requires c κs =
 mul-start : tie.Need-mul-start Inv-loop μ-loop
 mul-start c = let r = rooms (c .before .before .before .before) .0 in search needs
 
-put-pair-requires : tie.Need-put-pair-requires Inv-loop μ-loop
-put-pair-requires c κs = rooms (c .before .before .before .before .before) .1
+list-pair-requires : tie.Need-list-pair-requires Inv-loop μ-loop
+list-pair-requires c κs = rooms (c .before .before .before .before .before) .1
 
 copy-entry-requires : tie.Need-copy-entry-requires Inv-loop μ-loop
 copy-entry-requires c κs =
@@ -73,7 +73,7 @@ loop-again c =
     let p = e .before .before .before .before in
     let r = p .before .before .before .before in
     let t = r .before .before in
-    written-keep (t .before .before .before .loop .inv) (inside t) (right t) (r .put-run .ensures .0) (e .copy-entry .ensures) (r .put-run .ensures .1) (p .put-pair .ensures)
+    written-keep (t .before .before .before .loop .inv) (inside t) (right t) (r .list-run .ensures .0) (e .copy-entry .ensures) (r .list-run .ensures .1) (p .list-pair .ensures)
 
 add-at-2 : tie.Need-add-at-2 Inv-loop μ-loop
 add-at-2 c = search needs
@@ -87,8 +87,8 @@ loop-again-2 c =
     let l = r .before .before .loop in
     written-skip (l .inv) (omega arith) (sym (r .right-at .ensures) ∙ c .if1 .left)
 
-put-run-requires-2 : tie.Need-put-run-requires-2 Inv-loop μ-loop
-put-run-requires-2 c κs =
+list-run-requires-2 : tie.Need-list-run-requires-2 Inv-loop μ-loop
+list-run-requires-2 c κs =
     let a = c .before .before in
     omega (arith, room-last (a .loop .inv) (a .before .before .before .before .before .pre) (omega arith), a .loop .inv .skippedLong)
 
@@ -105,7 +105,7 @@ returns : tie.Need-returns Inv-loop μ-loop
 returns c =
     let p = c .before .before in
     let l = p .before .before .before .loop in
-    (written-fresh (l .inv) (omega arith), written-skipped (l .inv) (omega arith) (p .put-run2 .ensures .1), written-kept (l .inv) (omega arith))
+    (written-fresh (l .inv) (omega arith), written-skipped (l .inv) (omega arith) (p .list-run2 .ensures .1), written-kept (l .inv) (omega arith))
 
 pub write-salvaged-spec : {M : Type 1} → statement M
 write-salvaged-spec =
@@ -116,9 +116,9 @@ write-salvaged-spec =
     loop-holds
     sub-loop
     right-at-requires
-    put-run-requires
+    list-run-requires
     mul-start
-    put-pair-requires
+    list-pair-requires
     copy-entry-requires
     add-entries
     add-at
@@ -127,7 +127,7 @@ write-salvaged-spec =
     add-at-2
     loop-less-2
     loop-again-2
-    put-run-requires-2
+    list-run-requires-2
     same-length
     same-length-2
     same-length-3

@@ -8,8 +8,8 @@ use Rattle.words.specs.Signed.{signed}
 use Rattle.words.specs.Words.{putWord}
 use Rattle.salvage.proofs.Written.{pair-put}
 use borrow.Author.Needs.{needs, sfits-of}
-use Rattle.salvage.proofs.writing.put_pair.Statement.{statement}
-use Rattle.salvage.proofs.writing.put_pair.Tie as tie
+use Rattle.salvage.proofs.writing.list_pair.Statement.{statement}
+use Rattle.salvage.proofs.writing.list_pair.Tie as tie
 
 mul-put-word : tie.Need-mul-put-word
 mul-put-word c = search needs
@@ -49,8 +49,8 @@ returns c =
     ∙ (λ i. putWord (first i) (16 * s .args .i + 8) (b i))
     ∙ pair-put (now (s .args .list)) (16 * s .args .i) (signed (s .args .a)) (signed (s .args .b))
 
-pub put-pair-spec : {M : Type 1} → statement M
-put-pair-spec =
+pub list-pair-spec : {M : Type 1} → statement M
+list-pair-spec =
     tie.close
     (tie.spec
     mul-put-word

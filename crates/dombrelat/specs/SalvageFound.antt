@@ -1,4 +1,4 @@
--- What a C host finds after a salvage that is not refused (`salvage-done`), and how much room is never too little (`salvage-enough`). Assumes nothing.
+-- What a C host finds after a salvage that is not refused (`salvage-found`), and how much room is never too little (`salvage-enough`). Assumes nothing.
 use Prim.Native.Nat.{ℕ, _+_, _*_, _/_, _<_, _≤_, _^_}
 use mathlib.Core.Path.{_≡_, refl, sym, ap, _∙_, subst}
 use mathlib.Core.Bool.{Bool, true, false, cond}
@@ -16,13 +16,13 @@ use Rattle.words.specs.Runs.{wordsAt, putWords}
 use Rattle.words.specs.RunLaws.{run-back}
 use Rattle.files.specs.EntryLaws.{signed-any, fits-none, fits-cons}
 use Rattle.files.specs.Files.{reads, entriesOf}
-use Rattle.salvage.specs.Salvage.{keptStarts, keptEntries, skippedRuns, runWords, startWords, freshFile, countsOf, roomFor, salvageAnswer, freshLeft, skippedLeft, keptLeft}
+use Rattle.salvage.specs.Salvage.{keptStarts, keptEntries, skippedRuns, runWords, startWords, freshFile, salvageCounts, roomFor, salvageAnswer, freshLeft, skippedLeft, keptLeft}
 use Rattle.salvage.specs.SalvageLaws.{room-each, room-enough, length-kept, fresh-reads, fresh-entries, fresh-front, fresh-beyond, skipped-list, kept-list}
 use Rattle.salvage.specs.declared.Salvaged.the-variants.{Counts}
 use Rattle.dombrelat.specs.SalvageCall.{SalvageReturned, salvageCall}
 
 -- the lent slices after a salvage that is not refused
-pub record Done (damaged fresh : List ℕ) (r : SalvageReturned) : Type 0 where
+pub record SalvageFound (damaged fresh : List ℕ) (r : SalvageReturned) : Type 0 where
   -- "both counts are returned"
   pub counted : wordsAt (r .counts) 0 2 ≡ signed (length (skippedRuns damaged)) ∷ signed (length (keptStarts damaged)) ∷ []
   -- the fresh file is at the front, it reads, its entries are those kept, and the bytes beyond it are as they came
@@ -36,7 +36,7 @@ pub record Done (damaged fresh : List ℕ) (r : SalvageReturned) : Type 0 where
 
 module _ (damaged fresh skipped kept counts : List ℕ) where
   abbrev roomy : Bool
-  roomy = roomFor (countsOf damaged) (length fresh) (length skipped) (length kept)
+  roomy = roomFor (salvageCounts damaged) (length fresh) (length skipped) (length kept)
 
   -- the call's answer, by the two tests of room
   answer-is : (t u : Bool) → leb 16 (length counts) ≡ t → roomy ≡ u → salvageCall damaged fresh skipped kept counts .answer ≡ cond t (cond u (pos 0) (pos 10)) (pos 10)
@@ -66,24 +66,24 @@ module _ (damaged fresh skipped kept counts : List ℕ) where
       → salvageCall damaged fresh skipped kept counts
       ≡ record {
         answer = pos 0;
-        fresh = freshLeft (Counts (countsOf damaged)) damaged fresh;
-        skipped = skippedLeft (Counts (countsOf damaged)) damaged skipped;
-        kept = keptLeft (Counts (countsOf damaged)) damaged kept;
+        fresh = freshLeft (Counts (salvageCounts damaged)) damaged fresh;
+        skipped = skippedLeft (Counts (salvageCounts damaged)) damaged skipped;
+        kept = keptLeft (Counts (salvageCounts damaged)) damaged kept;
         counts = putWords counts 0 (signed (length (skippedRuns damaged)) ∷ signed (length (keptStarts damaged)) ∷ []);
       }
   unfolding salvageCall salvageAnswer
   call-is e f = rw (e, f)
 
-  pub salvage-done : Bytes damaged → length damaged < 2 ^ 64 → salvageCall damaged fresh skipped kept counts .answer ≡ pos 0 → Done damaged fresh (salvageCall damaged fresh skipped kept counts)
-  salvage-done b h z =
+  pub salvage-found : Bytes damaged → length damaged < 2 ^ 64 → salvageCall damaged fresh skipped kept counts .answer ≡ pos 0 → SalvageFound damaged fresh (salvageCall damaged fresh skipped kept counts)
+  salvage-found b h z =
       let t = roomy-all z in
-      let each = room-each (countsOf damaged) (length fresh) (length skipped) (length kept) (t .1) in
+      let each = room-each (salvageCounts damaged) (length fresh) (length skipped) (length kept) (t .1) in
       let two = leb-true 16 (length counts) (t .0) in
-      let n = countsOf damaged in
+      let n = salvageCounts damaged in
       let l = length-kept damaged in
       let s = signed (length (skippedRuns damaged)) in
       let k = signed (length (keptStarts damaged)) in
-      subst (Done damaged fresh) (sym (call-is (t .0) (t .1)))
+      subst (SalvageFound damaged fresh) (sym (call-is (t .0) (t .1)))
       (record {
         counted = run-back counts 0 (s ∷ k ∷ []) (omega arith) (fits-cons s (k ∷ []) (signed-any (length (skippedRuns damaged))) (fits-cons k [] (signed-any (length (keptStarts damaged))) fits-none));
         file = ap (λ (m : ℕ). take (128 * m) (freshLeft (Counts n) damaged fresh)) (sym l) ∙ fresh-front damaged b n fresh (each .0);

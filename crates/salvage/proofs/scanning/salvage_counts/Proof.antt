@@ -1,16 +1,16 @@
--- The loop counts what it has passed (`Counted`). Assumes nothing.
+-- The loop counts what it has passed (`CountedTo`). Assumes nothing.
 use mathlib.Core.Path.{_≡_, sym, _∙_}
 use Prim.Native.Nat.{_+_, _-_, _≤_}
 use native.Mathlib.Omega.{arith}
 use lib.ListN.{length}
 use Rattle.salvage.specs.SalvageLaws.{run-few}
-use Rattle.salvage.proofs.Counted.{Counted, counted-none, counted-few, counted-keep, counted-skip, counted-all}
+use Rattle.salvage.proofs.Counted.{CountedTo, counted-none, counted-few, counted-keep, counted-skip, counted-all}
 use borrow.Author.Needs.{needs}
-use Rattle.salvage.proofs.scanning.count.Statement.{statement}
-use Rattle.salvage.proofs.scanning.count.Tie as tie
+use Rattle.salvage.proofs.scanning.salvage_counts.Statement.{statement}
+use Rattle.salvage.proofs.scanning.salvage_counts.Tie as tie
 
 abbrev Inv-loop : tie.InvT-loop
-Inv-loop file skipped₀ kept₀ end₀ at₀ skipped kept end at = Counted file skipped kept end at
+Inv-loop file skipped₀ kept₀ end₀ at₀ skipped kept end at = CountedTo file skipped kept end at
 
 abbrev μ-loop : tie.MeasureT-loop
 μ-loop file skipped₀ kept₀ end₀ at₀ skipped kept end at = length file - at
@@ -72,8 +72,8 @@ returns c =
     let l = c .before .before .loop in
     counted-all _ (l .skipped) (l .kept) (l .end) (l .at) (l .inv) (omega arith) (c .run-count2 .ensures)
 
-pub count-spec : {M : Type 1} → statement M
-count-spec =
+pub salvage-counts-spec : {M : Type 1} → statement M
+salvage-counts-spec =
     tie.close
     (tie.spec
     Inv-loop

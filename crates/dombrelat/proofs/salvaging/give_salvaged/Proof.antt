@@ -7,14 +7,14 @@ use mir.Val.{SFits}
 use mir.Facts.{toZ-ofZ}
 use Rattle.dombrelat.specs.FileCallLaws.{number-most}
 use borrow.Author.Needs.{needs, sfits-of}
-use Rattle.dombrelat.proofs.salvaging.give_counts.Statement.{statement}
-use Rattle.dombrelat.proofs.salvaging.give_counts.Tie as tie
+use Rattle.dombrelat.proofs.salvaging.give_salvaged.Statement.{statement}
+use Rattle.dombrelat.proofs.salvaging.give_salvaged.Tie as tie
 
 enum-known-s : tie.Need-enum-known-s
 enum-known-s c = search needs
 
-put-counts-requires : tie.Need-put-counts-requires
-put-counts-requires c κs = search needs
+put-salvage-counts-requires : tie.Need-put-salvage-counts-requires
+put-salvage-counts-requires c κs = search needs
 
 enum-known-s-2 : tie.Need-enum-known-s-2
 enum-known-s-2 c = search needs
@@ -34,17 +34,17 @@ same-length c = search needs
 returns : tie.Need-returns
 returns c =
     let p = c .before .before in
-    rw (p .before .before .before .s .given .1) (toZ-ofZ {w = w64} {z = p .put-counts .result} (sfits-of (p .put-counts .ok)) ∙ p .put-counts .ensures .0, p .put-counts .ensures .1)
+    rw (p .before .before .before .s .given .1) (toZ-ofZ {w = w64} {z = p .put-salvage-counts .result} (sfits-of (p .put-salvage-counts .ok)) ∙ p .put-salvage-counts .ensures .0, p .put-salvage-counts .ensures .1)
 
 returns-2 : tie.Need-returns-2
 returns-2 c = rw (c .before .before .s2 .given .1) (toZ-ofZ {w = w64} (small c) ∙ ap pos (c .file-number .ensures), refl)
 
-pub give-counts-spec : {M : Type 1} → statement M
-give-counts-spec =
+pub give-salvaged-spec : {M : Type 1} → statement M
+give-salvaged-spec =
     tie.close
     (tie.spec
     enum-known-s
-    put-counts-requires
+    put-salvage-counts-requires
     enum-known-s-2
     file-number-requires
     cast-result
