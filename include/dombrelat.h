@@ -11,7 +11,8 @@
  * Nothing else: every call answers every input. A refused call writes nothing at all.
  *
  * The calls keep no state and allocate nothing, so they are re-entrant: threads may call at the same time, on books of their own. One book has one writer at a time (open, enter,
- * also of a file, strike and undo write), and nobody reads it meanwhile; calls that only read may share it. So it is with a file, on which dombrelat_write_file writes.
+ * also of a file, strike and undo write), and nobody reads it meanwhile; calls that only read may share it. So it is with a file, on which dombrelat_write_file writes, and
+ * dombrelat_salvage: on the fresh one, while the damaged one is only read.
  *
  * A result is refusal + 256 * number, but for dombrelat_write_file, whose result is a refusal or a length in bytes as it is, a multiple of 128. DOMBRELAT_REFUSAL(result) is 0 (done,
  * accepted, agreed, or a length) or the refusal's number: DOMBRELAT_ constants below, all of them less than 128, in words in docs/REFUSALS.md. Where several apply, the lowest number is
@@ -40,7 +41,8 @@ extern "C" {
  * place or overwrite it, stand in place of four calls that added or replaced, and DOMBRELAT_PLACE_EMPTY (7) in place of DOMBRELAT_PLACE_TAKEN. 4: dombrelat_enter_baseline takes two
  * numbers more, the antenna heights. Compile a host anew with the header of its library: an object made with an earlier header passes no heights, and no linker tells; a host that
  * declares the call itself adds them to its declaration. 5: there is a third kind of record, the position (dombrelat_enter_position), which dombrelat_record gives as kind 4, and at
- * whose station a chain of records may end. A new call leaves the version as it is, since a linker tells where it is missing: the calls on files came after the others of 5.
+ * whose station a chain of records may end. A new call leaves the version as it is, since a linker tells where it is missing: the calls on files came after the others of 5,
+ * and dombrelat_salvage after those.
  * The bytes of a book have a number of their own, that of their layout: it is 3, the book's first word. Books of versions 1 to 3 have 1 there, those of version 4 have 2: both are
  * refused with 25; docs/BOOK.md says how to take one over. */
 #define DOMBRELAT_VERSION 5
@@ -55,6 +57,10 @@ extern "C" {
 
 /* The bytes of an entry in a file. */
 #define DOMBRELAT_ENTRY_BYTES 128
+
+/* The bytes that always suffice for what dombrelat_salvage writes beside the fresh file: for each of its two lists, where the damaged file has so many bytes, and for its counts. */
+#define DOMBRELAT_SALVAGE_LIST_BYTES(bytes) (16 * ((bytes) / DOMBRELAT_ENTRY_BYTES + 1))
+#define DOMBRELAT_SALVAGE_COUNTS_BYTES 16
 
 /* The stack to give a thread that makes a call. tests/host/stack.c measured 135,384 bytes on x86-64 (check_sheet on a full book; an edit takes 65,448); the rest is margin. */
 #define DOMBRELAT_STACK_BYTES 163840
@@ -218,6 +224,21 @@ int64_t dombrelat_entry_in_force(const uint8_t *night, size_t night_bytes, const
  * one that is accepted is an edit, which an undo takes back by itself. Bytes of the answers beyond stay. 0 where the file was gone through, whatever the answers. Refusals, in this order,
  * by which no entry is made and no answer written: 25, 10 (the answers have less than 8 bytes for each whole 128 bytes of the file), 18. */
 int64_t dombrelat_enter_file(uint8_t *book, size_t book_bytes, const uint8_t *file, size_t file_bytes, uint8_t *answers, size_t answers_bytes);
+
+/* Salvages what a damaged file still holds, as a transfer leaves it that was broken off. It goes forward from byte 0 by steps of 8 bytes: where the next 128 bytes have a right kind, a
+ * right place, 0 in the words that the kind does not use and a right sum, it keeps that entry and goes on behind it. Every other byte is skipped, those too at the end where 128 are not
+ * left. The first two words of the trailer count in the sum, but need not be right. 0, and written are
+ *     fresh    a file of the kept entries in their order: of each its thirteen words and a new trailer, 128 bytes. It reads, whatever the damaged bytes are.
+ *     skipped  two words for each longest run of skipped bytes: the byte at which it starts, and its length in bytes, which at the end may be any
+ *     kept     two words for each kept entry: the byte at which it starts in the damaged file, and the byte at which it starts in the fresh one
+ *     counts   two words: the runs in skipped, and the entries in kept
+ * Both lists are by rising start. The runs and the kept entries together are the bytes of the damaged file, each of them once. A file that reads comes out unchanged, with no run. Bytes
+ * beyond stay. Room that always suffices: fresh as long as the damaged file, each list DOMBRELAT_SALVAGE_LIST_BYTES of that length, counts DOMBRELAT_SALVAGE_COUNTS_BYTES.
+ * Refusals: 10 (fresh has less than 128 bytes for each kept entry, skipped less than 16 for each run, kept less than 16 for each kept entry, or counts less than 16); then nothing is
+ * written, the counts neither. No other: bytes that hold no entry give an empty fresh file and one run, no bytes give no run.
+ * It does not tell which entries are lost, nor whether an entry that adds up is as it was sent: docs/FILES.md says what to ask for again. */
+int64_t dombrelat_salvage(const uint8_t *damaged, size_t damaged_bytes, uint8_t *fresh, size_t fresh_bytes, uint8_t *skipped, size_t skipped_bytes,
+                          uint8_t *kept, size_t kept_bytes, uint8_t *counts, size_t counts_bytes);
 
 #ifdef __cplusplus
 }
