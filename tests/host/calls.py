@@ -9,7 +9,7 @@ import sys
 from arguments import SHORT, SLICES
 from comparison import Comparison
 from coverage import CALLS, SIZES
-from expected import BAD_LENGTHS, BAD_PLACE, EDITS, FILE_CALLS, NO_BOOK, NO_PROPOSAL, ON_BOOKS, edit_given, entering, lengths_fit, opening, outcome, packed, refusal, words_in
+from expected import BAD_LENGTHS, BAD_PLACE, EDITS, FILE_CALLS, NO_BOOK, NO_PROPOSAL, ON_BOOKS, SALVAGE, edit_given, entering, lengths_fit, opening, outcome, packed, refusal, words_in
 from layout import BYTES, MATRIX_AT, NEXT_AT, SLOTS, judge
 from library import Buffer, Header, Library
 import kinds
@@ -151,11 +151,12 @@ class Calls(Comparison):
                 self.network(*SIZES[size])
 
     def header(self):
-        """The header has just the calls that are tested here and those that file_calls.py tests, and the constants that follow from them; the library has no call that is gone."""
+        """The header has just the calls that are tested here and those that file_calls.py and salvage_calls.py test, and the constants that follow from them; the library has no call that
+        is gone."""
         header = Header()
         for name, want in HEADER.items():
             self.same('%s in the header' % name, header.constants.get(name), want)
-        self.same('the calls of the header', sorted(header.calls), sorted(('open',) + ON_BOOKS + FILE_CALLS))
+        self.same('the calls of the header', sorted(header.calls), sorted(('open', SALVAGE) + ON_BOOKS + FILE_CALLS))
         self.same('the calls that the library has', [name for name in ENTERS + GONE if self.lib.has(name)], list(ENTERS))
 
     def edit(self, name, book, model, ledger):

@@ -246,6 +246,69 @@ FILES = {
     'record': {0: 21_000},
 }
 
+# tests/host/salvage_calls.py. Each word of an entry changed alone: what is wrong then is skipped, and the first two words of the trailer may be any where the sum is right. Then the ways
+# of damage, by what came of them; what was kept and skipped and why; and the rooms, of which one that is too short refuses all.
+def word_salvaged(kind, word):
+    """What came of an entry of which this word, with its sum right, is another."""
+    if word in (13, 14):
+        return {'kept': 20}
+    return {{'read': 'kept', 'refused': 'skipped'}[came]: least for came, least in one_word(kind, word).items()}
+
+
+SALVAGES = {
+    **{'word %d of a %s, its sum wrong' % (word, kind): {'skipped': 20} for kind, word in itertools.product(USED_WORDS, range(16))},
+    **{'word %d of a %s, its sum right' % (word, kind): word_salvaged(kind, word) for kind, word in itertools.product(USED_WORDS, range(15))},
+    'each bit flipped': {'its entry skipped alone': 3 * 8 * 128},
+    'cut at each byte': {'no bytes': 1, 'nothing kept': 127, 'nothing skipped': 3, 'both': 254},
+    'moved by each number of bytes': {'nothing skipped': 1, 'nothing kept': 122, 'both': 17},
+    'each number of bytes between': {'nothing skipped': 1, 'both': 139},
+    'an overlap': {'both': 55, 'kept: first': 180},
+    'an overlap, the first damaged': {'both': 55, 'kept: next': 180},
+    'an entry over two': {'nothing skipped': 55, 'kept: first, third': 156},
+    **dict.fromkeys((
+        'a bit', 'a gap', 'a place beyond', 'a tail', 'a wrong kind', 'a wrong place', 'a wrong sum', 'a wrong zero', 'around a file', 'as much as entries put in', 'bytes appended',
+        'words put in'), {'both': 55}),
+    **dict.fromkeys(('a word', 'sparse entries'), {'both': 50, 'nothing skipped': 0}),
+    **dict.fromkeys((
+        'a later one without a previous', 'a trailer that points elsewhere', 'an entry appended', 'an entry left out', 'an entry twice', 'repeated', 'the first points back',
+        'the later entries as a file', 'two entries exchanged', 'two files in one', 'wrong pointers'), {'nothing skipped': 55}),
+    **dict.fromkeys((
+        'a word, the sum right', 'halves exchanged', 'two words changed, the sum right', 'two words of an entry exchanged'), {'both': 20, 'nothing skipped': 20}),
+    **dict.fromkeys((
+        'a few bytes lost', 'a few bytes put in', 'as much as entries lost', 'cut', 'cut in a word', 'cut in an entry', 'in step again', 'lost and put in', 'overwritten', 'sent anew',
+        'several holes', 'small words that add up', 'the whole moved', 'words lost'), {'both': 24, 'nothing kept': 11, 'nothing skipped': 0}),
+    'the front cut off': {'both': 3, 'nothing kept': 30, 'nothing skipped': 20},
+    'zeroed': {'both': 35, 'nothing kept': 8, 'nothing skipped': 11},
+    'cut between entries': {'nothing skipped': 35, 'no bytes': 17},
+    **dict.fromkeys(('noise', 'noise of words', 'one word throughout', 'out of step', 'small words'), {'nothing kept': 55}),
+    'nothing': {'no bytes': 55},
+    'large files': dict.fromkeys(('whole: nothing skipped', 'damaged: both', 'of ones: nothing kept', 'noise: nothing kept'), 1),
+    'files of books': {'both': 23, 'nothing kept': 3, 'nothing skipped': 4, 'no bytes': 0},
+    'kept entries': {0: 750, 1: 650, 2: 2200, 3: 2200},                  # by how many; 3 is three or more, here and below
+    'skipped runs': {0: 1500, 1: 4000, 2: 120, 3: 65},
+    'kept, by kind': {'%s, its trailer %s' % of: 2000 for of in itertools.product(USED_WORDS, ('right', 'wrong'))},
+    'kept, by start': {'at a multiple of 128': 25_000, 'between': 3200},
+    'runs': {'at the start, of whole words': 1000, 'between, of whole words': 1500, 'at the end, of whole words': 1000, 'at the end, of other bytes': 450,
+             'the whole, of whole words': 340, 'the whole, of other bytes': 340},
+    'lengths of runs': {'less than a word': 45, 'less than an entry': 1300, 'an entry or more': 3300},
+    'steps not kept': {'kind alone': 370, 'place alone': 220, 'zeros alone': 640, 'sum alone': 4400, 'several things': 80_000, 'too few bytes alone': 25_000},
+    'right entries within a kept one, by words': dict.fromkeys(range(1, 16), 12),
+    'room': {**dict.fromkeys(('as asked: 0', 'longer: 0', 'most: 0', 'one longer: 0'), 5800), 'all short: 10': 5800},
+    **{'room for ' + name: {'a byte short: 10': 4000, 'more short: 10': 4000} for name in ('fresh', 'skipped', 'kept', 'counts')},
+    'salvage': {0: 30_000, 10: 46_000},
+    'words in docs/FILES.md': {'compared': 11},
+    'check_file': {0: 6000},
+    'open': {0: 90},
+    'write_file': {0: 30},
+    'enter_file': {0: 60},
+    'answers to entries': {
+        'baseline: 0': 330, 'baseline: 3': 0, 'baseline: 4': 0, 'baseline: 5': 0, 'baseline: 6': 0, 'height difference: 0': 430, 'height difference: 3': 0, 'height difference: 4': 0,
+        'height difference: 6': 0, 'strike: 0': 80, 'strike: 7': 0},    # refused entries are for file_calls.py
+    'enter_baseline': {0: 110, 3: 0, 4: 0, 5: 0, 6: 0},
+    'enter_height': {0: 140, 3: 0, 4: 0, 6: 0},
+    'strike': {0: 0, 7: 0},
+}
+
 # tests/host/flips.py, by the part of the book; the antenna heights and the words of positions are among the places and the journal
 FLIPS = {
     'flips': {'tried': 449_792},

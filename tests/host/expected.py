@@ -11,6 +11,7 @@ CHECKS = ('check', 'check_sheet')
 READINGS = ('unknowns', 'sheet_bytes', 'stations', 'record')
 ON_BOOKS = EDITS + CHECKS + ('check_distance', 'propose') + READINGS
 FILE_CALLS = ('write_file', 'check_file', 'entry_in_force', 'enter_file')      # what they answer is in tests/reference/files.py
+SALVAGE = 'salvage'                                                           # what it answers is in tests/reference/salvage.py
 NO_BOOK, BAD_LIST, BAD_PLACE, BAD_LENGTHS, NO_PROPOSAL = 25, 1, 2, 10, -1
 
 

@@ -9,19 +9,21 @@ GUARD = b'\xa5' * 64
 
 
 class Buffer:
-    """Bytes lent to a call, with guards around them. One after the other they begin at each remainder by 8, since no alignment is asked."""
+    """Bytes lent to a call, with guards around them. One after the other they begin at each remainder by 8, since no alignment is asked. Where only the first `lent` bytes are lent, the
+    others are a guard too, so that a call that takes no heed of its room is found out and does no harm."""
     made = itertools.count()
 
-    def __init__(self, data):
-        self.n = len(data)
+    def __init__(self, data, lent=None):
+        self.n = len(data) if lent is None else lent
         self.front = GUARD + GUARD[:next(Buffer.made) % 8]
-        self.raw = bytearray(self.front + data + GUARD)
+        self.behind = data[self.n:] + GUARD
+        self.raw = bytearray(self.front + data[:self.n] + self.behind)
         self.at = ctypes.c_void_p(ctypes.addressof(ctypes.c_uint8.from_buffer(self.raw)) + len(self.front))
 
     def get(self):
         whole = bytes(self.raw)
         end = len(self.front) + self.n
-        assert whole[:len(self.front)] == self.front and whole[end:] == GUARD, 'a call wrote outside its slice'
+        assert whole[:len(self.front)] == self.front and whole[end:] == self.behind, 'a call wrote outside its slice'
         return whole[len(self.front):end]
 
 
@@ -32,7 +34,12 @@ class Header:
         with open(os.path.join(os.path.dirname(os.path.abspath(__file__)), '../../include/dombrelat.h'), encoding='utf-8') as file:
             text = file.read()
         self.constants = {name: int(value) for name, value in re.findall(r'^#define DOMBRELAT_(\w+) \(?(-?\d+)\b', text, re.MULTILINE)}
+        self.macros = dict(re.findall(r'^#define DOMBRELAT_(\w+)\(bytes\) (.+)$', text, re.MULTILINE))      # of a length
         self.calls = re.findall(r'^int64_t dombrelat_(\w+)\(', text, re.MULTILINE)
+
+    def of_length(self, name, length):
+        """What a macro of a length gives: in C its division drops the remainder, and its names are the header's."""
+        return eval(self.macros[name].replace('/', '//').replace('DOMBRELAT_', ''), {**self.constants, 'bytes': length})
 
 
 class Library:

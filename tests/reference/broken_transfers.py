@@ -1,11 +1,11 @@
-"""What broken transfers leave of a file, for the tests of request 7, beside the damage of damaged_files.py: bytes lost, put in, zeroed and overwritten anywhere; entries that lie over each other; noise."""
+"""What broken transfers leave of a file, for the tests of request 7, beside the damage of damaged_files.py: bytes lost, put in, zeroed and overwritten anywhere; entries wrong in one thing;
+right entries that lie over each other; noise."""
 import struct
 
-from damaged_files import EXTREME, PREVIOUS, START, SUM, changed, entries as any_entries, entry as any_entry, packed, rows
-from files import BASELINE, ENTRY_BYTES, HEIGHT_DIFFERENCE, PLACES, STRIKE, USED, signed, write
+from damaged_files import EXTREME, PREVIOUS, START, SUM, changed, entry as any_entry, packed, rows
+from files import BASELINE, ENTRY_BYTES, ENTRY_WORDS, HEIGHT_DIFFERENCE, KIND, PLACE, PLACES, STRIKE, USED, signed, write
 
 STEP = 8
-ENTRY_STEPS = ENTRY_BYTES // STEP
 ALL_PLACES = range(1, PLACES + 1)
 
 
@@ -23,7 +23,7 @@ def cut_in_a_word(rng, data):
 
 
 def cut_in_an_entry(rng, data):
-    return data[:ENTRY_BYTES * rng.randrange(len(data) // ENTRY_BYTES) + STEP * rng.randint(1, ENTRY_STEPS - 1)]
+    return data[:ENTRY_BYTES * rng.randrange(len(data) // ENTRY_BYTES) + STEP * rng.randint(1, ENTRY_WORDS - 1)]
 
 
 def a_few_bytes_lost(rng, data):
@@ -31,7 +31,7 @@ def a_few_bytes_lost(rng, data):
 
 
 def words_lost(rng, data):
-    return without(data, rng.randrange(len(data) - ENTRY_BYTES), STEP * rng.randint(1, ENTRY_STEPS - 1))
+    return without(data, rng.randrange(len(data) - ENTRY_BYTES), STEP * rng.randint(1, ENTRY_WORDS - 1))
 
 
 def as_much_as_entries_lost(rng, data):
@@ -45,7 +45,7 @@ def a_few_bytes_put_in(rng, data):
 
 
 def words_put_in(rng, data):
-    return with_bytes(data, rng.choice((0, len(data), rng.randrange(len(data)))), rng.randbytes(STEP * rng.randint(1, ENTRY_STEPS - 1)))
+    return with_bytes(data, rng.choice((0, len(data), rng.randrange(len(data)))), rng.randbytes(STEP * rng.randint(1, ENTRY_WORDS - 1)))
 
 
 def as_much_as_entries_put_in(rng, data):
@@ -118,7 +118,7 @@ def sent_anew(rng, data):
 
 def around_a_file(rng, data):
     """The first part of an entry, a whole file, and the rest of that entry."""
-    other, at = write([any_entry(rng, rng.choice(ALL_PLACES))]), STEP * rng.randint(1, ENTRY_STEPS - 1)
+    other, at = write([any_entry(rng, rng.choice(ALL_PLACES))]), STEP * rng.randint(1, ENTRY_WORDS - 1)
     return other[:at] + data + other[at:]
 
 
@@ -144,11 +144,11 @@ def of_kind(rng, data, kinds):
 def wrong_kind(rng, data):
     """Of a baseline, which may have any words: so the kind is all that is wrong."""
     data, k, _ = of_kind(rng, data, (BASELINE,))
-    return changed(data, k, 0, rng.choice((0, 4, 5, -1, 2 ** 32 + 1, 2 ** 63 - 1, -2 ** 63)), True)
+    return changed(data, k, KIND, rng.choice((0, 4, 5, -1, 2 ** 32 + 1, 2 ** 63 - 1, -2 ** 63)), True)
 
 
 def wrong_place(rng, data):
-    return changed(data, some_entry(rng, data), 1, rng.choice((0, -1, 257, 2 ** 32 + 1, 2 ** 63 - 1, -2 ** 63)), True)
+    return changed(data, some_entry(rng, data), PLACE, rng.choice((0, -1, 257, 2 ** 32 + 1, 2 ** 63 - 1, -2 ** 63)), True)
 
 
 def wrong_zero(rng, data):
@@ -182,7 +182,7 @@ def tried_over(rng, starts):
         if any(fixed.get(k, v) != v for k, v in wanted.items()):
             return None
         fixed.update(wanted)
-    words, done = [fixed.get(k, rng.choice((rng.choice(EXTREME), signed(rng.getrandbits(64))))) for k in range(starts[-1] + ENTRY_STEPS)], 0
+    words, done = [fixed.get(k, rng.choice((rng.choice(EXTREME), signed(rng.getrandbits(64))))) for k in range(starts[-1] + ENTRY_WORDS)], 0
     for start in starts:
         end = start + SUM
         free = [k for k in range(done, end + 1) if k not in fixed]      # words of this entry and of none before it
@@ -216,7 +216,7 @@ def overlapping_first_damaged(rng, by):
 
 def straddling(rng, by):
     """The words of two right entries end to end, and of a third that starts 3 to 15 words after the first and lies over both."""
-    return lying_over(rng, (0, by, ENTRY_STEPS))
+    return lying_over(rng, (0, by, ENTRY_WORDS))
 
 
 OVERLAPS = {'an overlap': (overlapping, range(1, 16)), 'an overlap, the first damaged': (overlapping_first_damaged, range(1, 16)), 'an entry over two': (straddling, range(3, 16))}

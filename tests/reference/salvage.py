@@ -1,12 +1,12 @@
-"""Salvage of a damaged file, an independent implementation of request 7 of document 02, for the tests: written from its words, with no thought for speed. Each byte of the damaged file is marked
-kept or skipped, and the runs are read off the marks; the fresh file is written by the writer of files.py."""
+"""Salvage of a damaged file, an independent implementation of request 7 of document 02, for the tests: written from its words, with no thought for speed. Each byte of the damaged file is
+marked kept or skipped, and the runs are read off the marks; the fresh file is written by files.py."""
 import itertools
 import struct
 
 from files import ENTRY_BYTES, KIND, NO_ROOM, PLACE, PLACES, USED, signed, write
 
 STEP = 8
-ENTRY_WORDS, SUM = 13, 15                              # words without the trailer; the word of the sum
+START, SUM = 13, 15                                    # the first and the last word of a trailer
 PAIR_BYTES = 16                                        # of two words: an item of a list, and the counts
 
 
@@ -15,7 +15,7 @@ def faults(words):
     found = []
     if words[KIND] not in USED:
         found.append('kind')
-    elif any(words[k] for k in range(ENTRY_WORDS) if k not in USED[words[KIND]]):
+    elif any(words[k] for k in range(START) if k not in USED[words[KIND]]):
         found.append('zeros')
     if not 1 <= words[PLACE] <= PLACES:
         found.append('place')
@@ -61,7 +61,7 @@ class Salvaged:
 
     def __init__(self, data):
         starts = kept_starts(data)
-        self.entries = [words_at(data, at)[:ENTRY_WORDS] for at in starts]
+        self.entries = [words_at(data, at)[:START] for at in starts]
         self.skipped = skipped_runs(data, starts)
         self.kept = [(at, ENTRY_BYTES * k) for k, at in enumerate(starts)]
         self.fresh = write(self.entries)
