@@ -1,6 +1,6 @@
 /* The stack that a call takes at most, on a full book: 32 stations, 48 unknowns, 256 records, each eighth a position, a journal of 64. The calls on files come after: files
- * of 3 and of 10,000 entries are entered, read and asked, and the book that they filled is written. Each call runs on a painted stack of its own, and what is no longer painted was
- * used. Prints the largest, in bytes; ends in 1 where it is more than the header says, more than the budget of 150,000 bytes, where a call is refused, or where one takes more on the longer file. */
+ * of 3 and of 10,000 entries are entered, read and asked, the book that they filled is written, and they are damaged and salvaged. Each call runs on a painted stack of its own, and what
+ * is no longer painted was used. Prints the largest, in bytes; ends in 1 where it is more than the header says, more than the budget of 150,000 bytes, where a call is refused, or where one takes more on the longer file. */
 #define _GNU_SOURCE
 #include "dombrelat.h"
 #include "entries.h"
@@ -17,10 +17,12 @@
 #define FEW 3
 #define MANY 10000
 #define SLACK 64u /* a frame may begin at another remainder */
+#define DAMAGED_EACH 7 /* each seventh entry is damaged */
 
 static uint8_t book[DOMBRELAT_BOOK_BYTES], carried[DOMBRELAT_BOOK_BYTES];
 static uint8_t file[MANY * ENTRY_BYTES], day[MANY * ENTRY_BYTES], written[DOMBRELAT_PLACES * ENTRY_BYTES];
-static int64_t found[2], answers[MANY];
+static uint8_t fresh[MANY * ENTRY_BYTES], skipped[DOMBRELAT_SALVAGE_LIST_BYTES(MANY * ENTRY_BYTES)], kept[DOMBRELAT_SALVAGE_LIST_BYTES(MANY * ENTRY_BYTES)];
+static int64_t found[2], answers[MANY], counts[2];
 static size_t length;
 static int64_t stations[DOMBRELAT_STATIONS][4], x[DOMBRELAT_UNKNOWNS], m[DOMBRELAT_UNKNOWNS * DOMBRELAT_UNKNOWNS];
 static int64_t sheet[DOMBRELAT_SHEET_BYTES / 8];
@@ -68,6 +70,9 @@ static void write_one(void) { answer = dombrelat_write_file(carried, sizeof carr
 static void check_one(void) { answer = dombrelat_check_file(file, length); }
 static void ask_one(void) { answer = dombrelat_entry_in_force(file, length, day, length, 1, (uint8_t *)found, sizeof found); }
 static void enter_one(void) { answer = dombrelat_enter_file(carried, sizeof carried, file, length, (uint8_t *)answers, sizeof answers); }
+static void salvage_one(void) {
+    answer = dombrelat_salvage(file, length, fresh, length, skipped, DOMBRELAT_SALVAGE_LIST_BYTES(length), kept, DOMBRELAT_SALVAGE_LIST_BYTES(length), (uint8_t *)counts, sizeof counts);
+}
 static void (*file_call)(void);
 
 static void *run_file_call(void *unused) {
@@ -137,6 +142,21 @@ static size_t stack_on_files(const char *name, void (*call)(void)) {
     return larger(few, many);
 }
 
+/* What salvage takes of files with an entry in DAMAGED_EACH that does not add up, the second one first. */
+static size_t most_of_salvage(void) {
+    size_t most;
+    int k;
+    for (k = 1; k < MANY; k += DAMAGED_EACH) {
+        file[k * ENTRY_BYTES]++;
+    }
+    most = stack_on_files("salvage", salvage_one);
+    if (counts[0] != (MANY - 2) / DAMAGED_EACH + 1 || counts[0] + counts[1] != MANY) {
+        fprintf(stderr, "salvage skipped %lld runs and kept %lld entries\n", (long long)counts[0], (long long)counts[1]);
+        exit(1);
+    }
+    return most;
+}
+
 /* The largest of the calls on files. A book is filled by the longer one, whose records are all accepted, and written. */
 static size_t most_on_files(void) {
     size_t most;
@@ -156,7 +176,8 @@ static size_t most_on_files(void) {
     most = larger(most, stack_on_files("check_file", check_one));
     most = larger(most, stack_on_files("entry_in_force", ask_one));
     file_call = write_one;
-    return larger(most, stack_of("write_file", run_file_call));
+    most = larger(most, stack_of("write_file", run_file_call));
+    return larger(most, most_of_salvage());
 }
 
 int main(void) {
