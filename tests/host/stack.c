@@ -1,6 +1,7 @@
-/* The stack that a call takes at most, on a full book: 32 stations, 48 unknowns, 256 records, each eighth a position, a journal of 64. The calls on files come after: files
- * of 3 and of 10,000 entries are entered, read and asked, the book that they filled is written, and they are damaged and salvaged. Each call runs on a painted stack of its own, and what
- * is no longer painted was used. Prints the largest, in bytes; ends in 1 where it is more than the header says, more than the budget of 150,000 bytes, where a call is refused, or where one takes more on the longer file. */
+/* The stack that a call takes at most, on a full book: 32 stations, 48 unknowns, 256 records, each eighth a position, a journal of 64. The calls on files come after: files of 3 and of
+ * 10,000 entries are entered, read and asked, the book that they filled is written, and they are damaged and salvaged. Each call runs on a painted stack of its own, and what is no longer
+ * painted was used. Prints the largest, in bytes; ends in 1 where it is more than the header says, more than the budget of 150,000 bytes, where a call is refused, or where one takes more
+ * on the longer file. */
 #define _GNU_SOURCE
 #include "dombrelat.h"
 #include "entries.h"
