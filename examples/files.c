@@ -1,5 +1,6 @@
-/* A day file and a night file: the records of a book written as a file, the changes of a night as another, which entry is in force for a place, and both files entered on a new book.
- * All that a program needs is include/dombrelat.h; docs/FILES.md has the words of an entry. At the repository's root:
+/* A day file and a night file: the records of a book written as a file, the changes of a night as another, which entry is in force for a place, and both files entered on a new book; then
+ * the night file after a transfer that lost some of it, and what is salvaged. All that a program needs is include/dombrelat.h; docs/FILES.md has the words of an entry. At the repository's
+ * root:
  *
  *     rt staticlib dombrelat
  *     gcc -std=c99 -Wall -Wextra -Iinclude examples/files.c target/staticlib/libdombrelat.a -o target/files && target/files
@@ -15,6 +16,9 @@
 #define ENTRY_WORDS (DOMBRELAT_ENTRY_BYTES / 8)
 #define TRAILER_BYTES 24 /* the last three words of an entry */
 #define NIGHT_ENTRIES 4
+#define NIGHT_BYTES (NIGHT_ENTRIES * DOMBRELAT_ENTRY_BYTES)
+#define LOST_AT 160 /* of the night file: within its second entry, the strike of place 4 */
+#define LOST_BYTES 40
 
 /* A benchmark that is held, and three new points. Lengths are in units of 0.01 mm. */
 static const int64_t stations[][4] = {
@@ -39,7 +43,8 @@ static const int64_t night_work[NIGHT_ENTRIES][6] = {
 };
 
 static uint8_t book[DOMBRELAT_BOOK_BYTES], copy[DOMBRELAT_BOOK_BYTES];
-static uint8_t day[DOMBRELAT_PLACES * DOMBRELAT_ENTRY_BYTES], night[NIGHT_ENTRIES * DOMBRELAT_ENTRY_BYTES]; /* a book has at most so many records */
+static uint8_t day[DOMBRELAT_PLACES * DOMBRELAT_ENTRY_BYTES], night[NIGHT_BYTES]; /* a book has at most so many records */
+static uint8_t damaged[NIGHT_BYTES], fresh[NIGHT_BYTES];                          /* a fresh file is no longer than the damaged one */
 
 /* The result of a call that is not refused: 0, or the length of a file. A refusal ends the program. */
 static size_t done(const char *what, int64_t result) {
@@ -138,9 +143,37 @@ static void enter(const char *name, const uint8_t *file, size_t length) {
     printf("\n");
 }
 
-int main(void) {
+/* Opens the depot's book, on the same stations, and enters the day, then the night; prints what it holds. */
+static void enter_both(size_t day_length, const char *night_name, const uint8_t *night_file, size_t night_length) {
     int64_t record[DOMBRELAT_RECORD_BYTES / 8], place;
-    size_t day_length, night_length;
+    done("opening", dombrelat_open((const uint8_t *)stations, sizeof stations, copy, sizeof copy));
+    enter("the day file", day, day_length);
+    enter(night_name, night_file, night_length);
+    printf("the depot's book holds");
+    for (place = 1; place <= 7; place++) {
+        done("a place", dombrelat_record(copy, sizeof copy, place, (uint8_t *)record, sizeof record));
+        if (record[0] != 0) {
+            printf(" %" PRId64 " (U %" PRId64 ")", place, record[5]);
+        }
+    }
+    printf("\n");
+}
+
+/* Salvages the damaged file, prints what was skipped and what was kept, and gives the length of the fresh file. */
+static size_t salvage(size_t damaged_length) {
+    int64_t skipped[DOMBRELAT_SALVAGE_LIST_BYTES(NIGHT_BYTES) / 8], kept[DOMBRELAT_SALVAGE_LIST_BYTES(NIGHT_BYTES) / 8], counts[DOMBRELAT_SALVAGE_COUNTS_BYTES / 8], k;
+    done("the salvage", dombrelat_salvage(damaged, damaged_length, fresh, sizeof fresh, (uint8_t *)skipped, sizeof skipped, (uint8_t *)kept, sizeof kept, (uint8_t *)counts, sizeof counts));
+    for (k = 0; k < counts[0]; k++) {
+        printf("skipped: %" PRId64 " bytes from byte %" PRId64 " on\n", skipped[2 * k + 1], skipped[2 * k]);
+    }
+    for (k = 0; k < counts[1]; k++) {
+        printf("kept: the entry at byte %" PRId64 ", in the fresh file at byte %" PRId64 "\n", kept[2 * k], kept[2 * k + 1]);
+    }
+    return (size_t)counts[1] * DOMBRELAT_ENTRY_BYTES;
+}
+
+int main(void) {
+    size_t day_length, night_length, damaged_length, fresh_length;
 
     done("opening", dombrelat_open((const uint8_t *)stations, sizeof stations, book, sizeof book));
     day_length = write_day();
@@ -153,17 +186,16 @@ int main(void) {
     /* A transfer that was cut off within an entry: the file does not read, and nothing is entered. */
     printf("the night file without its last byte is refused with %d\n", (int)DOMBRELAT_REFUSAL(dombrelat_check_file(night, night_length - 1)));
 
-    /* The depot's book: the same stations, then the day, then the night. */
-    done("opening", dombrelat_open((const uint8_t *)stations, sizeof stations, copy, sizeof copy));
-    enter("the day file", day, day_length);
-    enter("the night file", night, night_length);
-    printf("the depot's book holds");
-    for (place = 1; place <= 7; place++) {
-        done("a place", dombrelat_record(copy, sizeof copy, place, (uint8_t *)record, sizeof record));
-        if (record[0] != 0) {
-            printf(" %" PRId64 " (U %" PRId64 ")", place, record[5]);
-        }
-    }
-    printf("\n");
+    enter_both(day_length, "the night file", night, night_length);
+
+    /* A transfer that lost bytes in the middle. What it left does not read, and all entries but one are whole. The one that is lost was the strike of place 4, which the depot's book now has:
+     * a salvaged file is for where the file cannot be had again. */
+    damaged_length = night_length - LOST_BYTES;
+    memcpy(damaged, night, LOST_AT);
+    memcpy(damaged + LOST_AT, night + LOST_AT + LOST_BYTES, damaged_length - LOST_AT);
+    printf("the night file without %d bytes of its second entry is refused with %d\n", LOST_BYTES, (int)DOMBRELAT_REFUSAL(dombrelat_check_file(damaged, damaged_length)));
+    fresh_length = salvage(damaged_length);
+    done("the fresh file", dombrelat_check_file(fresh, fresh_length));
+    enter_both(day_length, "the fresh file", fresh, fresh_length);
     return 0;
 }
