@@ -41,10 +41,10 @@ def where(run, length):
 
 class Salvages(Files):
     # ---- one call, and one file in every room
-    def salvage(self, data, found, background, rooms):
-        """The call with so many bytes lent of each background, against what the reference found in the data. Gives the number."""
+    def salvage(self, data, found, background, rooms, behind=b''):
+        """The call with so many bytes lent of each background, against what the reference found in the data. Gives the number. The bytes behind the data are not lent."""
         number, written = found.answer(rooms)
-        got = self.call(SALVAGE, Buffer(data), *map(Buffer, background, rooms))
+        got = self.call(SALVAGE, Buffer(data + behind, len(data)), *map(Buffer, background, rooms))
         self.compare(SALVAGE, got, number, [data, *(front + lent[len(front):room] for front, lent, room in zip(written, background, rooms))])
         return number
 
@@ -137,9 +137,13 @@ class Salvages(Files):
             self.coverage.note('each bit flipped', 'its entry skipped alone' if found.skipped == [(bit // 1024 * 128, 128)] else 'otherwise')
 
     def each_length(self):
-        """A file cut at each byte; with each number of bytes before it, and between its entries, up to more than an entry."""
+        """A file cut at each byte, also where the rest of it stands behind and is not lent; with each number of bytes before it, and between its entries, up to more than an entry."""
         for n in range(len(THREE) + 1):
-            self.coverage.note('cut at each byte', came_of(THREE[:n], self.every_room(THREE[:n])))
+            data, rest = THREE[:n], THREE[n:]
+            found = self.every_room(data)
+            most = most_room(n)
+            self.salvage(data, found, [self.rng.randbytes(room) for room in most], most, rest)
+            self.coverage.note('cut at each byte', came_of(data, found))
         for n in range(140):
             for name, data in (('moved by each number of bytes', bytes(n) + THREE), ('each number of bytes between', bytes(n).join((THREE[:128], THREE[128:256], THREE[256:])))):
                 self.coverage.note(name, came_of(data, self.every_room(data)))
