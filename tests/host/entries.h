@@ -1,4 +1,4 @@
-/* Files of entries made in C, for tests/host/stack.c and bench/files. docs/FILES.md has the words of an entry. */
+/* Files of entries made in C, for tests/host/stack.c, bench/files and bench/salvage. docs/FILES.md has the words of an entry. */
 #include <stddef.h>
 #include <stdint.h>
 #include <string.h>
