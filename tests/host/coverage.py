@@ -283,6 +283,7 @@ SALVAGES = {
     **dict.fromkeys(('noise', 'noise of words', 'one word throughout', 'out of step', 'small words'), {'nothing kept': 55}),
     'nothing': {'no bytes': 55},
     'large files': dict.fromkeys(('whole: nothing skipped', 'damaged: both', 'of ones: nothing kept', 'noise: nothing kept'), 1),
+    'a large damaged file': {'entries': 4500, 'runs': 95},
     'files of books': {'both': 23, 'nothing kept': 3, 'nothing skipped': 4, 'no bytes': 0},
     'kept entries': {0: 750, 1: 650, 2: 2200, 3: 2200},                  # by how many; 3 is three or more, here and below
     'skipped runs': {0: 1500, 1: 4000, 2: 120, 3: 65},

@@ -1,8 +1,9 @@
 """Salvage on the static library, from a fixed seed: the answer and every byte of every lent slice against the independent implementation in tests/reference. Each word of an entry changed
-alone, with its sum wrong and right; each bit flipped; a file cut at each byte, moved by each number of bytes, and with each number of bytes between its entries; random files damaged in
-each way of broken_transfers.py and of damaged_files.py; files of 10,000 entries; the one in docs/FILES.md. Each is salvaged in rooms of just the bytes, in longer ones and in those that always suffice, and with each
-of the four rooms too short, by a byte and by more, and all of them: then not a byte is written. What is written reads, and comes out unchanged itself. Files of books are salvaged and
-entered on a new book. Fails too where it meets less than coverage.py asks. Prints 'N passed, M failed' last.
+alone, with its sum wrong and right; each bit flipped; a file cut at each byte, moved by each number of bytes, and with each number of bytes between its entries; right entries that lie
+over each other; random files damaged in each way of broken_transfers.py and of damaged_files.py; files of 10,000 entries; the one in docs/FILES.md. Each is salvaged in rooms of just the
+bytes, in longer ones and in those that always suffice, and with each of the four rooms too short, by a byte and by more, and all of them: then not a byte is written. What is written
+reads, and comes out unchanged itself. Files of books are salvaged and entered on a new book. Files beyond 65,536 bytes are the large ones alone, and none is beyond 2^32. Fails too where it
+meets less than coverage.py asks. Prints 'N passed, M failed' last.
 
     python3 tests/host/salvage_calls.py LIBRARY.so
 """
@@ -185,27 +186,35 @@ class Salvages(Files):
         self.coverage.note(way, came_of(bad, found))
 
     def large(self):
-        """Files of 10,000 entries: whole, damaged in many spots, and so many bytes of 1 in each word, and of noise."""
+        """Files of 10,000 entries: whole, damaged in many spots, of some of them out of step for a while, and so many bytes of 1 in each word, and of noise."""
         r = self.rng
         data = files.write(any_entries(r, LARGE, range(1, 257)))
         holed = bytearray(data)
         for _ in range(LARGE // 50):
-            at = r.randrange(len(holed))
-            holed[at:at + r.choice((0, 1, 8, 128, 300))] = r.randbytes(r.choice((0, 1, 8, 64, 300)))
+            at, lost, more = r.randrange(len(holed)), *r.choice(((1, 1), (8, 0), (0, 8), (300, 300), (128, 0), (0, 64)))
+            holed[at:at + lost] = r.randbytes(more)
+        for at in r.sample(range(len(holed) - 10_000), 10):
+            holed[at:at + 3] = b''
+            holed[at + 8000:at + 8000] = r.randbytes(3)
         for name, bad in (('whole', data), ('damaged', bytes(holed)), ('of ones', (1).to_bytes(8, 'little') * (16 * LARGE)), ('noise', r.randbytes(len(data)))):
             found = self.every_room(bad)
             self.coverage.note('large files', '%s: %s' % (name, came_of(bad, found)))
-        self.same('a large fresh file reads', self.check_file(Salvaged(bytes(holed)).fresh), True)
+            if name == 'damaged':
+                self.coverage.note('a large damaged file', 'entries', len(found.kept))
+                self.coverage.note('a large damaged file', 'runs', len(found.skipped))
+                self.fresh_again(found)
 
     # ---- the document
     def document(self):
-        """The words that docs/FILES.md prints of its file after a loss of 8 bytes are all that are written on the counts and the lists, and of the fresh file all that are not 0."""
+        """The words that docs/FILES.md prints of its file after a loss of 8 bytes are all that are written on the counts and the lists, and of the fresh file its start and all that are
+        not 0."""
         with open(WORKED, encoding='utf-8') as page:
             lines = re.findall(r'^ +(%s) +(\d+) +(-?\d+)\b' % '|'.join(SLICES), page.read(), re.MULTILINE)
         whole = files.write(WORKED_ENTRIES)
         found = self.every_room(whole[:56] + whole[64:])
         words = {(name, 8 * k): word for name, front in zip(SLICES, found.written()) for k, word in enumerate(words_in(front))}
-        self.same('the words in docs/FILES.md', {(name, int(at)): int(word) for name, at, word in lines}, {at: word for at, word in words.items() if at[0] != 'fresh' or word or at[1] == 8 * START})
+        told = {at: word for at, word in words.items() if at[0] != 'fresh' or word or at[1] == 8 * START}
+        self.same('the words in docs/FILES.md', {(name, int(at)): int(word) for name, at, word in lines}, told)
         self.coverage.note('words in docs/FILES.md', 'compared', len(lines))
 
     # ---- books
