@@ -34,7 +34,12 @@ static int good(const uint64_t w[WORDS]) {
 
 /* The start of the next entry to keep from a byte on, and its words; the length of the file where there is none. */
 static size_t next_kept(const uint8_t *file, size_t bytes, size_t at, uint64_t w[WORDS]) {
+    uint64_t kind; /* looked at first: most steps that are not kept have a wrong one */
     for (; at + ENTRY <= bytes; at += STEP) {
+        memcpy(&kind, file + at, sizeof kind);
+        if (kind - BASELINE > STRIKE - BASELINE) {
+            continue;
+        }
         memcpy(w, file + at, ENTRY);
         if (good(w)) {
             return at;
