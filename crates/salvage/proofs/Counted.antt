@@ -1,18 +1,17 @@
 -- The loop over the scan: what is counted so far and what the scan still keeps and skips are all that it keeps and skips. Assumes nothing.
-use mathlib.Core.Path.{_≡_, refl, sym, ap, _∙_}
+use mathlib.Core.Path.{_≡_, sym, ap, _∙_}
 use mathlib.Core.Bool.{true, false}
-use mathlib.Core.List.{List, [], _∷_, _++_}
-use Prim.Native.Nat.{ℕ, _+_, _-_, _*_, _<_, _≤_}
+use mathlib.Core.List.{List, _∷_, _++_}
+use Prim.Native.Nat.{ℕ, _+_, _*_, _<_, _≤_}
 use native.Mathlib.Omega.{arith}
-use borrow.Author.Tests.{le-leb, lt-ltb, le-ltb}
+use borrow.Author.Tests.{le-leb}
 use lib.Dec.{leb}
 use lib.ListN.{length, length-append}
 use Rattle.words.specs.Bools.{and-both, and-no-right}
 use Rattle.files.specs.Files.{rightAt}
-use Rattle.salvage.specs.declared.SalvageCounts.{SalvageCounts}
 use Rattle.salvage.specs.Salvage.{keptAt, keptFrom, keptStarts, runBetween, runsBetween, skippedRuns, salvageCounts}
 use Rattle.salvage.specs.ScanLaws.{scan-keep, scan-skip, scan-end}
-use Rattle.salvage.specs.SalvageLaws.{kept-few, run-few, runs-few}
+use Rattle.salvage.specs.SalvageLaws.{kept-few, runs-few}
 
 -- ---- one step
 module _ (f : List ℕ) (at : ℕ) where
@@ -33,16 +32,6 @@ module _ (f : List ℕ) (at : ℕ) where
     pub runs-end : length f < at + 128 → runsBetween end (keptFrom f at) (length f) ≡ runBetween end (length f)
     unfolding runsBetween
     runs-end h = ap (λ (ks : List ℕ). runsBetween end ks (length f)) (scan-end f at h)
-
--- ---- a run, and none
-module _ (a b : ℕ) where
-  pub run-one : a < b → runBetween a b ≡ (a, b - a) ∷ []
-  unfolding runBetween
-  run-one h = rw (lt-ltb a b h)
-
-  pub run-no : b ≤ a → runBetween a b ≡ []
-  unfolding runBetween
-  run-no h = rw (le-ltb a b h)
 
 -- ---- what is counted before byte `at`, where the last entry kept ended at byte `end`
 pub record CountedTo (f : List ℕ) (skipped kept end at : ℕ) : Type 0 where

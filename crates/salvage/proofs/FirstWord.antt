@@ -7,12 +7,12 @@ use Prim.Native.Nat.{ℕ}
 use lib.ListN.{getD}
 use lib.IntN.{ℤ, pos}
 use lib.Signed.{leZ}
-use Rattle.words.specs.Bools.{true-or-false, clash, and-no-left, and-no-right}
+use Rattle.words.specs.Bools.{true-or-false, clash, and-no-right}
 use Rattle.words.specs.Signed.{eqZ}
 use Rattle.words.specs.SignedLaws.{eqZ-true}
 use Rattle.words.specs.Words.{wordAt}
 use Rattle.words.specs.Runs.{wordsAt}
-use Rattle.files.specs.Entries.{zerosFrom, kindRight, rightWords, rightEntry}
+use Rattle.files.specs.Entries.{kindRight, rightWords, rightEntry}
 use Rattle.files.specs.Files.{rightAt}
 
 module _ (w : List ℤ) where

@@ -1,13 +1,13 @@
 -- Laws of salvage: the fresh file reads and has the kept words (`fresh-reads`, `fresh-entries`), an undamaged file comes out unchanged with no skipped run (`undamaged`,
 -- `undamaged-skipped`), and how much room is always enough (`room-enough`). Assumes nothing.
-use Prim.Native.Nat.{ℕ, zero, suc, _+_, _-_, _*_, _/_, _<_, _≤_, _^_}
+use Prim.Native.Nat.{ℕ, zero, suc, _+_, _*_, _/_, _<_, _≤_, _^_}
 use mathlib.Core.Path.{_≡_, refl, sym, ap, _∙_}
-use mathlib.Core.Bool.{Bool, true, false, cond, _&&_}
+use mathlib.Core.Bool.{true, _&&_}
 use mathlib.Core.List.{List, [], _∷_, _++_}
 use native.Mathlib.Omega.{arith}
 use native.Mathlib.Decide.{decLt}
-use borrow.Author.Tests.{lt-ltb, le-ltb, le-leb, leb-true}
-use lib.Dec.{leb, ltb}
+use borrow.Author.Tests.{le-leb, leb-true}
+use lib.Dec.{leb}
 use lib.ListN.{length, getD, take, drop, length-append}
 use lib.Seq.{drop-at}
 use lib.IntN.{ℤ, pos}
@@ -25,19 +25,18 @@ use Rattle.files.specs.FileLaws.{AllFit, fit-long, reads-whole, read-fits, read
 use Rattle.salvage.specs.declared.SalvageCounts.{SalvageCounts}
 use Rattle.salvage.specs.declared.Salvaged.the-variants.{Counts}
 use Rattle.salvage.specs.Salvage.{keptAt, keptFrom, keptStarts, entriesAt, keptEntries, freshFile, runBetween, runsBetween, skippedRuns, runWords, startWords, salvageCounts, roomFor, freshLeft, skippedLeft, keptLeft}
-use Rattle.salvage.specs.ScanLaws.{kept-apart, apart-room, kept-each-right, scan-keep, scan-end}
+use Rattle.salvage.specs.ScanLaws.{kept-apart, apart-room, kept-each-right, scan-keep, scan-end, run-one, run-none}
 
 -- ════ how much there is
 pub kept-few : (f : List ℕ) → 128 * length (keptStarts f) ≤ length f
 kept-few f = omega (arith, apart-room 0 (keptStarts f) (length f) (kept-apart f 0 (omega arith)))
 
 pub run-few : (a b : ℕ) → length (runBetween a b) ≤ 1
-unfolding runBetween
 run-few a b = go (decLt a b)
   where
     go : Dec (a < b) → length (runBetween a b) ≤ 1
-    go (yes h) = rw (lt-ltb a b h) (omega arith)
-    go (no h) = rw (le-ltb a b (omega arith)) (omega arith)
+    go (yes h) = rw (run-one a b h) (omega arith)
+    go (no h) = rw (run-none a b (omega arith)) (omega arith)
 
 -- a run before each entry kept, and one behind the last, at most
 pub runs-few : (from : ℕ) (ks : List ℕ) (end : ℕ) → length (runsBetween from ks end) ≤ suc (length ks)
@@ -167,10 +166,6 @@ all-words : (f : List ℕ) (at n : ℕ) → entriesAt f (startsFrom at n) ≡ en
 unfolding entriesAt startsFrom entriesFrom
 all-words f at zero = refl
 all-words f at (suc n) = ap (λ (l : List (List ℤ)). wordsAt f at 13 ∷ l) (all-words f (at + 128) n)
-
-run-none : (a b : ℕ) → b ≤ a → runBetween a b ≡ []
-unfolding runBetween
-run-none a b h = rw (le-ltb a b h)
 
 no-runs : (at n end : ℕ) → end ≡ at + 128 * n → runsBetween at (startsFrom at n) end ≡ []
 unfolding runsBetween startsFrom

@@ -1,4 +1,4 @@
--- Laws of the scan: a step that keeps, a step that skips, and its end; what it keeps lies end to end or apart. Assumes nothing.
+-- Laws of the scan: a step that keeps, a step that skips, and its end; what it keeps lies end to end or apart; the run between two kept entries. Assumes nothing.
 use Prim.Native.Nat.{ℕ, zero, suc, _+_, _-_, _*_, _<_, _≤_}
 use mathlib.Core.Path.{_≡_, refl, sym, ap, _∙_}
 use mathlib.Core.Logic.{_⊎_, inl, inr}
@@ -6,12 +6,12 @@ use mathlib.Core.Bool.{true, false, cond}
 use mathlib.Core.List.{List, [], _∷_}
 use native.Mathlib.Omega.{arith}
 use native.Mathlib.Decide.{decLt}
-use borrow.Author.Tests.{leb-true, lt-leb}
+use borrow.Author.Tests.{leb-true, lt-leb, lt-ltb, le-ltb}
 use lib.Dec.{leb}
 use lib.ListN.{length, getD}
 use Rattle.words.specs.Bools.{true-or-false, and-left, and-right, and-no-left}
 use Rattle.files.specs.Files.{rightAt}
-use Rattle.salvage.specs.Salvage.{keptAt, scan, keptFrom}
+use Rattle.salvage.specs.Salvage.{keptAt, scan, keptFrom, runBetween}
 
 pub kept-inside : (f : List ℕ) (at : ℕ) → keptAt f at ≡ true → at + 128 ≤ length f
 unfolding keptAt
@@ -103,3 +103,13 @@ scan-right f (suc k) at i h = go i h (scan-right f k (at + 128)) (scan-right f k
 pub kept-each-right : (f : List ℕ) (at i : ℕ) → i < length (keptFrom f at) → rightAt f (getD (keptFrom f at) i 0) ≡ true
 unfolding keptFrom
 kept-each-right f at = scan-right f (length f) at
+
+-- ════ the run between two bytes, and none
+module _ (a b : ℕ) where
+  pub run-one : a < b → runBetween a b ≡ (a, b - a) ∷ []
+  unfolding runBetween
+  run-one h = rw (lt-ltb a b h)
+
+  pub run-none : b ≤ a → runBetween a b ≡ []
+  unfolding runBetween
+  run-none h = rw (le-ltb a b h)

@@ -11,7 +11,7 @@ use lib.Dec.{leb, ltb}
 use lib.ListN.{length, getD}
 use Rattle.words.specs.Bools.{and-no-right}
 use Rattle.salvage.specs.Salvage.{keptStarts, runBetween, runsBetween, skippedRuns}
-use Rattle.salvage.specs.ScanLaws.{Apart, kept-apart, apart-room}
+use Rattle.salvage.specs.ScanLaws.{Apart, kept-apart, apart-room, run-one, run-none}
 
 -- ════ the statements
 -- 1 where byte j is one of those from a to before b, else 0
@@ -68,7 +68,7 @@ skipped-append j [] s = omega arith
 skipped-append j (x ∷ r) s = omega (arith, skipped-append j r s)
 
 skipped-run : (j a b : ℕ) → a ≤ b → timesSkipped j (runBetween a b) ≡ timesWithin a b j
-unfolding timesSkipped runBetween
+unfolding timesSkipped
 skipped-run j a b h = go (decLt a b)
   where
     none : Dec (j < a) → b ≤ a → timesWithin a b j ≡ 0
@@ -76,8 +76,8 @@ skipped-run j a b h = go (decLt a b)
     none (no p) l = within-high a b j (omega arith)
 
     go : Dec (a < b) → timesSkipped j (runBetween a b) ≡ timesWithin a b j
-    go (yes l) = let e : a + (b - a) ≡ b = omega arith in rw (lt-ltb a b l, e) (omega arith)
-    go (no l) = rw (le-ltb a b (omega arith)) (sym (none (decLt j a) (omega arith)))
+    go (yes l) = let e : a + (b - a) ≡ b = omega arith in rw (run-one a b l, e) (omega arith)
+    go (no l) = rw (run-none a b (omega arith)) (sym (none (decLt j a) (omega arith)))
 
 runs-tile : (j from : ℕ) (ks : List ℕ) (end : ℕ) → Apart from ks end → timesKept j ks + timesSkipped j (runsBetween from ks end) ≡ timesWithin from end j
 unfolding timesKept runsBetween
@@ -104,12 +104,11 @@ parted-less a b [] h p = tt
 parted-less a b (r ∷ rs) h p = let q = p .0 in (omega arith, p .1, p .2)
 
 run-parted : (from b : ℕ) (rs : List (ℕ × ℕ)) → from ≤ b → Parted (suc b) rs → Parted from (runBetween from b ++ rs)
-unfolding runBetween
 run-parted from b rs h p = go (decLt from b)
   where
     go : Dec (from < b) → Parted from (runBetween from b ++ rs)
-    go (yes l) = let e : from + (b - from) ≡ b = omega arith in rw (lt-ltb from b l) (omega arith, omega arith, rw e p)
-    go (no l) = rw (le-ltb from b (omega arith)) (parted-less from (suc b) rs (omega arith) p)
+    go (yes l) = let e : from + (b - from) ≡ b = omega arith in rw (run-one from b l) (omega arith, omega arith, rw e p)
+    go (no l) = rw (run-none from b (omega arith)) (parted-less from (suc b) rs (omega arith) p)
 
 runs-parted : (from : ℕ) (ks : List ℕ) (end : ℕ) → Apart from ks end → Parted from (runsBetween from ks end)
 unfolding runsBetween

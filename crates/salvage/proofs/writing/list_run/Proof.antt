@@ -7,7 +7,7 @@ use native.Mathlib.Omega.{arith}
 use lib.ListN.{length}
 use Rattle.words.specs.Runs.{putWords}
 use Rattle.salvage.specs.Salvage.{runWords}
-use Rattle.salvage.proofs.Counted.{run-one, run-no}
+use Rattle.salvage.specs.ScanLaws.{run-one, run-none}
 use borrow.Author.Needs.{needs}
 use Rattle.salvage.proofs.writing.list_run.Statement.{statement}
 use Rattle.salvage.proofs.writing.list_run.Tie as tie
@@ -35,7 +35,7 @@ returns-2 : tie.Need-returns-2
 unfolding runWords putWords
 returns-2 c =
     let s = c .before .before in
-    let t = sym (run-no (s .args .a) (s .args .b) (c .if1 .left)) in
+    let t = sym (run-none (s .args .a) (s .args .b) (c .if1 .left)) in
     (sym (add-zero (s .args .i)) ∙ ap (λ (l : List (ℕ × ℕ)). s .args .i + length l) t, ap (λ (l : List (ℕ × ℕ)). putWords (s .args .list .now) (16 * s .args .i) (runWords l)) t)
 
 pub list-run-spec : {M : Type 1} → statement M
