@@ -17,22 +17,26 @@ use Rattle.words.specs.RunLaws.{run-back}
 use Rattle.files.specs.EntryLaws.{signed-any, fits-none, fits-cons}
 use Rattle.files.specs.Files.{reads, entriesOf}
 use Rattle.salvage.specs.Salvage.{keptStarts, keptEntries, skippedRuns, runWords, startWords, freshFile, salvageCounts, roomFor, salvageAnswer, freshLeft, skippedLeft, keptLeft}
-use Rattle.salvage.specs.SalvageLaws.{room-each, room-enough, length-kept, fresh-reads, fresh-entries, fresh-front, fresh-beyond, skipped-list, kept-list}
+use Rattle.salvage.specs.SalvageLaws.{room-each, room-enough, length-kept, fresh-reads, fresh-entries, fresh-front, fresh-beyond, skipped-list, skipped-beyond, kept-list, kept-beyond, words-beyond}
 use Rattle.salvage.specs.declared.Salvaged.the-variants.{Counts}
 use Rattle.dombrelat.specs.SalvageCall.{SalvageReturned, salvageCall}
 
--- the lent slices after a salvage that is not refused
-pub record SalvageFound (damaged fresh : List ℕ) (r : SalvageReturned) : Type 0 where
+-- the lent slices after a salvage that is not refused, which came as `fresh`, `skipped`, `kept` and `counts`
+pub record SalvageFound (damaged fresh skipped kept counts : List ℕ) (r : SalvageReturned) : Type 0 where
   -- "both counts are returned"
   pub counted : wordsAt (r .counts) 0 2 ≡ signed (length (skippedRuns damaged)) ∷ signed (length (keptStarts damaged)) ∷ []
-  -- the fresh file is at the front, it reads, its entries are those kept, and the bytes beyond it are as they came
+  -- the fresh file is at the front, it reads, and its entries are those kept
   pub file : take (128 * length (keptStarts damaged)) (r .fresh) ≡ freshFile damaged
   pub readable : reads (freshFile damaged) ≡ true
   pub entries : entriesOf (freshFile damaged) ≡ keptEntries damaged
-  pub beyond : drop (128 * length (keptStarts damaged)) (r .fresh) ≡ drop (128 * length (keptStarts damaged)) fresh
-  -- so are the words of the two lists
+  -- the words of the two lists
   pub runs : wordsAt (r .skipped) 0 (2 * length (skippedRuns damaged)) ≡ runWords (skippedRuns damaged)
   pub starts : wordsAt (r .kept) 0 (2 * length (keptStarts damaged)) ≡ startWords 0 (keptStarts damaged)
+  -- "Lent room beyond what is written stays" (request 6)
+  pub freshBeyond : drop (128 * length (keptStarts damaged)) (r .fresh) ≡ drop (128 * length (keptStarts damaged)) fresh
+  pub skippedBeyond : drop (16 * length (skippedRuns damaged)) (r .skipped) ≡ drop (16 * length (skippedRuns damaged)) skipped
+  pub keptBeyond : drop (16 * length (keptStarts damaged)) (r .kept) ≡ drop (16 * length (keptStarts damaged)) kept
+  pub countsBeyond : drop 16 (r .counts) ≡ drop 16 counts
 
 module _ (damaged fresh skipped kept counts : List ℕ) where
   abbrev roomy : Bool
@@ -74,7 +78,7 @@ module _ (damaged fresh skipped kept counts : List ℕ) where
   unfolding salvageCall salvageAnswer
   call-is e f = rw (e, f)
 
-  pub salvage-found : Bytes damaged → length damaged < 2 ^ 64 → salvageCall damaged fresh skipped kept counts .answer ≡ pos 0 → SalvageFound damaged fresh (salvageCall damaged fresh skipped kept counts)
+  pub salvage-found : Bytes damaged → length damaged < 2 ^ 64 → salvageCall damaged fresh skipped kept counts .answer ≡ pos 0 → SalvageFound damaged fresh skipped kept counts (salvageCall damaged fresh skipped kept counts)
   salvage-found b h z =
       let t = roomy-all z in
       let each = room-each (salvageCounts damaged) (length fresh) (length skipped) (length kept) (t .1) in
@@ -83,13 +87,16 @@ module _ (damaged fresh skipped kept counts : List ℕ) where
       let l = length-kept damaged in
       let s = signed (length (skippedRuns damaged)) in
       let k = signed (length (keptStarts damaged)) in
-      subst (SalvageFound damaged fresh) (sym (call-is (t .0) (t .1)))
+      subst (SalvageFound damaged fresh skipped kept counts) (sym (call-is (t .0) (t .1)))
       (record {
         counted = run-back counts 0 (s ∷ k ∷ []) (omega arith) (fits-cons s (k ∷ []) (signed-any (length (skippedRuns damaged))) (fits-cons k [] (signed-any (length (keptStarts damaged))) fits-none));
         file = ap (λ (m : ℕ). take (128 * m) (freshLeft (Counts n) damaged fresh)) (sym l) ∙ fresh-front damaged b n fresh (each .0);
         readable = fresh-reads damaged b h;
         entries = fresh-entries damaged b;
-        beyond = ap (λ (m : ℕ). drop (128 * m) (freshLeft (Counts n) damaged fresh)) (sym l) ∙ fresh-beyond damaged b n fresh (each .0) ∙ ap (λ (m : ℕ). drop (128 * m) fresh) l;
+        freshBeyond = ap (λ (m : ℕ). drop (128 * m) (freshLeft (Counts n) damaged fresh)) (sym l) ∙ fresh-beyond damaged b n fresh (each .0) ∙ ap (λ (m : ℕ). drop (128 * m) fresh) l;
         runs = skipped-list damaged n skipped (each .1);
         starts = kept-list damaged n kept (each .2);
+        skippedBeyond = skipped-beyond damaged n skipped (each .1);
+        keptBeyond = kept-beyond damaged n kept (each .2);
+        countsBeyond = words-beyond counts (s ∷ k ∷ []) (omega arith);
       })

@@ -19,7 +19,8 @@ use Rattle.words.specs.Signed.{signed}
 use Rattle.words.specs.Runs.{wordsAt, putWords}
 use Rattle.words.specs.RunLaws.{length-words, run-back}
 use Rattle.files.specs.EntryLaws.{all-three, linked-right, signed-any, fits-none, fits-cons}
-use Rattle.files.specs.BytesLaws.{bytes-small}
+use Rattle.files.specs.Bytes.{bytesOf}
+use Rattle.files.specs.BytesLaws.{bytes-small, length-bytes, run-bytes}
 use Rattle.files.specs.Files.{fileWords, fileOf, rightAt, linkedAt, reads, entriesFrom, entriesOf}
 use Rattle.files.specs.FileLaws.{AllFit, fit-long, reads-whole, read-fits, read-written, written-reads, written-entries, length-file, put-file, file-front}
 use Rattle.salvage.specs.declared.SalvageCounts.{SalvageCounts}
@@ -128,6 +129,13 @@ unfolding startWords
 length-starts new [] = refl
 length-starts new (k ∷ ks) = omega (arith, length-starts (new + 128) ks)
 
+-- lent bytes beyond the words that are written stay
+pub words-beyond : (before : List ℕ) (ws : List ℤ) → 8 * length ws ≤ length before → drop (8 * length ws) (putWords before 0 ws) ≡ drop (8 * length ws) before
+words-beyond before ws h =
+    let z : 0 + 8 * length ws ≡ 8 * length ws = omega arith in
+    ap (drop (8 * length ws)) (run-bytes before 0 ws (omega arith) ∙ ap (λ (k : ℕ). bytesOf ws ++ drop k before) z)
+    ∙ drop-at (bytesOf ws) (drop (8 * length ws) before) (8 * length ws) (length-bytes ws)
+
 module _ (f : List ℕ) (n : SalvageCounts) (before : List ℕ) where
   pub skipped-list : 16 * length (skippedRuns f) ≤ length before → wordsAt (skippedLeft (Counts n) f before) 0 (2 * length (skippedRuns f)) ≡ runWords (skippedRuns f)
   unfolding skippedLeft
@@ -135,11 +143,23 @@ module _ (f : List ℕ) (n : SalvageCounts) (before : List ℕ) where
       let l = length-runs (skippedRuns f) in
       ap (wordsAt (putWords before 0 (runWords (skippedRuns f))) 0) (sym l) ∙ run-back before 0 (runWords (skippedRuns f)) (omega arith) (runs-fit (skippedRuns f))
 
+  pub skipped-beyond : 16 * length (skippedRuns f) ≤ length before → drop (16 * length (skippedRuns f)) (skippedLeft (Counts n) f before) ≡ drop (16 * length (skippedRuns f)) before
+  unfolding skippedLeft
+  skipped-beyond h =
+      let k : 8 * length (runWords (skippedRuns f)) ≡ 16 * length (skippedRuns f) = omega (arith, length-runs (skippedRuns f)) in
+      rw k at (words-beyond before (runWords (skippedRuns f)) (omega arith))
+
   pub kept-list : 16 * length (keptStarts f) ≤ length before → wordsAt (keptLeft (Counts n) f before) 0 (2 * length (keptStarts f)) ≡ startWords 0 (keptStarts f)
   unfolding keptLeft
   kept-list h =
       let l = length-starts 0 (keptStarts f) in
       ap (wordsAt (putWords before 0 (startWords 0 (keptStarts f))) 0) (sym l) ∙ run-back before 0 (startWords 0 (keptStarts f)) (omega arith) (starts-fit 0 (keptStarts f))
+
+  pub kept-beyond : 16 * length (keptStarts f) ≤ length before → drop (16 * length (keptStarts f)) (keptLeft (Counts n) f before) ≡ drop (16 * length (keptStarts f)) before
+  unfolding keptLeft
+  kept-beyond h =
+      let k : 8 * length (startWords 0 (keptStarts f)) ≡ 16 * length (keptStarts f) = omega (arith, length-starts 0 (keptStarts f)) in
+      rw k at (words-beyond before (startWords 0 (keptStarts f)) (omega arith))
 
 -- ════ an undamaged file
 -- n starts, end to end from byte `at` on
