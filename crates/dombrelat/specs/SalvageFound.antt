@@ -13,11 +13,9 @@ use Rattle.words.specs.Bools.{true-or-false}
 use Rattle.words.specs.Signed.{signed}
 use Rattle.words.specs.Words.{Bytes}
 use Rattle.words.specs.Runs.{wordsAt, putWords}
-use Rattle.words.specs.RunLaws.{run-back}
-use Rattle.files.specs.EntryLaws.{signed-any, fits-none, fits-cons}
 use Rattle.files.specs.Files.{reads, entriesOf}
-use Rattle.salvage.specs.Salvage.{keptStarts, keptEntries, skippedRuns, runWords, startWords, freshFile, salvageCounts, roomFor, salvageAnswer, freshLeft, skippedLeft, keptLeft}
-use Rattle.salvage.specs.SalvageLaws.{room-each, room-enough, length-kept, fresh-reads, fresh-entries, fresh-front, fresh-beyond, skipped-list, skipped-beyond, kept-list, kept-beyond, words-beyond}
+use Rattle.salvage.specs.Salvage.{keptStarts, keptEntries, skippedRuns, keptPairs, pairWords, freshFile, salvageCounts, roomFor, salvageAnswer, freshLeft, skippedLeft, keptLeft}
+use Rattle.salvage.specs.SalvageLaws.{room-each, room-enough, length-kept, fresh-reads, fresh-entries, fresh-front, fresh-beyond, pairs-back, pairs-beyond, length-kept-pairs}
 use Rattle.salvage.specs.declared.Salvaged.the-variants.{Counts}
 use Rattle.dombrelat.specs.SalvageCall.{SalvageReturned, salvageCall}
 
@@ -30,8 +28,8 @@ pub record SalvageFound (damaged fresh skipped kept counts : List ℕ) (r : Salv
   pub readable : reads (freshFile damaged) ≡ true
   pub entries : entriesOf (freshFile damaged) ≡ keptEntries damaged
   -- the words of the two lists
-  pub runs : wordsAt (r .skipped) 0 (2 * length (skippedRuns damaged)) ≡ runWords (skippedRuns damaged)
-  pub starts : wordsAt (r .kept) 0 (2 * length (keptStarts damaged)) ≡ startWords 0 (keptStarts damaged)
+  pub runs : wordsAt (r .skipped) 0 (2 * length (skippedRuns damaged)) ≡ pairWords (skippedRuns damaged)
+  pub starts : wordsAt (r .kept) 0 (2 * length (keptStarts damaged)) ≡ pairWords (keptPairs 0 (keptStarts damaged))
   -- "Lent room beyond what is written stays" (request 6)
   pub freshBeyond : drop (128 * length (keptStarts damaged)) (r .fresh) ≡ drop (128 * length (keptStarts damaged)) fresh
   pub skippedBeyond : drop (16 * length (skippedRuns damaged)) (r .skipped) ≡ drop (16 * length (skippedRuns damaged)) skipped
@@ -71,32 +69,34 @@ module _ (damaged fresh skipped kept counts : List ℕ) where
       ≡ record {
         answer = pos 0;
         fresh = freshLeft (Counts (salvageCounts damaged)) damaged fresh;
-        skipped = skippedLeft (Counts (salvageCounts damaged)) damaged skipped;
-        kept = keptLeft (Counts (salvageCounts damaged)) damaged kept;
+        skipped = putWords skipped 0 (pairWords (skippedRuns damaged));
+        kept = putWords kept 0 (pairWords (keptPairs 0 (keptStarts damaged)));
         counts = putWords counts 0 (signed (length (skippedRuns damaged)) ∷ signed (length (keptStarts damaged)) ∷ []);
       }
-  unfolding salvageCall salvageAnswer
+  unfolding salvageCall salvageAnswer skippedLeft keptLeft
   call-is e f = rw (e, f)
 
   pub salvage-found : Bytes damaged → length damaged < 2 ^ 64 → salvageCall damaged fresh skipped kept counts .answer ≡ pos 0 → SalvageFound damaged fresh skipped kept counts (salvageCall damaged fresh skipped kept counts)
+  unfolding pairWords
   salvage-found b h z =
       let t = roomy-all z in
       let each = room-each (salvageCounts damaged) (length fresh) (length skipped) (length kept) (t .1) in
       let two = leb-true 16 (length counts) (t .0) in
       let n = salvageCounts damaged in
       let l = length-kept damaged in
-      let s = signed (length (skippedRuns damaged)) in
-      let k = signed (length (keptStarts damaged)) in
+      let ps = keptPairs 0 (keptStarts damaged) in
+      let p = length-kept-pairs 0 (keptStarts damaged) in
+      let both : List (ℕ × ℕ) = (length (skippedRuns damaged), length (keptStarts damaged)) ∷ [] in
       subst (SalvageFound damaged fresh skipped kept counts) (sym (call-is (t .0) (t .1)))
       (record {
-        counted = run-back counts 0 (s ∷ k ∷ []) (omega arith) (fits-cons s (k ∷ []) (signed-any (length (skippedRuns damaged))) (fits-cons k [] (signed-any (length (keptStarts damaged))) fits-none));
+        counted = pairs-back counts both two;
         file = ap (λ (m : ℕ). take (128 * m) (freshLeft (Counts n) damaged fresh)) (sym l) ∙ fresh-front damaged b n fresh (each .0);
         readable = fresh-reads damaged b h;
         entries = fresh-entries damaged b;
+        runs = pairs-back skipped (skippedRuns damaged) (each .1);
+        starts = rw p at (pairs-back kept ps (omega (arith, p, each .2)));
         freshBeyond = ap (λ (m : ℕ). drop (128 * m) (freshLeft (Counts n) damaged fresh)) (sym l) ∙ fresh-beyond damaged b n fresh (each .0) ∙ ap (λ (m : ℕ). drop (128 * m) fresh) l;
-        runs = skipped-list damaged n skipped (each .1);
-        starts = kept-list damaged n kept (each .2);
-        skippedBeyond = skipped-beyond damaged n skipped (each .1);
-        keptBeyond = kept-beyond damaged n kept (each .2);
-        countsBeyond = words-beyond counts (s ∷ k ∷ []) (omega arith);
+        skippedBeyond = pairs-beyond skipped (skippedRuns damaged) (each .1);
+        keptBeyond = rw p at (pairs-beyond kept ps (omega (arith, p, each .2)));
+        countsBeyond = pairs-beyond counts both two;
       })

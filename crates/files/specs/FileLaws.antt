@@ -183,6 +183,10 @@ linked-words : (f : List ℕ) (at : ℕ) → linkedAt f at ≡ true → wordsAt 
 unfolding linkedAt
 linked-words f at g = linked-is at (wordsAt f at 16) (length-words f at 16) g ∙ ap (entryWords at) (words-take f at 13 3)
 
+-- linked entries from byte at on, counted from the second
+pub linked-next : (f : List ℕ) (at n : ℕ) → ((i : ℕ) → i < suc n → linkedAt f (at + 128 * i) ≡ true) → (i : ℕ) → i < n → linkedAt f (at + 128 + 128 * i) ≡ true
+linked-next f at n h i l = let q : at + 128 * suc i ≡ at + 128 + 128 * i = omega arith in rw q at (h (suc i) (omega arith))
+
 words-read : (f : List ℕ) (at n : ℕ) → ((i : ℕ) → i < n → linkedAt f (at + 128 * i) ≡ true) → fileWords at (entriesFrom f at n) ≡ wordsAt f at (16 * n)
 unfolding fileWords entriesFrom wordsAt
 words-read f at zero h = refl
@@ -190,10 +194,7 @@ words-read f at (suc n) h =
     let here : at + 128 * 0 ≡ at = omega arith in
     let first : linkedAt f at ≡ true = rw here at (h 0 (omega arith)) in
     let more : 16 + 16 * n ≡ 16 * suc n = omega arith in
-    cc (linked-words f at first, words-read f (at + 128) n (shifted f at n h), words-append f at 16 (16 * n), more)
-  where
-    shifted : (f : List ℕ) (at n : ℕ) → ((i : ℕ) → i < suc n → linkedAt f (at + 128 * i) ≡ true) → (i : ℕ) → i < n → linkedAt f (at + 128 + 128 * i) ≡ true
-    shifted f at n h i l = let q : at + 128 * suc i ≡ at + 128 + 128 * i = omega arith in rw q at (h (suc i) (omega arith))
+    cc (linked-words f at first, words-read f (at + 128) n (linked-next f at n h), words-append f at 16 (16 * n), more)
 
 -- "a file that reads is the one that writing its entries in their order would give"
 pub read-written : (f : List ℕ) → Bytes f → reads f ≡ true → fileOf (entriesOf f) ≡ f

@@ -14,30 +14,30 @@ use Rattle.files.specs.BytesLaws.{put-append}
 use Rattle.files.specs.Entries.{entryWords}
 use Rattle.files.specs.EntryLaws.{length-entry}
 use Rattle.files.specs.Files.{rightAt, fileWords}
-use Rattle.salvage.specs.Salvage.{keptFrom, keptStarts, entriesAt, keptEntries, runBetween, runsBetween, skippedRuns, runWords, startWords, salvageCounts, roomFor}
+use Rattle.salvage.specs.Salvage.{keptFrom, keptStarts, entriesAt, keptEntries, runBetween, runsBetween, skippedRuns, keptPairs, pairWords, salvageCounts, roomFor}
 use Rattle.salvage.specs.ScanLaws.{scan-end}
-use Rattle.salvage.specs.SalvageLaws.{length-runs, room-each}
+use Rattle.salvage.specs.SalvageLaws.{length-pairs, room-each}
 use Rattle.salvage.proofs.Counted.{keeps, skips, runs-keep, runs-end, CountedTo, counted-none, counted-keep, counted-skip}
 
--- ---- words of runs
+-- ---- words of pairs
 pub pair-put : (s : List ℕ) (at : ℕ) (a b : ℤ) → putWord (putWord s at a) (at + 8) b ≡ putWords s at (a ∷ b ∷ [])
 unfolding putWords
 pair-put s at a b = refl
 
-runs-append : (r s : List (ℕ × ℕ)) → runWords (r ++ s) ≡ runWords r ++ runWords s
-unfolding runWords
-runs-append [] s = refl
-runs-append (x ∷ r) s = ap (λ (l : List ℤ). signed (x .0) ∷ signed (x .1) ∷ l) (runs-append r s)
+pairs-append : (r s : List (ℕ × ℕ)) → pairWords (r ++ s) ≡ pairWords r ++ pairWords s
+unfolding pairWords
+pairs-append [] s = refl
+pairs-append (x ∷ r) s = ap (λ (l : List ℤ). signed (x .0) ∷ signed (x .1) ∷ l) (pairs-append r s)
 
 -- ---- what is left, before byte `at`, of each output
 abbrev freshRest : List ℕ → ℕ → ℕ → List ℤ
 freshRest f entries at = fileWords (128 * entries) (entriesAt f (keptFrom f at))
 
 abbrev skippedRest : List ℕ → ℕ → ℕ → List ℤ
-skippedRest f end at = runWords (runsBetween end (keptFrom f at) (length f))
+skippedRest f end at = pairWords (runsBetween end (keptFrom f at) (length f))
 
 abbrev keptRest : List ℕ → ℕ → ℕ → List ℤ
-keptRest f entries at = startWords (128 * entries) (keptFrom f at)
+keptRest f entries at = pairWords (keptPairs (128 * entries) (keptFrom f at))
 
 pub record WrittenTo (f fresh₀ skipped₀ kept₀ fresh skipped kept : List ℕ) (runs entries end at : ℕ) : Type 0 where
   pub counted : CountedTo f runs entries end at
@@ -45,8 +45,8 @@ pub record WrittenTo (f fresh₀ skipped₀ kept₀ fresh skipped kept : List �
   pub skippedLong : length skipped ≡ length skipped₀
   pub keptLong : length kept ≡ length kept₀
   pub freshWhole : putWords fresh (128 * entries) (freshRest f entries at) ≡ putWords fresh₀ 0 (fileWords 0 (keptEntries f))
-  pub skippedWhole : putWords skipped (16 * runs) (skippedRest f end at) ≡ putWords skipped₀ 0 (runWords (skippedRuns f))
-  pub keptWhole : putWords kept (16 * entries) (keptRest f entries at) ≡ putWords kept₀ 0 (startWords 0 (keptStarts f))
+  pub skippedWhole : putWords skipped (16 * runs) (skippedRest f end at) ≡ putWords skipped₀ 0 (pairWords (skippedRuns f))
+  pub keptWhole : putWords kept (16 * entries) (keptRest f entries at) ≡ putWords kept₀ 0 (pairWords (keptPairs 0 (keptStarts f)))
 
 pub written-none : (f fresh skipped kept : List ℕ) → WrittenTo f fresh skipped kept fresh skipped kept 0 0 0 0
 written-none f fresh skipped kept =
@@ -71,40 +71,40 @@ module _ (f : List ℕ) (at : ℕ) (inside : at + 128 ≤ length f) (right : rig
   kept-keep : (kept : List ℕ) (entries : ℕ)
       → putWords (putWords kept (16 * entries) (signed at ∷ signed (128 * entries) ∷ [])) (16 * (entries + 1)) (keptRest f (entries + 1) (at + 128))
       ≡ putWords kept (16 * entries) (keptRest f entries at)
-  unfolding startWords
+  unfolding keptPairs pairWords
   kept-keep kept entries =
       let e = signed at ∷ signed (128 * entries) ∷ [] in
       let n : 128 * (entries + 1) ≡ 128 * entries + 128 = omega arith in
       let m : 16 * (entries + 1) ≡ 16 * entries + 8 * 2 = omega arith in
-      let rest = startWords (128 * entries + 128) (keptFrom f (at + 128)) in
-      ap (λ (k : ℕ). putWords (putWords kept (16 * entries) e) (16 * (entries + 1)) (startWords k (keptFrom f (at + 128)))) n
+      let rest = pairWords (keptPairs (128 * entries + 128) (keptFrom f (at + 128))) in
+      ap (λ (k : ℕ). putWords (putWords kept (16 * entries) e) (16 * (entries + 1)) (pairWords (keptPairs k (keptFrom f (at + 128))))) n
       ∙ ap (λ (k : ℕ). putWords (putWords kept (16 * entries) e) k rest) m
       ∙ sym (put-append kept (16 * entries) e rest)
-      ∙ ap (λ (ks : List ℕ). putWords kept (16 * entries) (startWords (128 * entries) ks)) (sym (keeps f at inside right))
+      ∙ ap (λ (ks : List ℕ). putWords kept (16 * entries) (pairWords (keptPairs (128 * entries) ks))) (sym (keeps f at inside right))
 
   skipped-keep : (skipped : List ℕ) (runs end : ℕ)
-      → putWords (putWords skipped (16 * runs) (runWords (runBetween end at))) (16 * (runs + length (runBetween end at))) (skippedRest f (at + 128) (at + 128))
+      → putWords (putWords skipped (16 * runs) (pairWords (runBetween end at))) (16 * (runs + length (runBetween end at))) (skippedRest f (at + 128) (at + 128))
       ≡ putWords skipped (16 * runs) (skippedRest f end at)
   skipped-keep skipped runs end =
       let r = runBetween end at in
       let rest = runsBetween (at + 128) (keptFrom f (at + 128)) (length f) in
-      let n : 16 * (runs + length r) ≡ 16 * runs + 8 * length (runWords r) = omega (arith, length-runs r) in
-      ap (λ (k : ℕ). putWords (putWords skipped (16 * runs) (runWords r)) k (runWords rest)) n
-      ∙ sym (put-append skipped (16 * runs) (runWords r) (runWords rest))
-      ∙ ap (putWords skipped (16 * runs)) (sym (runs-append r rest) ∙ ap runWords (sym (runs-keep f at end inside right)))
+      let n : 16 * (runs + length r) ≡ 16 * runs + 8 * length (pairWords r) = omega (arith, length-pairs r) in
+      ap (λ (k : ℕ). putWords (putWords skipped (16 * runs) (pairWords r)) k (pairWords rest)) n
+      ∙ sym (put-append skipped (16 * runs) (pairWords r) (pairWords rest))
+      ∙ ap (putWords skipped (16 * runs)) (sym (pairs-append r rest) ∙ ap pairWords (sym (runs-keep f at end inside right)))
 
 module _ {f fresh₀ skipped₀ kept₀ fresh skipped kept : List ℕ} {runs entries end at : ℕ} (w : WrittenTo f fresh₀ skipped₀ kept₀ fresh skipped kept runs entries end at) where
   pub written-keep : {fresh′ skipped′ kept′ : List ℕ} {runs′ : ℕ} → at + 128 ≤ length f → rightAt f at ≡ true
       → runs′ ≡ runs + length (runBetween end at)
       → fresh′ ≡ putWords fresh (128 * entries) (entryWords (128 * entries) (wordsAt f at 13))
-      → skipped′ ≡ putWords skipped (16 * runs) (runWords (runBetween end at))
+      → skipped′ ≡ putWords skipped (16 * runs) (pairWords (runBetween end at))
       → kept′ ≡ putWords kept (16 * entries) (signed at ∷ signed (128 * entries) ∷ [])
       → WrittenTo f fresh₀ skipped₀ kept₀ fresh′ skipped′ kept′ runs′ (entries + 1) (at + 128) (at + 128)
   written-keep h r n ff ss kk =
       record {
         counted = rw n (counted-keep f runs entries end at (w .counted) h r);
         freshLong = ap length ff ∙ length-run fresh (128 * entries) (entryWords (128 * entries) (wordsAt f at 13)) ∙ w .freshLong;
-        skippedLong = ap length ss ∙ length-run skipped (16 * runs) (runWords (runBetween end at)) ∙ w .skippedLong;
+        skippedLong = ap length ss ∙ length-run skipped (16 * runs) (pairWords (runBetween end at)) ∙ w .skippedLong;
         keptLong = ap length kk ∙ length-run kept (16 * entries) (signed at ∷ signed (128 * entries) ∷ []) ∙ w .keptLong;
         freshWhole = ap (λ (l : List ℕ). putWords l (128 * (entries + 1)) (freshRest f (entries + 1) (at + 128))) ff ∙ fresh-keep f at h r fresh entries ∙ w .freshWhole;
         skippedWhole = (λ i. putWords (ss i) (16 * n i) (skippedRest f (at + 128) (at + 128))) ∙ skipped-keep f at h r skipped runs end ∙ w .skippedWhole;
@@ -120,8 +120,8 @@ module _ {f fresh₀ skipped₀ kept₀ fresh skipped kept : List ℕ} {runs ent
         skippedLong = w .skippedLong;
         keptLong = w .keptLong;
         freshWhole = ap (λ (ks : List ℕ). putWords fresh (128 * entries) (fileWords (128 * entries) (entriesAt f ks))) s ∙ w .freshWhole;
-        skippedWhole = ap (λ (ks : List ℕ). putWords skipped (16 * runs) (runWords (runsBetween end ks (length f)))) s ∙ w .skippedWhole;
-        keptWhole = ap (λ (ks : List ℕ). putWords kept (16 * entries) (startWords (128 * entries) ks)) s ∙ w .keptWhole;
+        skippedWhole = ap (λ (ks : List ℕ). putWords skipped (16 * runs) (pairWords (runsBetween end ks (length f)))) s ∙ w .skippedWhole;
+        keptWhole = ap (λ (ks : List ℕ). putWords kept (16 * entries) (pairWords (keptPairs (128 * entries) ks))) s ∙ w .keptWhole;
       }
 
   -- ---- room for an entry and for a run
@@ -153,9 +153,9 @@ module _ {f fresh₀ skipped₀ kept₀ fresh skipped kept : List ℕ} {runs ent
     unfolding fileWords entriesAt putWords
     written-fresh = ap (λ (ks : List ℕ). putWords fresh (128 * entries) (fileWords (128 * entries) (entriesAt f ks))) (sym (scan-end f at over)) ∙ w .freshWhole
 
-    pub written-kept : kept ≡ putWords kept₀ 0 (startWords 0 (keptStarts f))
-    unfolding startWords putWords
-    written-kept = ap (λ (ks : List ℕ). putWords kept (16 * entries) (startWords (128 * entries) ks)) (sym (scan-end f at over)) ∙ w .keptWhole
+    pub written-kept : kept ≡ putWords kept₀ 0 (pairWords (keptPairs 0 (keptStarts f)))
+    unfolding keptPairs pairWords putWords
+    written-kept = ap (λ (ks : List ℕ). putWords kept (16 * entries) (pairWords (keptPairs (128 * entries) ks))) (sym (scan-end f at over)) ∙ w .keptWhole
 
-    pub written-skipped : {skipped′ : List ℕ} → skipped′ ≡ putWords skipped (16 * runs) (runWords (runBetween end (length f))) → skipped′ ≡ putWords skipped₀ 0 (runWords (skippedRuns f))
-    written-skipped e = e ∙ ap (λ (rs : List (ℕ × ℕ)). putWords skipped (16 * runs) (runWords rs)) (sym (runs-end f at end over)) ∙ w .skippedWhole
+    pub written-skipped : {skipped′ : List ℕ} → skipped′ ≡ putWords skipped (16 * runs) (pairWords (runBetween end (length f))) → skipped′ ≡ putWords skipped₀ 0 (pairWords (skippedRuns f))
+    written-skipped e = e ∙ ap (λ (rs : List (ℕ × ℕ)). putWords skipped (16 * runs) (pairWords rs)) (sym (runs-end f at end over)) ∙ w .skippedWhole

@@ -57,14 +57,15 @@ abbrev pub skippedRuns : List ℕ → List (ℕ × ℕ)
 skippedRuns f = runsBetween 0 (keptStarts f) (length f)
 
 -- ════ "Two lists of 64-bit words, each by rising start, hold each longest skipped run by start and length, and each kept entry by old and new start"
-unfoldable pub runWords : List (ℕ × ℕ) → List ℤ
-runWords [] = []
-runWords (r ∷ rs) = signed (r .0) ∷ signed (r .1) ∷ runWords rs
+-- each kept entry by old and new start: the new starts, from byte `new` on, are 128 bytes apart
+unfoldable pub keptPairs : ℕ → List ℕ → List (ℕ × ℕ)
+keptPairs new [] = []
+keptPairs new (k ∷ ks) = (k, new) ∷ keptPairs (new + 128) ks
 
--- the new starts, from byte `new` on, are 128 bytes apart
-unfoldable pub startWords : ℕ → List ℕ → List ℤ
-startWords new [] = []
-startWords new (k ∷ ks) = signed k ∷ signed new ∷ startWords (new + 128) ks
+-- the words of either list: two for each pair
+unfoldable pub pairWords : List (ℕ × ℕ) → List ℤ
+pairWords [] = []
+pairWords (p ∷ ps) = signed (p .0) ∷ signed (p .1) ∷ pairWords ps
 
 -- ════ the answer, given the room in bytes for the fresh file and the two lists
 -- "both counts are returned"
@@ -85,9 +86,9 @@ freshLeft (Counts n) f before = putWords before 0 (fileWords 0 (keptEntries f))
 freshLeft (Refused r) f before = before
 
 unfoldable pub skippedLeft : Salvaged → List ℕ → List ℕ → List ℕ
-skippedLeft (Counts n) f before = putWords before 0 (runWords (skippedRuns f))
+skippedLeft (Counts n) f before = putWords before 0 (pairWords (skippedRuns f))
 skippedLeft (Refused r) f before = before
 
 unfoldable pub keptLeft : Salvaged → List ℕ → List ℕ → List ℕ
-keptLeft (Counts n) f before = putWords before 0 (startWords 0 (keptStarts f))
+keptLeft (Counts n) f before = putWords before 0 (pairWords (keptPairs 0 (keptStarts f)))
 keptLeft (Refused r) f before = before

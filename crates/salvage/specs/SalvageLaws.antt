@@ -22,10 +22,10 @@ use Rattle.files.specs.EntryLaws.{all-three, linked-right, signed-any, fits-non
 use Rattle.files.specs.Bytes.{bytesOf}
 use Rattle.files.specs.BytesLaws.{bytes-small, length-bytes, run-bytes}
 use Rattle.files.specs.Files.{fileWords, fileOf, rightAt, linkedAt, reads, entriesFrom, entriesOf}
-use Rattle.files.specs.FileLaws.{AllFit, fit-long, reads-whole, read-fits, read-written, written-reads, written-entries, length-file, put-file, file-front}
+use Rattle.files.specs.FileLaws.{AllFit, fit-long, linked-next, reads-whole, read-fits, read-written, written-reads, written-entries, length-file, put-file, file-front}
 use Rattle.salvage.specs.declared.SalvageCounts.{SalvageCounts}
 use Rattle.salvage.specs.declared.Salvaged.the-variants.{Counts}
-use Rattle.salvage.specs.Salvage.{keptAt, keptFrom, keptStarts, entriesAt, keptEntries, freshFile, runBetween, runsBetween, skippedRuns, runWords, startWords, salvageCounts, roomFor, freshLeft, skippedLeft, keptLeft}
+use Rattle.salvage.specs.Salvage.{keptAt, keptFrom, keptStarts, entriesAt, keptEntries, freshFile, runBetween, runsBetween, skippedRuns, keptPairs, pairWords, salvageCounts, roomFor, freshLeft}
 use Rattle.salvage.specs.ScanLaws.{kept-apart, apart-room, kept-each-right, scan-keep, scan-end, run-one, run-none}
 
 -- ════ how much there is
@@ -105,61 +105,36 @@ module _ (f : List ℕ) (b : Bytes f) (n : SalvageCounts) (before : List ℕ) (r
       ap (drop (128 * length (keptEntries f))) fresh-in
       ∙ drop-at (freshFile f) (drop (128 * length (keptEntries f)) before) (128 * length (keptEntries f)) (length-file (keptEntries f) (fit-long (keptEntries f) (kept-fit f b)))
 
--- ════ the two lists, as words read back
-fit-pair : (a b : ℕ) (ws : List ℤ) → ((i : ℕ) → SFits w64 (getD ws i (pos 0))) → (i : ℕ) → SFits w64 (getD (signed a ∷ signed b ∷ ws) i (pos 0))
-fit-pair a b ws f = fits-cons (signed a) (signed b ∷ ws) (signed-any a) (fits-cons (signed b) ws (signed-any b) f)
+-- ════ a list of pairs in lent bytes: its words read back, and the bytes beyond them stay
+pairs-fit : (ps : List (ℕ × ℕ)) (i : ℕ) → SFits w64 (getD (pairWords ps) i (pos 0))
+unfolding pairWords
+pairs-fit [] = fits-none
+pairs-fit (p ∷ ps) =
+    fits-cons (signed (p .0)) (signed (p .1) ∷ pairWords ps) (signed-any (p .0)) (fits-cons (signed (p .1)) (pairWords ps) (signed-any (p .1)) (pairs-fit ps))
 
-runs-fit : (rs : List (ℕ × ℕ)) (i : ℕ) → SFits w64 (getD (runWords rs) i (pos 0))
-unfolding runWords
-runs-fit [] = fits-none
-runs-fit (r ∷ rs) = fit-pair (r .0) (r .1) (runWords rs) (runs-fit rs)
+pub length-pairs : (ps : List (ℕ × ℕ)) → length (pairWords ps) ≡ 2 * length ps
+unfolding pairWords
+length-pairs [] = refl
+length-pairs (p ∷ ps) = omega (arith, length-pairs ps)
 
-starts-fit : (new : ℕ) (ks : List ℕ) (i : ℕ) → SFits w64 (getD (startWords new ks) i (pos 0))
-unfolding startWords
-starts-fit new [] = fits-none
-starts-fit new (k ∷ ks) = fit-pair k new (startWords (new + 128) ks) (starts-fit (new + 128) ks)
+module _ (before : List ℕ) (ps : List (ℕ × ℕ)) (room : 16 * length ps ≤ length before) where
+  pub pairs-back : wordsAt (putWords before 0 (pairWords ps)) 0 (2 * length ps) ≡ pairWords ps
+  pairs-back =
+      let l = length-pairs ps in
+      ap (wordsAt (putWords before 0 (pairWords ps)) 0) (sym l) ∙ run-back before 0 (pairWords ps) (omega arith) (pairs-fit ps)
 
-pub length-runs : (rs : List (ℕ × ℕ)) → length (runWords rs) ≡ 2 * length rs
-unfolding runWords
-length-runs [] = refl
-length-runs (r ∷ rs) = omega (arith, length-runs rs)
+  pub pairs-beyond : drop (16 * length ps) (putWords before 0 (pairWords ps)) ≡ drop (16 * length ps) before
+  pairs-beyond =
+      let l = length-pairs ps in
+      let z : 0 + 8 * length (pairWords ps) ≡ 16 * length ps = omega arith in
+      let n : length (bytesOf (pairWords ps)) ≡ 16 * length ps = length-bytes (pairWords ps) ∙ omega arith in
+      ap (drop (16 * length ps)) (run-bytes before 0 (pairWords ps) (omega arith) ∙ ap (λ (k : ℕ). bytesOf (pairWords ps) ++ drop k before) z)
+      ∙ drop-at (bytesOf (pairWords ps)) (drop (16 * length ps) before) (16 * length ps) n
 
-length-starts : (new : ℕ) (ks : List ℕ) → length (startWords new ks) ≡ 2 * length ks
-unfolding startWords
-length-starts new [] = refl
-length-starts new (k ∷ ks) = omega (arith, length-starts (new + 128) ks)
-
--- lent bytes beyond the words that are written stay
-pub words-beyond : (before : List ℕ) (ws : List ℤ) → 8 * length ws ≤ length before → drop (8 * length ws) (putWords before 0 ws) ≡ drop (8 * length ws) before
-words-beyond before ws h =
-    let z : 0 + 8 * length ws ≡ 8 * length ws = omega arith in
-    ap (drop (8 * length ws)) (run-bytes before 0 ws (omega arith) ∙ ap (λ (k : ℕ). bytesOf ws ++ drop k before) z)
-    ∙ drop-at (bytesOf ws) (drop (8 * length ws) before) (8 * length ws) (length-bytes ws)
-
-module _ (f : List ℕ) (n : SalvageCounts) (before : List ℕ) where
-  pub skipped-list : 16 * length (skippedRuns f) ≤ length before → wordsAt (skippedLeft (Counts n) f before) 0 (2 * length (skippedRuns f)) ≡ runWords (skippedRuns f)
-  unfolding skippedLeft
-  skipped-list h =
-      let l = length-runs (skippedRuns f) in
-      ap (wordsAt (putWords before 0 (runWords (skippedRuns f))) 0) (sym l) ∙ run-back before 0 (runWords (skippedRuns f)) (omega arith) (runs-fit (skippedRuns f))
-
-  pub skipped-beyond : 16 * length (skippedRuns f) ≤ length before → drop (16 * length (skippedRuns f)) (skippedLeft (Counts n) f before) ≡ drop (16 * length (skippedRuns f)) before
-  unfolding skippedLeft
-  skipped-beyond h =
-      let k : 8 * length (runWords (skippedRuns f)) ≡ 16 * length (skippedRuns f) = omega (arith, length-runs (skippedRuns f)) in
-      rw k at (words-beyond before (runWords (skippedRuns f)) (omega arith))
-
-  pub kept-list : 16 * length (keptStarts f) ≤ length before → wordsAt (keptLeft (Counts n) f before) 0 (2 * length (keptStarts f)) ≡ startWords 0 (keptStarts f)
-  unfolding keptLeft
-  kept-list h =
-      let l = length-starts 0 (keptStarts f) in
-      ap (wordsAt (putWords before 0 (startWords 0 (keptStarts f))) 0) (sym l) ∙ run-back before 0 (startWords 0 (keptStarts f)) (omega arith) (starts-fit 0 (keptStarts f))
-
-  pub kept-beyond : 16 * length (keptStarts f) ≤ length before → drop (16 * length (keptStarts f)) (keptLeft (Counts n) f before) ≡ drop (16 * length (keptStarts f)) before
-  unfolding keptLeft
-  kept-beyond h =
-      let k : 8 * length (startWords 0 (keptStarts f)) ≡ 16 * length (keptStarts f) = omega (arith, length-starts 0 (keptStarts f)) in
-      rw k at (words-beyond before (startWords 0 (keptStarts f)) (omega arith))
+pub length-kept-pairs : (new : ℕ) (ks : List ℕ) → length (keptPairs new ks) ≡ length ks
+unfolding keptPairs
+length-kept-pairs new [] = refl
+length-kept-pairs new (k ∷ ks) = ap suc (length-kept-pairs (new + 128) ks)
 
 -- ════ an undamaged file
 -- n starts, end to end from byte `at` on
@@ -177,10 +152,7 @@ all-kept f at zero e g = scan-end f at (omega arith)
 all-kept f at (suc n) e g =
     let here : at + 128 * 0 ≡ at = omega arith in
     let first : linkedAt f at ≡ true = rw here at (g 0 (omega arith)) in
-    scan-keep f at (linked-kept f at (omega arith) first) ∙ ap (λ (l : List ℕ). at ∷ l) (all-kept f (at + 128) n (omega arith) (shifted f at n g))
-  where
-    shifted : (f : List ℕ) (at n : ℕ) → ((i : ℕ) → i < suc n → linkedAt f (at + 128 * i) ≡ true) → (i : ℕ) → i < n → linkedAt f (at + 128 + 128 * i) ≡ true
-    shifted f at n h i l = let q : at + 128 * suc i ≡ at + 128 + 128 * i = omega arith in rw q at (h (suc i) (omega arith))
+    scan-keep f at (linked-kept f at (omega arith) first) ∙ ap (λ (l : List ℕ). at ∷ l) (all-kept f (at + 128) n (omega arith) (linked-next f at n g))
 
 all-words : (f : List ℕ) (at n : ℕ) → entriesAt f (startsFrom at n) ≡ entriesFrom f at n
 unfolding entriesAt startsFrom entriesFrom

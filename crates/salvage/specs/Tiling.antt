@@ -67,9 +67,9 @@ unfolding timesSkipped
 skipped-append j [] s = omega arith
 skipped-append j (x ∷ r) s = omega (arith, skipped-append j r s)
 
-skipped-run : (j a b : ℕ) → a ≤ b → timesSkipped j (runBetween a b) ≡ timesWithin a b j
+skipped-run : (j a b : ℕ) → timesSkipped j (runBetween a b) ≡ timesWithin a b j
 unfolding timesSkipped
-skipped-run j a b h = go (decLt a b)
+skipped-run j a b = go (decLt a b)
   where
     none : Dec (j < a) → b ≤ a → timesWithin a b j ≡ 0
     none (yes p) l = within-low a b j p
@@ -81,7 +81,7 @@ skipped-run j a b h = go (decLt a b)
 
 runs-tile : (j from : ℕ) (ks : List ℕ) (end : ℕ) → Apart from ks end → timesKept j ks + timesSkipped j (runsBetween from ks end) ≡ timesWithin from end j
 unfolding timesKept runsBetween
-runs-tile j from [] end a = let e = skipped-run j from end a in omega arith
+runs-tile j from [] end a = let e = skipped-run j from end in let h : from ≤ end = a in omega arith
 runs-tile j from (k ∷ ks) end a =
     let room = apart-room (k + 128) ks end (a .1) in
     let h : from ≤ k = a .0 in
@@ -89,7 +89,7 @@ runs-tile j from (k ∷ ks) end a =
       arith,
       runs-tile j (k + 128) ks end (a .1),
       skipped-append j (runBetween from k) (runsBetween (k + 128) ks end),
-      skipped-run j from k h,
+      skipped-run j from k,
       within-split from k end j h (omega arith),
       within-split k (k + 128) end j (omega arith) (omega arith),
     )

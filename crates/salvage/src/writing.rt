@@ -11,7 +11,7 @@ ghost use Rattle.words.specs.Signed.{signed};
 ghost use Rattle.words.specs.Runs.{wordsAt, putWords};
 ghost use Rattle.files.specs.Entries.{entryWords};
 ghost use Rattle.files.specs.Files.{fileWords};
-ghost use Rattle.salvage.specs.Salvage.{keptStarts, keptEntries, skippedRuns, runBetween, runWords, startWords, salvageCounts, roomFor};
+ghost use Rattle.salvage.specs.Salvage.{keptStarts, keptEntries, skippedRuns, runBetween, keptPairs, pairWords, salvageCounts, roomFor};
 
 // The bytes of a pair of words in a list.
 pub const PAIR_BYTES: usize = 16;
@@ -37,7 +37,7 @@ pub fn list_pair(list: &mut [u8], i: usize, a: usize, b: usize)
 // Puts the skipped run between bytes a and b, if there is one, as the pair i of a list; gives the count of pairs after it.
 fn list_run(list: &mut [u8], i: usize, a: usize, b: usize) -> usize
     requires { ⌜ 16 * i + 16 * length (runBetween a b) ≤ length (now list) ⌝ }
-    ensures { λ r. ⌜ (r ≡ i + length (runBetween a b)) × (now (list .exit) ≡ putWords (now (list .entry)) (16 * i) (runWords (runBetween a b))) ⌝ }
+    ensures { λ r. ⌜ (r ≡ i + length (runBetween a b)) × (now (list .exit) ≡ putWords (now (list .entry)) (16 * i) (pairWords (runBetween a b))) ⌝ }
 {
     if a < b {
         list_pair(list, i, a, b - a);
@@ -51,8 +51,8 @@ fn list_run(list: &mut [u8], i: usize, a: usize, b: usize) -> usize
 pub fn write_salvaged(file: &[u8], fresh: &mut [u8], skipped: &mut [u8], kept: &mut [u8])
     requires { ⌜ roomFor (salvageCounts (now file)) (length (now fresh)) (length (now skipped)) (length (now kept)) ≡ true ⌝ }
     ensures { λ _. ⌜ (now (fresh .exit) ≡ putWords (now (fresh .entry)) 0 (fileWords 0 (keptEntries (now (file .entry)))))
-        × (now (skipped .exit) ≡ putWords (now (skipped .entry)) 0 (runWords (skippedRuns (now (file .entry)))))
-        × (now (kept .exit) ≡ putWords (now (kept .entry)) 0 (startWords 0 (keptStarts (now (file .entry))))) ⌝ }
+        × (now (skipped .exit) ≡ putWords (now (skipped .entry)) 0 (pairWords (skippedRuns (now (file .entry)))))
+        × (now (kept .exit) ≡ putWords (now (kept .entry)) 0 (pairWords (keptPairs 0 (keptStarts (now (file .entry)))))) ⌝ }
 {
     let mut runs: usize = 0;
     let mut entries: usize = 0;

@@ -6,7 +6,7 @@ use native.Mathlib.Nat.{add-zero}
 use native.Mathlib.Omega.{arith}
 use lib.ListN.{length}
 use Rattle.words.specs.Runs.{putWords}
-use Rattle.salvage.specs.Salvage.{runWords}
+use Rattle.salvage.specs.Salvage.{pairWords}
 use Rattle.salvage.specs.ScanLaws.{run-one, run-none}
 use borrow.Author.Needs.{needs}
 use Rattle.salvage.proofs.writing.list_run.Statement.{statement}
@@ -25,18 +25,18 @@ same-length : tie.Need-same-length
 same-length c = search needs
 
 returns : tie.Need-returns
-unfolding runWords
+unfolding pairWords
 returns c =
     let s = c .before .before .before .before .before .before in
     let t = sym (run-one (s .args .a) (s .args .b) (c .before .before .before .before .if1 .taken)) in
-    (ap (λ (l : List (ℕ × ℕ)). s .args .i + length l) t, c .before .before .list-pair .ensures ∙ ap (λ (l : List (ℕ × ℕ)). putWords (s .args .list .now) (16 * s .args .i) (runWords l)) t)
+    (ap (λ (l : List (ℕ × ℕ)). s .args .i + length l) t, c .before .before .list-pair .ensures ∙ ap (λ (l : List (ℕ × ℕ)). putWords (s .args .list .now) (16 * s .args .i) (pairWords l)) t)
 
 returns-2 : tie.Need-returns-2
-unfolding runWords putWords
+unfolding pairWords putWords
 returns-2 c =
     let s = c .before .before in
     let t = sym (run-none (s .args .a) (s .args .b) (c .if1 .left)) in
-    (sym (add-zero (s .args .i)) ∙ ap (λ (l : List (ℕ × ℕ)). s .args .i + length l) t, ap (λ (l : List (ℕ × ℕ)). putWords (s .args .list .now) (16 * s .args .i) (runWords l)) t)
+    (sym (add-zero (s .args .i)) ∙ ap (λ (l : List (ℕ × ℕ)). s .args .i + length l) t, ap (λ (l : List (ℕ × ℕ)). putWords (s .args .list .now) (16 * s .args .i) (pairWords l)) t)
 
 pub list-run-spec : {M : Type 1} → statement M
 list-run-spec = tie.close (tie.spec sub-list-pair list-pair-requires add-result same-length returns returns-2)
