@@ -1,4 +1,6 @@
 // Accepting a solution: document 01's tests 1 to 7 of a proposed pair (x, M) against the normal equations, in their order.
+#![tactic(auto)]
+
 mod inverse;
 mod judge;
 mod limits;

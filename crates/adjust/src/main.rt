@@ -1,5 +1,7 @@
 // Reads the lines of a survey from standard input, applies them, checks, and prints: document 01's "The night print". What is printed is settled by the
 // contracts of `night_print`; here bytes are read and written. Each chunk's messages are written before the next is read.
+#![tactic(auto)]
+
 ghost use Rattle.std.specs.Prelude.{◌≡◌, ◌+◌, ◌≤◌, length};
 ghost use Rattle.layout.specs.Bytes.{book_of};
 ghost use Rattle.layout.specs.Layout.{book_bytes};

@@ -1,4 +1,6 @@
 // The run of an input, chunk by chunk, and what its end prints.
+#![tactic(auto)]
+
 mod chunks;
 mod ending;
 

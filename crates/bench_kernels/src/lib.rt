@@ -1,4 +1,6 @@
 // Jobs that bench/ measures, each with a contract that settles its result. They are not part of the product.
+#![tactic(auto)]
+
 ghost use Rattle.std.specs.Prelude.{◌≡◌, ◌<◌};
 ghost use Rattle.network.specs.Units.{place_count};
 ghost use Rattle.network.specs.Places.{places_in};

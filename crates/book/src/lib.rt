@@ -1,4 +1,6 @@
 // The record book: opening, edits, undo.
+#![tactic(auto)]
+
 mod edits;
 mod history;
 mod refusals;

@@ -1,4 +1,6 @@
 // Document 01's cases that are proved, run through the calls that ship: a book opened on the stations of the night print, the case's edits, and a check with a sheet.
+#![tactic(auto)]
+
 ghost use Rattle.std.specs.Prelude.{◌≡◌, true, ◌+◌, ◌≤◌, ◌<◌, pos, length};
 ghost use Rattle.network.specs.Stations.{network_of};
 ghost use Rattle.book.specs.Book.{opened_book, sound};

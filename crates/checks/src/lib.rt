@@ -1,4 +1,6 @@
 // Checking a solution against a book: document 01's check, without a sheet and with one.
+#![tactic(auto)]
+
 ghost use Rattle.std.specs.Prelude.{◌≡◌, true, ◌≤◌, leb, length};
 ghost use Rattle.network.specs.Places.{places_length, places_in};
 ghost use Rattle.book.specs.Book.{sound};

@@ -1,4 +1,6 @@
 // Commands: a line of the input to what it asks. Document 01's "The night print".
+#![tactic(auto)]
+
 mod reading;
 
 use book::Call;

@@ -1,5 +1,7 @@
 // Check distances (document 02, request 1): slope distances that crews tape between marks, held against the sheet's coordinates. None enters a book, so none is
 // part of N, T or the degrees of freedom.
+#![tactic(auto)]
+
 mod answer;
 mod comparison;
 mod distance;

@@ -2,6 +2,8 @@
 //
 // `opening` has the call that opens a book, `edits` those that edit one, `checking` the calls that check, `proposing` the one that proposes,
 // `reading` those that read a book, `filing` those on files, `salvaging` the one on a damaged file.
+#![tactic(auto)]
+
 mod checking;
 mod edits;
 mod filing;

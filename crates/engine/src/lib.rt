@@ -2,6 +2,8 @@
 //
 // `candidate` works a pair out from N and u: the inverse (`inverse`), rounded to whole numbers (`rounding`), and the corrections (`solution`).
 // `work_out` has the check judge it; only an accepted pair is given.
+#![tactic(auto)]
+
 mod candidate;
 mod inverse;
 mod rounding;

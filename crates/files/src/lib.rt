@@ -1,6 +1,8 @@
 // Files: the bytes by which books are exchanged, entries of sixteen 64-bit words, end to end, each with a trailer that points back. Nothing here knows what a book is.
 //
 // `entries` has one entry's words, `reading` whole files, `force` the entry in force of a night file and a day file, `writing` one entry written.
+#![tactic(auto)]
+
 mod entries;
 mod force;
 mod reading;

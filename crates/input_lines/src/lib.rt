@@ -1,5 +1,7 @@
 // The run of an input, line by line: the station list and its opening, what a line asks, the edit that it makes, and its message. Document 01's
 // "The night print".
+#![tactic(auto)]
+
 mod editing;
 mod obeying;
 mod opening;

@@ -1,6 +1,8 @@
 // The layout of a book in bytes: the only crate that knows where its parts stand (docs/BOOK.md). The words of a record are those of crate network.
 //
 // `offsets` says where each part stands, `reading` has the book that bytes hold, `laid` the test of the layout, `writing` a book's words put into bytes, `patching` one edit in place.
+#![tactic(auto)]
+
 mod laid;
 mod offsets;
 mod patching;

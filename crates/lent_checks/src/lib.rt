@@ -1,4 +1,6 @@
 // Checks, check distances and proposals on bytes that hold a book, with x, M and the sheet in lent bytes: words of 8 bytes, little-endian.
+#![tactic(auto)]
+
 mod checking;
 mod distance;
 mod proposing;

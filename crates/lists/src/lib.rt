@@ -1,4 +1,6 @@
 // Lists of numbers compared, copied, and stored in one another.
+#![tactic(auto)]
+
 mod compare;
 mod copying;
 mod pasting;

@@ -1,5 +1,7 @@
 // Stations, records and their rules: document 01's "Units and stations" and "Records".
 
+#![tactic(auto)]
+
 mod as_words;
 mod constructors;
 mod opening;

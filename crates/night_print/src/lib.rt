@@ -1,4 +1,6 @@
 // Document 01's "The night print", all of it but for reading and writing: a run step by step, by what each read gave, and a whole text at once.
+#![tactic(auto)]
+
 mod closing;
 mod rooms;
 mod stepping;

@@ -1,4 +1,6 @@
 // The normal equations: document 01's N = AᵀPA and u = AᵀPl of the records, from scratch and kept under the exchange of one record.
+#![tactic(auto)]
+
 ghost use Rattle.std.specs.Prelude.{◌≡◌, ◌≤◌, length, replicate, pos};
 ghost use Rattle.network.specs.Units.{most_unknowns};
 ghost use Rattle.network.specs.Places.{places_length, places_in};

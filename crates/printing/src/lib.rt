@@ -1,4 +1,6 @@
 // What the program prints: message lines, the sheet, a check, and the engine's proposal. Document 01's "The night print".
+#![tactic(auto)]
+
 mod checking;
 mod messages;
 mod proposing;

@@ -1,4 +1,6 @@
 // What an accepted pair leaves of each observation: residuals, their variances, and the local and global tests.
+#![tactic(auto)]
+
 mod components;
 mod observations;
 mod variances;

@@ -1,6 +1,8 @@
 // Salvage of a damaged file: a scan forward that keeps what are entries, skips anything else, and says which bytes it kept and which it skipped.
 //
 // `scanning` has the scan, and what it counts; `writing` the same scan, and what it writes; `salvaging` the call.
+#![tactic(auto)]
+
 mod salvaging;
 mod scanning;
 mod writing;

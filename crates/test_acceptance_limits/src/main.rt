@@ -1,6 +1,8 @@
 // Prints the answer to a pair (x, M) at the limits of the tests: wrong lengths, chains that lack a component, numbers at a limit, one beyond it and at the
 // extremes of 64 bits. A line gives the case, then the answer's number and for 11 the unknown; document 01 decides what stands in `stdout`. Every book here is
 // by the rules, and N and u are those of its records.
+#![tactic(auto)]
+
 ghost use Rattle.std.specs.Prelude.{◌≡◌, true, ◌≤◌, length};
 ghost use Rattle.lists.specs.All.{all_below};
 ghost use Rattle.network.specs.Stations.{coordinates_fit};

@@ -1,5 +1,7 @@
 // Runs books against a plain ledger kept in this program: a list of standing edits, from which the records are rebuilt after every call. N and u are
 // compared with those worked out from scratch by `book::is_sound`, which also judges the journal. Prints how often each number was answered. Calls in rows of words go through `replay`.
+#![tactic(auto)]
+
 mod ledger;
 mod rows;
 mod samples;

@@ -1,6 +1,8 @@
 // Runs the cases of document 01's "Both sides of each line" that need no text, and the limits around them, through edits and check_sheet: first those that are proved, then the
 // others, and document 02's records that are checks only. A line names the case, then come the answers to its edits (of the others, the numbers of refused ones), the answer's number
 // (and the unknown of an 11) and, where it is accepted, the sheet's words with the lent ones beyond, which are -1.
+#![tactic(auto)]
+
 mod books;
 mod checks_only;
 mod nine_degrees;

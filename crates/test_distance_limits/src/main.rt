@@ -1,6 +1,8 @@
 // Prints the answer to check distances: at the limits of their values, one beyond them and at the extremes of 64 bits, at the ends of what agrees and one beyond those, and with pairs
 // (x, M) that the check refuses. Lines before them give what they are asked with: the words of the station list, the records (each weight is 100, none between two components), X and M.
 // A check distance is from, to, distance, instrument and target height, tolerance; then comes the answer. Document 02 decides what stands in `stdout`.
+#![tactic(auto)]
+
 mod books;
 mod shown;
 

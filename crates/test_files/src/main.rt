@@ -1,5 +1,7 @@
 // Writes a day file and a night file, reads them and parts of them, and asks for entries in force, which come back as parts of the two files; prints what came of it. The C calls cannot give a
 // part, so tests/host does not reach this.
+#![tactic(auto)]
+
 ghost use Rattle.std.specs.Prelude.{◌≡◌, length};
 
 use files::EntryFound;

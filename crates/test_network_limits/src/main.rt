@@ -1,6 +1,8 @@
 // Prints the refusal number at each limit of refusals 1 and 3 to 6: at it, one short of it and one beyond it, of both signs, and the extremes of 64 bits; then the weights of standard
 // deviations, about the largest and the smallest weight.
 // A line gives the case and then the number; documents 01 and 02 decide what stands in `stdout`.
+#![tactic(auto)]
+
 mod antennas;
 mod positions;
 

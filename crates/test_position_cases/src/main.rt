@@ -1,6 +1,8 @@
 // Document 02's request 5: positions, through edits and check_sheet. A chain may end at a station with one, also where no station is held; at a known station it is a check only; at one of
 // unknown height it adds 3 to D and the whole of its share to T; its local test takes off the station's variance alone. A line names the case, then comes what shown.rt says. The
 // expected words were worked out by a script from the documents' rules.
+#![tactic(auto)]
+
 mod books;
 mod shown;
 

@@ -1,4 +1,6 @@
 // Opens books on lent lists of stations and prints what came of it: the refusal and, of a book that opened, its stations and its number of unknowns.
+#![tactic(auto)]
+
 mod samples;
 mod shown;
 

@@ -1,5 +1,7 @@
 // The surveys of the source documents through the book, the engine and the check, beside the figures of an exact solver in whole numbers (tests/reference/solve.py) and those that
 // document 002 prints. Each survey's file says its unit and its weights; tests/reference/documents.py has the documents' tables and makes the numbers from them.
+#![tactic(auto)]
+
 mod baselines_002;
 mod baselines_002_one_held;
 mod baselines_003;

@@ -1,5 +1,7 @@
 // Prints one whole text from standard input at once, through the library function whose contract is document 01's print of a text. The program `adjust` takes the same text chunk by
 // chunk; the tests compare the two. specs/Document01.antt proves what is printed for document 01's own lines, which are this program's stdin.
+#![tactic(auto)]
+
 use night_print::Printing;
 
 // The longest text that is taken; what it may print.

@@ -1,4 +1,6 @@
 // Text: decimal numbers, fields and lines in bytes. Nothing here knows what a line means.
+#![tactic(auto)]
+
 mod fields;
 mod lines;
 mod numbers;

@@ -1,4 +1,6 @@
 // Weight matrices, by their six weights alone: document 01's "Records".
+#![tactic(auto)]
+
 mod adjugate;
 mod rules;
 
