@@ -20,7 +20,7 @@ COMMENT = re.compile(r"--[^\n]*")
 # words of the library that a lemma's name may join
 LIBRARY = set("length take drop set append map sum abs add mul sub le lt eq cond suc pos negsuc neg replicate reverse ext getD get_or".split())
 # spellings that would stand beside a variable or a word of the library
-STAYS = set()
+STAYS = {"not-true"}
 # Lemmas that the toolchain's script gave the new spelling of a definition already: they give it up first.
 GIVEN_UP = {n: n + "_lem" for n in "all_words by_rows entries_fit has_room in_list is_free is_tied last_line row_next same_entries share_u".split()}
 # two names that would fall together with another lemma's

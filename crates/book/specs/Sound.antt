@@ -54,9 +54,9 @@ pub record Undoes (net : Network) (at : ℕ → Record) (u : Reversal) (h : List
   pub real : is_empty (at u.place) && is_empty u.prior ≡ false
   pub rest : undoable net (changed at u.place u.prior) h ≡ true
 
-not_true : (b : Bool) → not b ≡ true → b ≡ false
-not_true true e = clash refl (sym e)
-not_true false e = refl
+not-true : (b : Bool) → not b ≡ true → b ≡ false
+not-true true e = clash refl (sym e)
+not-true false e = refl
 
 pub undoable-first : (net : Network) (at : ℕ → Record) (u : Reversal) (h : List Reversal) → undoable net at (u ∷ h) ≡ true → Undoes net at u h
 unfolding undoable
@@ -66,7 +66,7 @@ undoable-first net at u h e =
     record {
       inside = ltb-true _ _ (and_left (ltb u.place place_count) _ two);
       fits = and_right (ltb u.place place_count) _ two;
-      real = not_true _ (and_right (ltb u.place place_count && record_fits net u.prior) _ three);
+      real = not-true _ (and_right (ltb u.place place_count && record_fits net u.prior) _ three);
       rest = and_right (ltb u.place place_count && record_fits net u.prior && not (is_empty (at u.place) && is_empty u.prior)) _ e;
     }
 

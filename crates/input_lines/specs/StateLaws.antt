@@ -4,7 +4,7 @@ use Rattle.std.proofs.Math.Path.{refl, sym, ap}
 use Rattle.std.proofs.Common.{◌∙◌, arith, length-append, take_at, drop_at, drop-drop}
 use Rattle.std.proofs.Math.Bool.{true, false, cond, not}
 use mathlib.Core.List.{List, [], ◌++◌}
-use borrow.Author.Tests.{le-leb, lt-leb, eqb-true, not_true}
+use borrow.Author.Tests.{le-leb, lt-leb, eqb-true, not-true}
 use Rattle.std.proofs.Math.ListN.{length}
 use Rattle.std.proofs.lemmas.List.Edits.{sets}
 use Rattle.std.proofs.Math.Seq.{sets-eq, length-take-le}
@@ -169,7 +169,7 @@ module _ (s : State) (b : Book) (list x m : List ℤ) where
       u = and_left (unopened_phase s.phase) _ t
 
       no_station : is_station_line line ≡ false
-      no_station = not_true (is_station_line line) (and_right (unopened_phase s.phase) _ t)
+      no_station = not-true (is_station_line line) (and_right (unopened_phase s.phase) _ t)
 
       begin_open : run_of (opened_with s n) (book_of after) list x m ≡ before_line (run_of s b list x m) line
       unfolding before_line

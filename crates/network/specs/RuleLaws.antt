@@ -3,7 +3,7 @@ use Rattle.std.specs.Prelude.{ℕ, zero, suc, ◌<◌, ◌≤◌, ◌≡◌, ref
 use Rattle.std.proofs.Common.{zero-le, sym, ap, ◌∙◌, subst, inr, arith, lit≤}
 use Rattle.std.proofs.Math.Bool.{not}
 use Rattle.std.proofs.Math.Logic.{inl}
-use borrow.Author.Tests.{leb-true, eqb-true, eq-eqb, not_true}
+use borrow.Author.Tests.{leb-true, eqb-true, eq-eqb, not-true}
 use Rattle.std.proofs.Math.Dec.{lit<}
 use Rattle.std.specs.Int.Signed.{le_z}
 use Rattle.integers.specs.Tables.{Within, within-inside, within-tabulate}
@@ -105,7 +105,7 @@ module _ (count : ℕ) (from to : ℤ) (few : count ≤ 32) (e : ends_fit count 
 
   pub ends_apart : index_in from 32 ≡ index_in to 32 → ⊥
   ends_apart q =
-      eq_z_false from to (not_true (eq_z from to) ends_each.1.1.0)
+      eq_z_false from to (not-true (eq_z from to) ends_each.1.1.0)
       (index_number from 32 from_in_list ∙ ap (λ (k : ℕ). pos (suc k)) q ∙ sym (index_number to 32 to-in_list))
 
 -- they are in the list, and apart where the record joins two

@@ -4,7 +4,7 @@ use mathlib.Core.Path.{◌≡◌, sym, ap, ◌∙◌}
 use mathlib.Core.Bool.{Bool, true, false}
 use native.Mathlib.Omega.{arith}
 use borrow.Author.Rules.{rules}
-use borrow.Author.Tests.{not_true, not-false}
+use borrow.Author.Tests.{not-true, not-false}
 use Rattle.lists.specs.All.{all_below, all_none, all_more, all_fails, all_done}
 use Rattle.network.specs.Records.{record_at}
 use Rattle.network.specs.Places.{places_in}
@@ -38,7 +38,7 @@ record-fits-requires c κs = let g = c.before.before.before.requires in (g.1, g.
 returns : tie.Need-returns invariant-loop decreases-loop
 returns c =
     let t = c.before.before.before.before in
-    sym (all_fails _ (passes t.before) _ c.before.before.before.loop-test.true (told c.before false (not_true _ c.if1.true)))
+    sym (all_fails _ (passes t.before) _ c.before.before.before.loop-test.true (told c.before false (not-true _ c.if1.true)))
 
 add-p : tie.Need-overflow-add-p invariant-loop decreases-loop
 add-p c = search rules

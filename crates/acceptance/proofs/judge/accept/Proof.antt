@@ -4,7 +4,7 @@ use mathlib.Core.Path.{◌≡◌, sym, ap, ◌∙◌}
 use mathlib.Core.Bool.{Bool, true, false}
 use native.Mathlib.Omega.{arith}
 use borrow.Author.Rules.{rules}
-use borrow.Author.Tests.{not_true, not-false}
+use borrow.Author.Tests.{not-true, not-false}
 use Rattle.network.specs.Stations.{unknown_count}
 use Rattle.network.specs.Places.{places_in}
 use Rattle.network.specs.StationLaws.{number_small}
@@ -31,7 +31,7 @@ lengths-fit-requires c κs = rw c.number_of_lem.ensures c.before.before.requires
 
 returns : tie.Need-returns
 unfolding judge
-returns c = rw (one c.before false (not_true _ c.if1.true))
+returns c = rw (one c.before false (not-true _ c.if1.true))
 
 first-untied-requires : tie.Need-first-untied-requires
 first-untied-requires c κs = (c.before.before.before.before.requires.0, c.before.before.before.before.requires.1.ends)

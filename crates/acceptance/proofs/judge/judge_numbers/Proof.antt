@@ -2,7 +2,7 @@
 use mathlib.Core.Path.{◌≡◌, sym, ◌∙◌}
 use mathlib.Core.Bool.{Bool, true, false}
 use borrow.Author.Rules.{rules}
-use borrow.Author.Tests.{not_true, not-false}
+use borrow.Author.Tests.{not-true, not-false}
 use Rattle.acceptance.specs.Tests.{at, by_rows, corrections_small, inverse_small, defect_small, residual_small, refinement_small}
 use Rattle.acceptance.specs.Judge.{judge_numbers}
 use Rattle.acceptance.specs.JudgeLaws.{corrections_small_lem, inverse-small, residual-is, refinement-is, residual-sizes}
@@ -61,14 +61,14 @@ first-within-requires c κs = search rules
 
 returns : tie.Need-returns
 unfolding judge_numbers
-returns c = rw (three c.before false (not_true _ c.if1.true))
+returns c = rw (three c.before false (not-true _ c.if1.true))
 
 first-within-requires-2 : tie.Need-first-within-requires-2
 first-within-requires-2 c κs = search rules
 
 returns-2 : tie.Need-returns-2
 unfolding judge_numbers
-returns-2 c = rw (passed3 c.before.before, four c.before false (not_true _ c.if2.true))
+returns-2 c = rw (passed3 c.before.before, four c.before false (not-true _ c.if2.true))
 
 rows-near-requires : tie.Need-rows-near-requires
 rows-near-requires c κs =
@@ -78,7 +78,7 @@ rows-near-requires c κs =
 returns-3 : tie.Need-returns-3
 unfolding judge_numbers
 returns-3 c =
-    rw (passed3 c.before.before.before.before, passed4 c.before.before, five c.before false (not_true _ c.if3.true))
+    rw (passed3 c.before.before.before.before, passed4 c.before.before, five c.before false (not-true _ c.if3.true))
 
 normal-residual-requires : tie.Need-normal-residual-requires
 normal-residual-requires c κs =
@@ -101,7 +101,7 @@ returns-4 : tie.Need-returns-4
 unfolding judge_numbers
 returns-4 c =
     let d = c.before.before.before.before in
-    rw (passed3 d.before.before.before.before, passed4 d.before.before, five d.before true (not-false _ d.if3.false), six c.before false (not_true _ c.if4.true))
+    rw (passed3 d.before.before.before.before, passed4 d.before.before, five d.before true (not-false _ d.if3.false), six c.before false (not-true _ c.if4.true))
 
 refinements-within-requires : tie.Need-refinements-within-requires
 refinements-within-requires c κs =
@@ -127,7 +127,7 @@ returns-5 c =
       passed4 d.before.before,
       five d.before true (not-false _ d.if3.false),
       six e.before true (not-false _ e.if4.false),
-      seven c.before false (not_true _ c.if5.true),
+      seven c.before false (not-true _ c.if5.true),
     )
 
 returns-6 : tie.Need-returns-6

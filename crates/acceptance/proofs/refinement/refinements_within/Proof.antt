@@ -5,7 +5,7 @@ use mathlib.Core.Bool.{Bool, true, false}
 use native.Mathlib.Nat.{zero-mul}
 use native.Mathlib.Omega.{arith}
 use borrow.Author.Rules.{rules}
-use borrow.Author.Tests.{not_true, not-false}
+use borrow.Author.Tests.{not-true, not-false}
 use lib.Dec.{leb}
 use lib.IntN.{ℤ, nat_abs, ◌*ℤ◌}
 use mir.Syntax.{w64}
@@ -55,7 +55,7 @@ within-requires c κs = search rules
 returns : tie.Need-returns invariant-loop decreases-loop
 returns c =
     let s = c.before.before.before.before.before.before in
-    sym (all_fails _ (passes s) _ c.before.before.before.before.loop-test.true (told c.before false (not_true _ c.if1.true)))
+    sym (all_fails _ (passes s) _ c.before.before.before.before.loop-test.true (told c.before false (not-true _ c.if1.true)))
 
 add_row : tie.Need-overflow-add-row invariant-loop decreases-loop
 add_row c =

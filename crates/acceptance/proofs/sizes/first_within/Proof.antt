@@ -4,7 +4,7 @@ use mathlib.Core.Path.{◌≡◌, sym, ap, ◌∙◌}
 use mathlib.Core.Bool.{Bool, true}
 use native.Mathlib.Omega.{arith}
 use borrow.Author.Rules.{rules}
-use borrow.Author.Tests.{not_true, not-false}
+use borrow.Author.Tests.{not-true, not-false}
 use lib.Dec.{leb}
 use lib.IntN.{ℤ, nat_abs}
 use mir.Syntax.{w64}
@@ -42,7 +42,7 @@ within-requires c κs = search rules
 returns : tie.Need-returns invariant-loop decreases-loop
 returns c =
     let t = c.before.before.before.before in
-    sym (all_fails _ (passes t.before) _ c.before.before.before.loop-test.true (sym (is c.before) ∙ not_true _ c.if1.true))
+    sym (all_fails _ (passes t.before) _ c.before.before.before.loop-test.true (sym (is c.before) ∙ not-true _ c.if1.true))
 
 add-k : tie.Need-overflow-add-k invariant-loop decreases-loop
 add-k c = search rules

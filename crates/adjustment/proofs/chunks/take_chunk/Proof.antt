@@ -5,7 +5,7 @@ use Prim.Native.Nat.{ℕ, ◌-◌, ◌≤◌}
 use mathlib.Core.Path.{ap, ◌∙◌}
 use native.Mathlib.Omega.{arith}
 use native.Mathlib.Nat.{sub-zero}
-use borrow.Author.Tests.{not_true, not-false}
+use borrow.Author.Tests.{not-true, not-false}
 use lib.ListN.{length, take}
 use Rattle.text.specs.Lines.{holds}
 use Rattle.text.specs.LineLaws.{fed_fits, fed_on}
@@ -74,7 +74,7 @@ returns : tie.Need-returns invariant-loop decreases-loop
 returns c =
     let f = c.before.before.before.before.before in
     let h = (loop-of f).loop.invariant in
-    let q = middle-part h f.feed.ensures (not_true _ c.before.if1.true) in
+    let q = middle-part h f.feed.ensures (not-true _ c.before.if1.true) in
     rw c.taken-to.ensures (q.0, (h.ready, q.1, omega (arith, h.lines, h.at-fits), omega (arith, h.p_fits, h.at-fits)))
 
 sub-obey : tie.Need-overflow-sub-obey invariant-loop decreases-loop

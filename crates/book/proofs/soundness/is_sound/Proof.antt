@@ -3,7 +3,7 @@ use mathlib.Core.Path.{◌≡◌, sym, ap, ◌∙◌}
 use mathlib.Core.List.{List}
 use lib.ListN.{length}
 use borrow.Author.Rules.{rules}
-use borrow.Author.Tests.{not_true, not-false}
+use borrow.Author.Tests.{not-true, not-false}
 use Rattle.network.specs.declared.Place.{Place}
 use Rattle.normals.specs.Formulas.{normals_of}
 use Rattle.normals.specs.Same.{same_normals}
@@ -36,7 +36,7 @@ rules-fit-requires : tie.Need-rules-fit-requires
 rules-fit-requires c κs = search rules
 
 returns : tie.Need-returns
-returns c = let t = c.before in rules_fail (book t) (rules t ∙ not_true _ c.if1.true)
+returns c = let t = c.before in rules_fail (book t) (rules t ∙ not-true _ c.if1.true)
 
 slice-aggregate-are-of : tie.Need-slice-aggregate-are-of
 slice-aggregate-are-of c = search rules

@@ -6,7 +6,7 @@ use Rattle.network.specs.Places.{places_in}
 use mathlib.Core.Bool.{true}
 use native.Mathlib.Omega.{arith}
 use borrow.Author.Rules.{rules}
-use borrow.Author.Tests.{not_true, not-false}
+use borrow.Author.Tests.{not-true, not-false}
 use Rattle.lists.specs.All.{all_below, all_none, all_more, all_done, all_fails}
 use Rattle.network.specs.Records.{record_at}
 use Rattle.network.specs.Rules.{record_fits}
@@ -33,7 +33,7 @@ returns c =
     let b = c.before in
     let t = b.before.before.before in
     let s = t.before in
-    sym (all_fails 256 (λ p. record_fits s.args.net (record_at (places_in s.args.places.now) p)) t.loop.p (omega arith) (sym (b.record-fits.ensures ∙ ap (λ (r : Record). record_fits s.args.net r) b.before.record-at.ensures) ∙ not_true _ c.if1.true))
+    sym (all_fails 256 (λ p. record_fits s.args.net (record_at (places_in s.args.places.now) p)) t.loop.p (omega arith) (sym (b.record-fits.ensures ∙ ap (λ (r : Record). record_fits s.args.net r) b.before.record-at.ensures) ∙ not-true _ c.if1.true))
 
 add-p : tie.Need-overflow-add-p invariant-loop decreases-loop
 add-p c = search rules

@@ -3,7 +3,7 @@ use mathlib.Core.Path.{◌≡◌, sym, ◌∙◌}
 use mathlib.Core.Bool.{true}
 use mathlib.Core.List.{List}
 use borrow.Author.Rules.{rules}
-use borrow.Author.Tests.{not_true, not-false}
+use borrow.Author.Tests.{not-true, not-false}
 use Rattle.network.specs.Stations.{network_fits}
 use Rattle.network.specs.Places.{places_in}
 use Rattle.network.specs.declared.Place.{Place}
@@ -40,7 +40,7 @@ network-fits-requires : tie.Need-network-fits-requires
 network-fits-requires c κs = search rules
 
 returns : tie.Need-returns
-returns c = let s = c.before.before in network_fails s.args.network (places s) s.args.journal (sym c.before.network-fits.ensures ∙ not_true _ c.if1.true)
+returns c = let s = c.before.before in network_fails s.args.network (places s) s.args.journal (sym c.before.network-fits.ensures ∙ not-true _ c.if1.true)
 
 coordinates-of-requires : tie.Need-coordinates-of-requires
 coordinates-of-requires c κs = search rules
@@ -54,7 +54,7 @@ returns-2 : tie.Need-returns-2
 returns-2 c =
     let e = c.before.before.before.before.before in
     let s = start e in
-    records_fail s.args.network (places s) s.args.journal (network-true e) (sym c.before.records-fit.ensures ∙ not_true _ c.if2.true)
+    records_fail s.args.network (places s) s.args.journal (network-true e) (sym c.before.records-fit.ensures ∙ not-true _ c.if2.true)
 
 journal-fits-requires : tie.Need-journal-fits-requires
 journal-fits-requires c κs = search rules
@@ -63,7 +63,7 @@ returns-3 : tie.Need-returns-3
 returns-3 c =
     let e = c.before.before in
     let s = start (first e) in
-    journal_fails s.args.network (places s) s.args.journal (network-true (first e)) (records-true e) (sym c.before.journal-fits.ensures ∙ not_true _ c.if3.true)
+    journal_fails s.args.network (places s) s.args.journal (network-true (first e)) (records-true e) (sym c.before.journal-fits.ensures ∙ not-true _ c.if3.true)
 
 can-undo-requires : tie.Need-can-undo-requires
 can-undo-requires c κs =

@@ -5,7 +5,7 @@ use mathlib.Core.Bool.{Bool, true, ◌||◌}
 use mathlib.Core.List.{List}
 use native.Mathlib.Omega.{arith}
 use borrow.Author.Rules.{rules}
-use borrow.Author.Tests.{not_true, not-false}
+use borrow.Author.Tests.{not-true, not-false}
 use lib.Dec.{ltb}
 use lib.ListN.{get_or}
 use Rattle.lists.specs.All.{all_below, all_none, all_more, all_done, all_fails}
@@ -41,7 +41,7 @@ returns c =
     let b = c.before in
     let t = b.before.before.before in
     let j = t.before.before.args.journal in
-    sym (all_fails journal_size (test j.entries j.next j.count) t.loop.slot (omega arith) (sym b.slot-fits.ensures ∙ not_true _ c.if1.true))
+    sym (all_fails journal_size (test j.entries j.next j.count) t.loop.slot (omega arith) (sym b.slot-fits.ensures ∙ not-true _ c.if1.true))
 
 add-slot : tie.Need-overflow-add-slot invariant-loop decreases-loop
 add-slot c = search rules

@@ -3,7 +3,7 @@ use Prim.Native.Nat.{ℕ, ◌-◌, ◌<◌}
 use mathlib.Core.Path.{◌≡◌, refl, sym, ap, ◌∙◌}
 use native.Mathlib.Omega.{arith}
 use borrow.Author.Rules.{rules}
-use borrow.Author.Tests.{not_true, not-false}
+use borrow.Author.Tests.{not-true, not-false}
 use lib.ListN.{length, get_or, set, length-set}
 use Rattle.book.specs.Journal.{journal_size, slot_before, free, entries_before}
 use Rattle.book.specs.Empties.{undoable_by}
@@ -60,7 +60,7 @@ returns-2 c =
     let s = t.before.before in
     sym
     (t.loop.invariant.2
-    ∙ undo_fails s.args.net s.args.journal.entries t.loop.state t.loop.slot t.loop.left (some b.before) _ (entry_is b) (sym c.before.restores.ensures ∙ not_true _ c.if2.true))
+    ∙ undo_fails s.args.net s.args.journal.entries t.loop.state t.loop.slot t.loop.left (some b.before) _ (entry_is b) (sym c.before.restores.ensures ∙ not-true _ c.if2.true))
 
 is-empty-requires : tie.Need-is-empty-requires invariant-loop decreases-loop
 is-empty-requires c κs = search rules

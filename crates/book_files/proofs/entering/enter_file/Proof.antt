@@ -1,7 +1,7 @@
 -- The refusals in their order, and then the entries. Assumes nothing.
 use mathlib.Core.Path.{sym, ◌∙◌}
 use native.Mathlib.Omega.{arith}
-use borrow.Author.Tests.{not_true, not-false}
+use borrow.Author.Tests.{not-true, not-false}
 use Rattle.book_files.specs.EnteringLaws.{entered-room, entered_unread, entered_done, left_stays, left_done}
 use borrow.Author.Rules.{rules}
 use Rattle.book_files.proofs.entering.enter_file.Statement.{statement}
@@ -16,7 +16,7 @@ holds-file-requires c κs = search rules
 returns-2 : tie.Need-returns-2
 returns-2 c =
     let same = left_stays _ _ _ _ in
-    (entered_unread _ _ (omega arith) (sym c.before.holds-file.ensures ∙ not_true _ c.if2.true), same.0, same.1)
+    (entered_unread _ _ (omega arith) (sym c.before.holds-file.ensures ∙ not-true _ c.if2.true), same.0, same.1)
 
 enter-entries-requires : tie.Need-enter-entries-requires
 enter-entries-requires c κs =

@@ -1,7 +1,7 @@
 -- The refusals in their order, and then the entries. Assumes nothing.
 use mathlib.Core.Path.{sym, ◌∙◌}
 use native.Mathlib.Omega.{arith}
-use borrow.Author.Tests.{not_true, not-false}
+use borrow.Author.Tests.{not-true, not-false}
 use Rattle.book_files.specs.WritingLaws.{written-room, written-carried, written-length, file_left_lem, file_stays}
 use borrow.Author.Rules.{rules}
 use Rattle.book_files.proofs.writing.write_file.Statement.{statement}
@@ -19,7 +19,7 @@ all-carried-requires c κs = search rules
 returns-2 : tie.Need-returns-2
 returns-2 c =
     let e = c.before.before in
-    (written-carried _ _ e.before.count_entries.ensures.0 (omega arith) (sym c.before.all-carried.ensures ∙ not_true _ c.if2.true), file_stays _ _ _)
+    (written-carried _ _ e.before.count_entries.ensures.0 (omega arith) (sym c.before.all-carried.ensures ∙ not-true _ c.if2.true), file_stays _ _ _)
 
 write-entries-requires : tie.Need-write-entries-requires
 write-entries-requires c κs =

@@ -4,7 +4,7 @@ use mathlib.Core.Path.{◌≡◌, sym, ◌∙◌}
 use mathlib.Core.Bool.{true}
 use native.Mathlib.Omega.{arith}
 use borrow.Author.Rules.{rules}
-use borrow.Author.Tests.{not_true, not-false}
+use borrow.Author.Tests.{not-true, not-false}
 use Rattle.lists.specs.All.{all_below, all_none, all_more}
 use Rattle.network.specs.Stations.{unknown}
 use Rattle.chains.specs.Scans.{first-is, first_failing-none}
@@ -44,7 +44,7 @@ held-or-in-requires c κs = search rules
 returns : tie.Need-returns invariant-loop decreases-loop
 returns c =
     let t = c.before.before.before.before in
-    sym (first-is _ t.loop.q 96 (omega arith) t.loop.invariant.1 (sym (is c.before) ∙ not_true _ c.if1.true))
+    sym (first-is _ t.loop.q 96 (omega arith) t.loop.invariant.1 (sym (is c.before) ∙ not-true _ c.if1.true))
 
 add-q : tie.Need-overflow-add-q invariant-loop decreases-loop
 add-q c = search rules

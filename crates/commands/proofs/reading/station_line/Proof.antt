@@ -4,7 +4,7 @@ use Rattle.commands.specs.CommandLaws.{station-none, station-one, station_wrong,
 use Rattle.words.specs.Signed.{eq_z}
 use lib.IntN.{ℤ, pos}
 use Prim.Native.Nat.{suc}
-use borrow.Author.Tests.{not_true, not-false}
+use borrow.Author.Tests.{not-true, not-false}
 use mir.Facts.{to_z-of_z}
 use mir.Syntax.{w64}
 use borrow.Author.Rules.{rules}
@@ -59,7 +59,7 @@ returns-3 c =
     let r = v.before.before in
     let f = r.before.before in
     let e = f.before.before in
-    station_wrong _ _ e.before.field-end.ensures _ e.if1.false _ f.before.field-end2.ensures f.if2.false _ r.number_of_lem.ensures (turn_is _ _ _ _ v.v.given.1 (turn i) ∙ not_true _ c.if3.true)
+    station_wrong _ _ e.before.field-end.ensures _ e.if1.false _ f.before.field-end2.ensures f.if2.false _ r.number_of_lem.ensures (turn_is _ _ _ _ v.v.given.1 (turn i) ∙ not-true _ c.if3.true)
 
 add-kind-at : tie.Need-overflow-add-kind-at
 add-kind-at c = search rules

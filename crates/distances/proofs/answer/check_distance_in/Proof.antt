@@ -1,6 +1,6 @@
 -- The stations read are those of the book that the bytes hold. Each test told decides its case of `unlessRefused`; an accepted pair is in the ranges that the comparison asks for.
 use borrow.Author.Rules.{rules}
-use borrow.Author.Tests.{not_true, not-false}
+use borrow.Author.Tests.{not-true, not-false}
 use mathlib.Core.Path.{◌≡◌, sym, ap, ap₂, ◌∙◌}
 use mathlib.Core.Bool.{Bool, true}
 use lib.IntN.{ℤ}
@@ -49,7 +49,7 @@ returns : tie.Need-returns
 unfolding agreement
 returns c =
     let s = start c.before in
-    ends_refused (lentBook s).network s.args.d _ (sym (ends_is c.before) ∙ not_true _ c.if1.true)
+    ends_refused (lentBook s).network s.args.d _ (sym (ends_is c.before) ∙ not-true _ c.if1.true)
 
 in-range-requires : tie.Need-in-range-requires
 in-range-requires c κs = search rules
@@ -59,7 +59,7 @@ unfolding agreement
 returns-2 c =
     let e = c.before.before in
     let s = start e.before in
-    range_refused (lentBook s).network s.args.d (ends_fit_lem e) _ (sym c.before.in-range.ensures ∙ not_true _ c.if2.true)
+    range_refused (lentBook s).network s.args.d (ends_fit_lem e) _ (sym c.before.in-range.ensures ∙ not-true _ c.if2.true)
 
 check-in-requires : tie.Need-check-in-requires
 check-in-requires c κs = search rules

@@ -3,7 +3,7 @@ use mir.Syntax.{w64}
 use mir.Facts.{to_z-of_z}
 use mathlib.Core.Path.{◌≡◌, sym, ◌∙◌}
 use mathlib.Core.Bool.{true}
-use borrow.Author.Tests.{not_true, not-false}
+use borrow.Author.Tests.{not-true, not-false}
 use Rattle.layout.specs.Bytes.{bytes_fit}
 use Rattle.dombrelat.proofs.Answers.{check_unfit, check_fit}
 use borrow.Author.Rules.{rules, sfits_of}
@@ -17,7 +17,7 @@ holds-book-requires : tie.Need-holds-book-requires
 holds-book-requires c κs = search rules
 
 returns : tie.Need-returns
-returns c = check_unfit _ _ _ (sym c.before.holds-book.ensures ∙ not_true _ c.if1.true)
+returns c = check_unfit _ _ _ (sym c.before.holds-book.ensures ∙ not-true _ c.if1.true)
 
 check-lent-requires : tie.Need-check-lent-requires
 check-lent-requires c κs = fit c

@@ -3,7 +3,7 @@ use mir.Syntax.{w64}
 use mir.Facts.{to_z-of_z}
 use mathlib.Core.Path.{◌≡◌, sym, ap, ◌∙◌}
 use mathlib.Core.Bool.{true}
-use borrow.Author.Tests.{not_true, not-false}
+use borrow.Author.Tests.{not-true, not-false}
 use Rattle.lists.specs.Stored.{stored}
 use Rattle.distances.specs.declared.CheckDistance.{CheckDistance}
 use Rattle.layout.specs.Bytes.{bytes_fit}
@@ -20,7 +20,7 @@ holds-book-requires : tie.Need-holds-book-requires
 holds-book-requires c κs = search rules
 
 returns : tie.Need-returns
-returns c = distance_unfit _ _ _ _ (sym c.before.holds-book.ensures ∙ not_true _ c.if1.true)
+returns c = distance_unfit _ _ _ _ (sym c.before.holds-book.ensures ∙ not-true _ c.if1.true)
 
 check-distance-lent-requires : tie.Need-check-distance-lent-requires
 check-distance-lent-requires c κs = fit c

@@ -1,7 +1,7 @@
 -- Bytes that hold no book are answered with 25; else the answer is that of the book that they hold, as the call's word. Assumes nothing.
 use mathlib.Core.Path.{◌≡◌, sym, ◌∙◌}
 use mathlib.Core.Bool.{true}
-use borrow.Author.Tests.{not_true, not-false}
+use borrow.Author.Tests.{not-true, not-false}
 use mir.Syntax.{w64}
 use mir.Facts.{to_z-of_z}
 use Rattle.layout.specs.Bytes.{bytes_fit}
@@ -17,7 +17,7 @@ holds-book-requires : tie.Need-holds-book-requires
 holds-book-requires c κs = search rules
 
 returns : tie.Need-returns
-returns c = sheet_unfit _ _ _ _ (sym c.before.holds-book.ensures ∙ not_true _ c.if1.true)
+returns c = sheet_unfit _ _ _ _ (sym c.before.holds-book.ensures ∙ not-true _ c.if1.true)
 
 check-sheet-lent-requires : tie.Need-check-sheet-lent-requires
 check-sheet-lent-requires c κs = fit c.before

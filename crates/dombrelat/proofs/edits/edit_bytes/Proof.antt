@@ -6,7 +6,7 @@ use lib.IntN.{pos}
 use mir.Syntax.{w64}
 use mir.Facts.{to_z-of_z}
 use mir.Val.{SFits}
-use borrow.Author.Tests.{not_true, not-false}
+use borrow.Author.Tests.{not-true, not-false}
 use Rattle.network.specs.Records.{record_at}
 use Rattle.book.specs.CallLaws.{call_small}
 use Rattle.book.specs.Book.{outcome}
@@ -27,7 +27,7 @@ returns : tie.Need-returns
 returns c =
     let f = c.before in
     let s = f.before.before.before.args.book.now in
-    let e = through_unfit s _ (sym f.holds-book.ensures ∙ not_true _ c.if1.true) in
+    let e = through_unfit s _ (sym f.holds-book.ensures ∙ not-true _ c.if1.true) in
     (ap (λ (r : Returned). r.answer) e, ap (λ (r : Returned). r.bytes) e)
 
 apply-requires : tie.Need-apply-requires

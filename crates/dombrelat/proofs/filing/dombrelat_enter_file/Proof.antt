@@ -2,7 +2,7 @@
 use mathlib.Core.Path.{sym, ◌∙◌}
 use mir.Syntax.{w64}
 use mir.Facts.{to_z-of_z}
-use borrow.Author.Tests.{not_true, not-false}
+use borrow.Author.Tests.{not-true, not-false}
 use Rattle.dombrelat.proofs.Filings.{enter_unfit, enter_fit}
 use borrow.Author.Rules.{rules, sfits_of}
 use Rattle.dombrelat.proofs.filing.dombrelat_enter_file.Statement.{statement}
@@ -15,7 +15,7 @@ same_length : tie.Need-same-length
 same_length c = search rules
 
 returns : tie.Need-returns
-returns c = enter_unfit _ _ _ (sym c.before.holds-book.ensures ∙ not_true _ c.if1.true)
+returns c = enter_unfit _ _ _ (sym c.before.holds-book.ensures ∙ not-true _ c.if1.true)
 
 enter-file-requires : tie.Need-enter-file-requires
 enter-file-requires c κs = let l = c.before.before in sym l.before.holds-book.ensures ∙ not-false _ l.if1.false

@@ -3,7 +3,7 @@ use native.Mathlib.Omega.{arith}
 use mathlib.Core.Path.{◌≡◌, sym, ap, ◌∙◌}
 use mir.Syntax.{w64}
 use mir.Facts.{to_z-of_z}
-use borrow.Author.Tests.{not_true, not-false}
+use borrow.Author.Tests.{not-true, not-false}
 use Rattle.network.specs.Rules.{in_list}
 use Rattle.files.specs.Force.{in_force}
 use Rattle.dombrelat.proofs.Filings.{found_place, found-room, found-given}
@@ -19,7 +19,7 @@ place_is : (c : tie.After-between) → c.between.result ≡ in_list 256 c.before
 place_is c = c.between.ensures ∙ ap (in_list 256) (to_z-of_z {w = w64} c.before.before.before.before.ranges.place)
 
 returns : tie.Need-returns
-returns c = found_place _ _ _ _ (sym (place_is c.before) ∙ not_true _ c.if1.true)
+returns c = found_place _ _ _ _ (sym (place_is c.before) ∙ not-true _ c.if1.true)
 
 returns-2 : tie.Need-returns-2
 returns-2 c = let l = c.before in found-room _ _ _ _ (sym (place_is l.before) ∙ not-false _ l.if1.false) c.if2.true

@@ -2,7 +2,7 @@
 use mathlib.Core.Path.{sym, ◌∙◌}
 use mir.Syntax.{w64}
 use mir.Facts.{to_z-of_z}
-use borrow.Author.Tests.{not_true, not-false}
+use borrow.Author.Tests.{not-true, not-false}
 use Rattle.layout.specs.CodecLaws.{fits-room}
 use Rattle.dombrelat.specs.FileCallLaws.{length-small}
 use Rattle.dombrelat.proofs.Filings.{write_unfit, write_fit}
@@ -14,7 +14,7 @@ holds-book-requires : tie.Need-holds-book-requires
 holds-book-requires c κs = search rules
 
 returns : tie.Need-returns
-returns c = write_unfit _ _ (sym c.before.holds-book.ensures ∙ not_true _ c.if1.true)
+returns c = write_unfit _ _ (sym c.before.holds-book.ensures ∙ not-true _ c.if1.true)
 
 write-file-requires : tie.Need-write-file-requires
 write-file-requires c κs = let l = c.before in fits-room _ (sym l.before.holds-book.ensures ∙ not-false _ l.if1.false)

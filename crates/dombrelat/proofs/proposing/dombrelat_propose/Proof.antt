@@ -1,7 +1,7 @@
 -- Bytes that hold no book are answered with 25; else the answer is that of the book that they hold, as the call's word. Assumes nothing.
 use mathlib.Core.Path.{◌≡◌, refl, sym, ◌∙◌}
 use mathlib.Core.Bool.{true}
-use borrow.Author.Tests.{not_true, not-false}
+use borrow.Author.Tests.{not-true, not-false}
 use mir.Syntax.{w64}
 use mir.Facts.{to_z-of_z}
 use Rattle.words.specs.Bools.{clash}
@@ -18,7 +18,7 @@ holds-book-requires : tie.Need-holds-book-requires
 holds-book-requires c κs = search rules
 
 returns : tie.Need-returns
-returns c = record { unfit = λ e. (refl, refl, refl); fit = λ e. clash e (sym c.before.holds-book.ensures ∙ not_true _ c.if1.true) }
+returns c = record { unfit = λ e. (refl, refl, refl); fit = λ e. clash e (sym c.before.holds-book.ensures ∙ not-true _ c.if1.true) }
 
 propose-lent-requires : tie.Need-propose-lent-requires
 propose-lent-requires c κs = fit c.before.before

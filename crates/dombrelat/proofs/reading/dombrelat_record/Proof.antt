@@ -1,7 +1,7 @@
 -- By the two tests: no book (`record-unfit`), no such place (`record-beyond`); else the words of the record there, as `give` ensures (`record-fit`). Assumes nothing.
 use mathlib.Core.Path.{◌≡◌, refl, sym, ap, ◌∙◌}
 use mathlib.Core.Bool.{true}
-use borrow.Author.Tests.{not_true, not-false}
+use borrow.Author.Tests.{not-true, not-false}
 use mir.Syntax.{w64}
 use mir.Facts.{to_z-of_z}
 use Rattle.layout.specs.Bytes.{bytes_fit}
@@ -23,7 +23,7 @@ holds-book-requires : tie.Need-holds-book-requires
 holds-book-requires c κs = search rules
 
 returns : tie.Need-returns
-returns c = both _ _ _ _ (record_unfit _ _ _ (sym c.before.holds-book.ensures ∙ not_true _ c.if1.true)) (refl, refl)
+returns c = both _ _ _ _ (record_unfit _ _ _ (sym c.before.holds-book.ensures ∙ not-true _ c.if1.true)) (refl, refl)
 
 index-in-requires : tie.Need-index-in-requires
 index-in-requires c κs = search rules

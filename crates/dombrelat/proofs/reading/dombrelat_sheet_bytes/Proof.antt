@@ -3,7 +3,7 @@ use Prim.Native.Nat.{◌≤◌}
 use native.Mathlib.Omega.{arith}
 use mathlib.Core.Path.{◌≡◌, sym, ◌∙◌}
 use mathlib.Core.Bool.{true}
-use borrow.Author.Tests.{not_true, not-false}
+use borrow.Author.Tests.{not-true, not-false}
 use mir.Syntax.{w64}
 use mir.Facts.{to_z-of_z}
 use Rattle.network.specs.RuleLaws.{network_few}
@@ -28,7 +28,7 @@ holds-book-requires : tie.Need-holds-book-requires
 holds-book-requires c κs = search rules
 
 returns : tie.Need-returns
-returns c = sheet_bytes_unfit _ (sym c.before.holds-book.ensures ∙ not_true _ c.if1.true)
+returns c = sheet_bytes_unfit _ (sym c.before.holds-book.ensures ∙ not-true _ c.if1.true)
 
 room-in-requires : tie.Need-room-in-requires
 room-in-requires c κs = fit c

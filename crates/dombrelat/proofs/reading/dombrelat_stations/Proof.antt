@@ -3,7 +3,7 @@ use Prim.Native.Nat.{◌≤◌}
 use native.Mathlib.Omega.{arith}
 use mathlib.Core.Path.{◌≡◌, refl, sym, ◌∙◌}
 use mathlib.Core.Bool.{true}
-use borrow.Author.Tests.{not_true, not-false}
+use borrow.Author.Tests.{not-true, not-false}
 use mir.Syntax.{w64}
 use mir.Facts.{to_z-of_z}
 use Rattle.layout.specs.Bytes.{bytes_fit}
@@ -23,7 +23,7 @@ holds-book-requires : tie.Need-holds-book-requires
 holds-book-requires c κs = search rules
 
 returns : tie.Need-returns
-returns c = both _ _ _ _ (stations_unfit _ _ (sym c.before.holds-book.ensures ∙ not_true _ c.if1.true)) (refl, refl)
+returns c = both _ _ _ _ (stations_unfit _ _ (sym c.before.holds-book.ensures ∙ not-true _ c.if1.true)) (refl, refl)
 
 network-in-requires : tie.Need-network-in-requires
 network-in-requires c κs = fits-room _ (fit c)

@@ -2,7 +2,7 @@
 use native.Mathlib.Omega.{arith}
 use mathlib.Core.Path.{◌≡◌, sym, ◌∙◌}
 use mathlib.Core.Bool.{true}
-use borrow.Author.Tests.{not_true, not-false}
+use borrow.Author.Tests.{not-true, not-false}
 use mir.Syntax.{w64}
 use mir.Facts.{to_z-of_z}
 use Rattle.layout.specs.Bytes.{bytes_fit}
@@ -20,7 +20,7 @@ holds-book-requires : tie.Need-holds-book-requires
 holds-book-requires c κs = search rules
 
 returns : tie.Need-returns
-returns c = unknowns_unfit _ (sym c.before.holds-book.ensures ∙ not_true _ c.if1.true)
+returns c = unknowns_unfit _ (sym c.before.holds-book.ensures ∙ not-true _ c.if1.true)
 
 network-in-requires : tie.Need-network-in-requires
 network-in-requires c κs = fits-room _ (fit c)

@@ -1,7 +1,7 @@
 -- `find`: the refusals in their order, and then the latest entry. Assumes nothing.
 use Rattle.std.proofs.Common.{◌≡◌, ◌&&◌, ℤ, pos, sym, ap, ◌∙◌, to_z-of_z, w64, rules}
 use lib.Signed.{le_z}
-use borrow.Author.Tests.{not_true, not-false}
+use borrow.Author.Tests.{not-true, not-false}
 use Rattle.files.specs.Files.{reads}
 use Rattle.files.specs.Force.{force_in}
 use Rattle.files.proofs.Tests.{both}
@@ -19,7 +19,7 @@ between-requires : tie.Need-between-requires
 between-requires c κs = search rules
 
 returns : tie.Need-returns
-returns c = place_no_lem _ _ _ (sym (place_is c.before) ∙ not_true _ c.if1.true)
+returns c = place_no_lem _ _ _ (sym (place_is c.before) ∙ not-true _ c.if1.true)
 
 holds-file-requires : tie.Need-holds-file-requires
 holds-file-requires c κs = search rules
@@ -30,7 +30,7 @@ holds-file-requires-2 c κs = search rules
 returns-2 : tie.Need-returns-2
 returns-2 c =
     let e = c.before.before.before in
-    reads_no _ _ _ (sym (place_is e.before) ∙ not-false _ e.if1.false) (sym (read-are c.before) ∙ not_true _ c.if2.true)
+    reads_no _ _ _ (sym (place_is e.before) ∙ not-false _ e.if1.false) (sym (read-are c.before) ∙ not-true _ c.if2.true)
 
 latest-of-two-requires : tie.Need-latest-of-two-requires
 latest-of-two-requires c κs = search rules

@@ -1,6 +1,6 @@
 -- `holds_file` walks back: the entries not yet passed are linked exactly where the file reads. Assumes nothing.
 use Rattle.std.proofs.Common.{◌≡◌, ◌/◌, ◌%◌, ◌≤◌, length, sym, ◌∙◌, arith, rules}
-use borrow.Author.Tests.{not_true, not-false}
+use borrow.Author.Tests.{not-true, not-false}
 use Rattle.files.specs.Files.{linked_to, reads}
 use Rattle.files.proofs.Tests.{reads_odd, reads-even, none_left}
 use Rattle.files.proofs.Loops.{linked_turn, linked_no}
@@ -28,7 +28,7 @@ linked-at-requires c κs = search rules
 returns-2 : tie.Need-returns-2 invariant-loop decreases-loop
 returns-2 c =
     let a = c.before.before.before in
-    linked_no _ a.loop.end (omega arith) a.loop.invariant.1 a.loop.invariant.2 (sym c.before.linked-at.ensures ∙ not_true _ c.if2.true)
+    linked_no _ a.loop.end (omega arith) a.loop.invariant.1 a.loop.invariant.2 (sym c.before.linked-at.ensures ∙ not-true _ c.if2.true)
 
 loop-less : tie.Need-loop-smaller invariant-loop decreases-loop
 loop-less c = search rules

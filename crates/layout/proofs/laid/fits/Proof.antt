@@ -1,7 +1,7 @@
 -- `fits` judges bytes: the layout, then the book's rules on the parts that were read, which are those of the book that the bytes hold, then N and u. Assumes nothing.
 use mathlib.Core.Path.{◌≡◌, sym, ◌∙◌}
 use borrow.Author.Rules.{rules}
-use borrow.Author.Tests.{not_true, not-false}
+use borrow.Author.Tests.{not-true, not-false}
 use Rattle.normals.specs.Formulas.{normals_of}
 use Rattle.normals.specs.Same.{same_normals}
 use Rattle.book.specs.declared.Book.{Book}
@@ -37,7 +37,7 @@ laid-out-requires : tie.Need-laid-out-requires
 laid-out-requires c κs = search rules
 
 returns : tie.Need-returns
-returns c = judged_odd c.before.before.before.args.s.now (sym c.before.laid_out.ensures ∙ not_true _ c.if1.true)
+returns c = judged_odd c.before.before.before.args.s.now (sym c.before.laid_out.ensures ∙ not-true _ c.if1.true)
 
 network-in-requires : tie.Need-network-in-requires
 network-in-requires c κs = search rules
@@ -55,7 +55,7 @@ returns-2 : tie.Need-returns-2
 returns-2 c =
     let t = c.before in
     let e = laid t in
-    judged (start t).args.s.now _ (start t).requires (sym e.before.laid_out.ensures ∙ not-false _ e.if1.left) (rules_fail (book t) (rules t ∙ not_true _ c.if2.true))
+    judged (start t).args.s.now _ (start t).requires (sym e.before.laid_out.ensures ∙ not-false _ e.if1.left) (rules_fail (book t) (rules t ∙ not-true _ c.if2.true))
 
 slice-aggregate-normals-fit : tie.Need-slice-aggregate-normals-fit
 slice-aggregate-normals-fit c = search rules

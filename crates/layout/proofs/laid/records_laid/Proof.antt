@@ -3,7 +3,7 @@ use Prim.Native.Nat.{ℕ, ◌+◌, ◌*◌, ◌-◌, ◌≤◌}
 use mathlib.Core.Path.{◌≡◌, sym, ◌∙◌}
 use mathlib.Core.Bool.{Bool, true}
 use native.Mathlib.Omega.{arith}
-use borrow.Author.Tests.{not_true, not-false}
+use borrow.Author.Tests.{not-true, not-false}
 use Rattle.lists.specs.All.{all_below, all_none, all_more, all_done, all_fails}
 use Rattle.network.specs.RecordWords.{record_length}
 use Rattle.layout.specs.Laid.{record_laid}
@@ -41,7 +41,7 @@ returns : tie.Need-returns invariant-loop decreases-loop
 returns c =
     let i = c.before.before in
     let s = i.before.before.before in
-    sym (all_fails s.args.n (test s) i.before.loop.p i.loop-test.true (sym c.before.record-laid.ensures ∙ not_true _ c.if1.true))
+    sym (all_fails s.args.n (test s) i.before.loop.p i.loop-test.true (sym c.before.record-laid.ensures ∙ not-true _ c.if1.true))
 
 add-p : tie.Need-overflow-add-p invariant-loop decreases-loop
 add-p c = search rules

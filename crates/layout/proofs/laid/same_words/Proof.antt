@@ -5,7 +5,7 @@ use mathlib.Core.Bool.{true}
 use mathlib.Core.List.{List}
 use native.Mathlib.Omega.{arith}
 use borrow.Author.Rules.{rules}
-use borrow.Author.Tests.{not_true, not-false}
+use borrow.Author.Tests.{not-true, not-false}
 use lib.ListN.{length, get_or}
 use lib.IntN.{ℤ, pos}
 use mir.Syntax.{w64}
@@ -64,7 +64,7 @@ returns : tie.Need-returns invariant-loop decreases-loop
 returns c =
     let t = c.before in
     let s = start t in
-    sym (same_not (here s) s.args.w.now (length s.args.w.now) (turn t).loop.i (omega arith) (sym (compared t) ∙ not_true _ c.if1.true))
+    sym (same_not (here s) s.args.w.now (length s.args.w.now) (turn t).loop.i (omega arith) (sym (compared t) ∙ not-true _ c.if1.true))
 
 add-i : tie.Need-overflow-add-i invariant-loop decreases-loop
 add-i c = search rules

@@ -3,7 +3,7 @@ use Prim.Native.Nat.{◌+◌, ◌*◌, ◌-◌, ◌≤◌}
 use mathlib.Core.Path.{◌≡◌, refl, sym, ◌∙◌}
 use mathlib.Core.Bool.{true}
 use native.Mathlib.Omega.{arith}
-use borrow.Author.Tests.{not_true, not-false}
+use borrow.Author.Tests.{not-true, not-false}
 use Rattle.lists.specs.All.{all_below, all_none, all_more, all_done, all_fails}
 use Rattle.lists.specs.Same.{same_long}
 use Rattle.layout.specs.Laid.{station_laid}
@@ -82,7 +82,7 @@ returns : tie.Need-returns invariant-loop decreases-loop
 returns c =
     let i = c.before.before.before.before.before.before.before in
     let s = start i in
-    sym (all_fails 32 (station_laid (words_of s.args.s.now)) i.before.loop.k (omega arith) (sym (tested c.before) ∙ not_true _ c.if1.true))
+    sym (all_fails 32 (station_laid (words_of s.args.s.now)) i.before.loop.k (omega arith) (sym (tested c.before) ∙ not-true _ c.if1.true))
 
 add-k : tie.Need-overflow-add-k invariant-loop decreases-loop
 add-k c = search rules

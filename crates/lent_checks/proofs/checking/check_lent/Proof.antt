@@ -6,7 +6,7 @@ use mathlib.Core.List.{List}
 use native.Mathlib.Nat.{sub-zero}
 use native.Mathlib.Omega.{arith}
 use borrow.Author.Rules.{rules}
-use borrow.Author.Tests.{not_true, not-false}
+use borrow.Author.Tests.{not-true, not-false}
 use lib.ListN.{length, take}
 use lib.IntN.{ℤ}
 use Rattle.acceptance.specs.Judge.{answer_number, answer_unknown}
@@ -33,7 +33,7 @@ returns : tie.Need-returns
 returns c =
     let s = c.before.before.before.before.before in
     let book = s.args.book.now in
-    (lent_unfit (book_of book) (fits-sound book s.requires) s.args.x.now s.args.m.now true (sym c.before.sizes-fit.ensures ∙ not_true _ c.if1.true), omega arith)
+    (lent_unfit (book_of book) (fits-sound book s.requires) s.args.x.now s.args.m.now true (sym c.before.sizes-fit.ensures ∙ not-true _ c.if1.true), omega arith)
 
 corrections-in-requires : tie.Need-corrections-in-requires
 corrections-in-requires c κs = (few c).0

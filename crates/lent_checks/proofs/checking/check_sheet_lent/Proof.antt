@@ -4,7 +4,7 @@ use Prim.Native.Nat.{◌+◌, ◌*◌, ◌≤◌}
 use mathlib.Core.Bool.{true, false}
 use native.Mathlib.Omega.{arith}
 use borrow.Author.Rules.{rules}
-use borrow.Author.Tests.{not_true, not-false}
+use borrow.Author.Tests.{not-true, not-false}
 use Rattle.acceptance.specs.Judge.{answer_number, answer_unknown}
 use Rattle.acceptance.specs.declared.Answer.{Answer}
 use Rattle.layout.specs.Bytes.{book_of}
@@ -25,7 +25,7 @@ returns c =
     let s = c.before.before.before.before.before.before in
     let book = s.args.book.now in
     let b = book_of book in
-    ((lent_unfit b (fits-sound book s.requires) s.args.x.now s.args.m.now (sheet_fits b s.args.out.now) (sym c.before.sizes-fit.ensures ∙ not_true _ c.if1.true), omega arith), refl)
+    ((lent_unfit b (fits-sound book s.requires) s.args.x.now s.args.m.now (sheet_fits b s.args.out.now) (sym c.before.sizes-fit.ensures ∙ not-true _ c.if1.true), omega arith), refl)
 
 room-in-requires : tie.Need-room-in-requires
 room-in-requires c κs = search rules
@@ -39,7 +39,7 @@ returns-2 c =
     let s = c.before.before.before.before.before.before.before.before.before in
     let b = book_of s.args.book.now in
     let o = s.args.out.now in
-    let none : sheet_fits b o ≡ false = sym (sheet_test b o _ _ c.before.before.room_in.ensures c.before.room-fits.ensures) ∙ not_true _ c.if2.true in
+    let none : sheet_fits b o ≡ false = sym (sheet_test b o _ _ c.before.before.room_in.ensures c.before.room-fits.ensures) ∙ not-true _ c.if2.true in
     ((lent_roomless b s.args.x.now s.args.m.now (sheet_fits b o) none, omega arith), refl)
 
 sheet-lent-requires : tie.Need-sheet-lent-requires

@@ -6,7 +6,7 @@ use mathlib.Core.List.{List}
 use native.Mathlib.Nat.{sub-zero}
 use native.Mathlib.Omega.{arith}
 use borrow.Author.Rules.{rules}
-use borrow.Author.Tests.{not_true, not-false}
+use borrow.Author.Tests.{not-true, not-false}
 use lib.ListN.{length, take}
 use lib.IntN.{ℤ}
 use Rattle.layout.specs.Bytes.{book_of}
@@ -64,7 +64,7 @@ returns c =
     let book = s.args.book.now in
     small s _
     (c.check-distance-in.ensures
-    ∙ read_none (book_of book) (fits-sound book s.requires) s.args.x.now s.args.m.now s.args.d (sym t.before.sizes-fit.ensures ∙ not_true _ t.if1.true))
+    ∙ read_none (book_of book) (fits-sound book s.requires) s.args.x.now s.args.m.now s.args.d (sym t.before.sizes-fit.ensures ∙ not-true _ t.if1.true))
 
 corrections-in-requires : tie.Need-corrections-in-requires
 corrections-in-requires c κs = (few c).0

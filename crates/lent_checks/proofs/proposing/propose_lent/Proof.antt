@@ -3,7 +3,7 @@ use Prim.Native.Nat.{◌-◌, ◌≤◌}
 use mathlib.Core.Path.{◌≡◌, sym, ap, ◌∙◌}
 use mathlib.Core.Bool.{true}
 use native.Mathlib.Omega.{arith}
-use borrow.Author.Tests.{not_true, not-false}
+use borrow.Author.Tests.{not-true, not-false}
 use mir.Syntax.{w64}
 use mir.Facts.{to_z-of_z}
 use Rattle.network.specs.Stations.{unknown_count}
@@ -44,7 +44,7 @@ same-length-2 : tie.Need-same-length-2
 same-length-2 c = search rules
 
 returns : tie.Need-returns
-returns c = offers_none _ _ _ _ (is c.before.before.before.before) (sym c.before.lengths-fit.ensures ∙ not_true _ c.if1.true)
+returns c = offers_none _ _ _ _ (is c.before.before.before.before) (sym c.before.lengths-fit.ensures ∙ not-true _ c.if1.true)
 
 propose-words-requires : tie.Need-propose-words-requires
 propose-words-requires c κs = let e = c.before.before in (e.before.before.before.before.before.before.before.before.before.before.requires, few e.before.before.before.before, fit e)

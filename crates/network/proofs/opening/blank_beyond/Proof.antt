@@ -1,6 +1,6 @@
 -- The loop's invariant: the stations passed pass the test (`all_below`). The first that fails settles it (`all-fails`); after the last, `all_done`. Assumes nothing.
 use borrow.Author.Rules.{rules}
-use borrow.Author.Tests.{not_true, not-false}
+use borrow.Author.Tests.{not-true, not-false}
 use native.Mathlib.Omega.{arith}
 use Prim.Native.Nat.{ℕ, ◌-◌, ◌≤◌}
 use mathlib.Core.Path.{◌≡◌, sym, ◌∙◌}
@@ -45,7 +45,7 @@ returns c =
     let b = c.before in
     let t = b.before.before.before in
     let net = t.before.before.args.net in
-    sym (all_fails 32 (test net.count net.stations) t.loop.s (omega arith) (sym (told b) ∙ not_true _ c.if1.true))
+    sym (all_fails 32 (test net.count net.stations) t.loop.s (omega arith) (sym (told b) ∙ not-true _ c.if1.true))
 
 add-s : tie.Need-overflow-add-s invariant-loop decreases-loop
 add-s c = search rules

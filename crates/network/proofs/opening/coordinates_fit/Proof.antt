@@ -1,6 +1,6 @@
 -- The loop's invariant: the coordinates passed, each read back from its bits, are in range (`all_below`). The first that fails settles it (`all-fails`). Assumes nothing.
 use borrow.Author.Rules.{rules, sfits_of}
-use borrow.Author.Tests.{not_true, not-false}
+use borrow.Author.Tests.{not-true, not-false}
 use native.Mathlib.Omega.{arith}
 use Prim.Native.Nat.{ℕ, ◌-◌, ◌≤◌}
 use mathlib.Core.Path.{◌≡◌, sym, ap, ◌∙◌}
@@ -51,7 +51,7 @@ unfolding coordinates_fit
 returns c =
     let b = c.before in
     let t = b.before.before.before.before in
-    sym (all_fails 96 (test t.before.args.t1) t.loop.q (omega arith) (sym (told b) ∙ not_true _ c.if1.true))
+    sym (all_fails 96 (test t.before.args.t1) t.loop.q (omega arith) (sym (told b) ∙ not-true _ c.if1.true))
 
 add-q : tie.Need-overflow-add-q invariant-loop decreases-loop
 add-q c = search rules

@@ -1,6 +1,6 @@
 -- The loop's invariant: the stations passed have kinds, each number read back from its bits (`all_below`). The first that fails settles it (`all-fails`). Assumes nothing.
 use borrow.Author.Rules.{rules, sfits_of}
-use borrow.Author.Tests.{not_true, not-false}
+use borrow.Author.Tests.{not-true, not-false}
 use native.Mathlib.Omega.{arith}
 use Prim.Native.Nat.{ℕ, ◌-◌, ◌*◌, ◌/◌, ◌≤◌}
 use mathlib.Core.Path.{◌≡◌, sym, ap, ◌∙◌}
@@ -46,7 +46,7 @@ unfolding kinds_fit
 returns c =
     let b = c.before in
     let t = b.before.before.before in
-    sym (all_fails _ (test t.before.args.list.now) t.loop.s (let h = t.loop.invariant.0 in omega arith) (sym (told b) ∙ not_true _ c.if1.true))
+    sym (all_fails _ (test t.before.args.list.now) t.loop.s (let h = t.loop.invariant.0 in omega arith) (sym (told b) ∙ not-true _ c.if1.true))
 
 add-s : tie.Need-overflow-add-s invariant-loop decreases-loop
 add-s c = search rules

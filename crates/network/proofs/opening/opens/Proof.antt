@@ -1,6 +1,6 @@
 -- Test by test in the order of the definition: the first that fails settles it; the last two are of the network that `network_of` gives. Assumes nothing.
 use borrow.Author.Rules.{rules}
-use borrow.Author.Tests.{eq-eqb, ne_eqb, not_true, not-false}
+use borrow.Author.Tests.{eq-eqb, ne_eqb, not-true, not-false}
 use Prim.Native.Nat.{◌/◌, ◌%◌}
 use mathlib.Core.Path.{◌≡◌, sym, ap, ap₂, ◌∙◌}
 use mathlib.Core.Bool.{true, ◌&&◌}
@@ -26,14 +26,14 @@ count-fits-requires c κs = search rules
 
 returns-2 : tie.Need-returns-2
 unfolding opens whole_stations
-returns-2 c = rw (whole c.before.before, sym c.before.count-fits.ensures ∙ not_true _ c.if2.true)
+returns-2 c = rw (whole c.before.before, sym c.before.count-fits.ensures ∙ not-true _ c.if2.true)
 
 kinds-fit-requires : tie.Need-kinds-fit-requires
 kinds-fit-requires c κs = search rules
 
 returns-3 : tie.Need-returns-3
 unfolding opens whole_stations
-returns-3 c = rw (whole c.before.before.before.before, counted c.before.before, sym c.before.kinds-fit.ensures ∙ not_true _ c.if3.true)
+returns-3 c = rw (whole c.before.before.before.before, counted c.before.before, sym c.before.kinds-fit.ensures ∙ not-true _ c.if3.true)
 
 network-of-requires : tie.Need-network-of-requires
 network-of-requires c κs = search rules

@@ -1,6 +1,6 @@
 -- By whether the record acts: if not, 0; else the numbers are small, so the product and both differences fit (`difference`). Assumes nothing.
 use borrow.Author.Rules.{rules}
-use borrow.Author.Tests.{not_true, not-false}
+use borrow.Author.Tests.{not-true, not-false}
 use mathlib.Core.Path.{refl}
 use Prim.Native.Nat.{◌+◌, ◌*◌}
 use lib.ListN.{get_or}
@@ -52,7 +52,7 @@ sub-result-2 c =
     fit (search code_bounds depth 8) tt
 
 returns : tie.Need-returns
-returns c = rw (not_true c.before.args.acts c.if1.true) refl
+returns c = rw (not-true c.before.args.acts c.if1.true) refl
 
 returns-2 : tie.Need-returns-2
 unfolding misclosure_at

@@ -1,6 +1,6 @@
 -- Test by test, the lowest number first; ends in the list and values in range give what the later tests ask (`judged-observed`). Assumes nothing.
 use borrow.Author.Rules.{rules}
-use borrow.Author.Tests.{not_true, not-false}
+use borrow.Author.Tests.{not-true, not-false}
 use mathlib.Core.Path.{◌≡◌, sym, ◌∙◌}
 use mathlib.Core.Bool.{true}
 use Rattle.network.specs.Rules.{record_ends_fit, in_range, record_matrix_fits, record_no_over}
@@ -22,21 +22,21 @@ record-ends-fit-requires c κs = search rules
 
 returns : tie.Need-returns
 unfolding record_no_over
-returns c = rw (sym c.before.record-ends-fit.ensures ∙ not_true _ c.if1.true)
+returns c = rw (sym c.before.record-ends-fit.ensures ∙ not-true _ c.if1.true)
 
 in-range-requires : tie.Need-in-range-requires
 in-range-requires c κs = search rules
 
 returns-2 : tie.Need-returns-2
 unfolding record_no_over
-returns-2 c = rw (ends c.before.before, sym c.before.in-range.ensures ∙ not_true _ c.if2.true)
+returns-2 c = rw (ends c.before.before, sym c.before.in-range.ensures ∙ not-true _ c.if2.true)
 
 record-matrix-fits-requires : tie.Need-record-matrix-fits-requires
 record-matrix-fits-requires c κs = range c
 
 returns-3 : tie.Need-returns-3
 unfolding record_no_over
-returns-3 c = rw (ends c.before.before.before.before, range c.before.before, sym c.before.record-matrix-fits.ensures ∙ not_true _ c.if3.true)
+returns-3 c = rw (ends c.before.before.before.before, range c.before.before, sym c.before.record-matrix-fits.ensures ∙ not-true _ c.if3.true)
 
 misclosure-fits-requires : tie.Need-misclosure-fits-requires
 misclosure-fits-requires c κs =
@@ -45,7 +45,7 @@ misclosure-fits-requires c κs =
 
 returns-4 : tie.Need-returns-4
 unfolding record_no_over
-returns-4 c = rw (ends c.before.before.before.before.before.before, range c.before.before.before.before, matrix c.before.before, sym c.before.misclosure-fits.ensures ∙ not_true _ c.if4.true)
+returns-4 c = rw (ends c.before.before.before.before.before.before, range c.before.before.before.before, matrix c.before.before, sym c.before.misclosure-fits.ensures ∙ not-true _ c.if4.true)
 
 returns-5 : tie.Need-returns-5
 unfolding record_no_over

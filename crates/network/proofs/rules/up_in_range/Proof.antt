@@ -1,6 +1,6 @@
 -- Each number is read back from its bits, so each test is that of the definition; those passed give what the reduction asks. Assumes nothing.
 use borrow.Author.Rules.{rules, sfits_of}
-use borrow.Author.Tests.{not_true, not-false, leb-true}
+use borrow.Author.Tests.{not-true, not-false, leb-true}
 use mathlib.Core.Path.{◌≡◌, sym, ap, ap₂, ◌∙◌}
 use mathlib.Core.Bool.{Bool, true, ◌&&◌}
 use mathlib.Core.List.{[], ◌∷◌}
@@ -42,7 +42,7 @@ measured-is c =
 
 returns : tie.Need-returns
 unfolding up_in_range
-returns c = ap (λ (t : Bool). t && observed_fits (reduced_up (start c.before).args.b)) (sym (not_true _ c.if1.true) ∙ measured-is c.before)
+returns c = ap (λ (t : Bool). t && observed_fits (reduced_up (start c.before).args.b)) (sym (not-true _ c.if1.true) ∙ measured-is c.before)
 
 passed : (c : tie.Else1) → measured (start c.before).args.b ≡ true
 passed c = sym (measured-is c.before) ∙ not-false _ c.if1.false

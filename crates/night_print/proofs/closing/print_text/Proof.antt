@@ -1,6 +1,6 @@
 -- Too little room writes nothing; else the rooms made here are as long as `print_all` asks. Assumes nothing.
 use borrow.Author.Rules.{rules}
-use borrow.Author.Tests.{not_true, not-false, leb-true}
+use borrow.Author.Tests.{not-true, not-false, leb-true}
 use mathlib.Core.Path.{refl, sym, ◌∙◌}
 use native.Mathlib.Omega.{arith}
 use Rattle.night_print.specs.Texts.{Printed}
@@ -16,7 +16,7 @@ has-room-requires c κs = search rules
 
 returns : tie.Need-returns
 unfolding Printed
-returns c = (sym c.before.has_room.ensures ∙ not_true _ c.if1.true, refl)
+returns c = (sym c.before.has_room.ensures ∙ not-true _ c.if1.true, refl)
 
 line-room-requires : tie.Need-line-room-requires
 line-room-requires c κs = search rules

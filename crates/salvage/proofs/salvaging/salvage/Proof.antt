@@ -1,6 +1,6 @@
 -- It counts, tests the room, and writes. Assumes nothing.
 use mathlib.Core.Path.{◌∙◌}
-use borrow.Author.Tests.{not_true, not-false}
+use borrow.Author.Tests.{not-true, not-false}
 use Rattle.salvage.proofs.Room.{room-is, gives-no_room, gives_all}
 use borrow.Author.Rules.{rules}
 use Rattle.salvage.proofs.salvaging.salvage.Statement.{statement}
@@ -15,7 +15,7 @@ room-for-requires c κs = search rules
 returns : tie.Need-returns
 returns c =
     let t = c.before in
-    gives-no_room _ _ _ _ t.before.salvage-counts.ensures t.room_for.ensures (not_true _ c.if1.true)
+    gives-no_room _ _ _ _ t.before.salvage-counts.ensures t.room_for.ensures (not-true _ c.if1.true)
 
 write-salvaged-requires : tie.Need-write-salvaged-requires
 write-salvaged-requires c κs =

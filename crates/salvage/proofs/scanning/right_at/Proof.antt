@@ -1,7 +1,7 @@
 -- A first word that is no kind tells that there is no entry; any other asks for all sixteen. Assumes nothing.
 use mathlib.Core.Path.{ap, ◌∙◌}
 use mathlib.Core.Bool.{◌&&◌}
-use borrow.Author.Tests.{not_true}
+use borrow.Author.Tests.{not-true}
 use lib.IntN.{pos}
 use lib.Signed.{le_z}
 use mir.Syntax.{w64}
@@ -23,7 +23,7 @@ returns : tie.Need-returns
 returns c =
     let w = c.before.before in
     let k = to_z-of_z {w = w64} {z = w.word_at.result} (sfits_of w.word_at.type-inv) ∙ w.word_at.ensures in
-    wrong_at w.before.before.args.file.now w.before.before.args.at (c.before.between.ensures ∙ (λ i. le_z (pos 1) (k i) && le_z (k i) (pos 3))) (not_true _ c.if1.true)
+    wrong_at w.before.before.args.file.now w.before.before.args.at (c.before.between.ensures ∙ (λ i. le_z (pos 1) (k i) && le_z (k i) (pos 3))) (not-true _ c.if1.true)
 
 entry-words-requires : tie.Need-entry-words-requires
 entry-words-requires c κs = search rules

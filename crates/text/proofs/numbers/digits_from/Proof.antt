@@ -1,7 +1,7 @@
 -- The invariant: the digits from here, after the value so far, say what all of them say; the value is at most the cut. A byte that is no digit ends it (`digits-wrong`). Assumes nothing.
 use Rattle.text.specs.Digits.{cut_to, digits_after, digits_of, digit_bounds, digits_more, digits_wrong, digits_end, digits-none, digits-start}
 use Rattle.text.specs.Numbers.{is_digit}
-use borrow.Author.Tests.{not_true, not-false}
+use borrow.Author.Tests.{not-true, not-false}
 use lib.ListN.{length, drop, get_or}
 use native.Mathlib.Omega.{arith}
 use Prim.Native.Nat.{◌≤◌, ◌-◌}
@@ -36,7 +36,7 @@ returns-2 : tie.Need-returns-2 invariant-loop decreases-loop
 returns-2 c =
     let d = c.before in
     let a = d.before.before.before in
-    digits_wrong _ _ _ d.before.before.loop-test.true (sym d.is_digit.ensures ∙ not_true _ c.if2.true) ∙ a.loop.invariant.0
+    digits_wrong _ _ _ d.before.before.loop-test.true (sym d.is_digit.ensures ∙ not-true _ c.if2.true) ∙ a.loop.invariant.0
 
 grow-requires : tie.Need-grow-requires invariant-loop decreases-loop
 grow-requires c κs = digit_bounds _ (a_digit c)
