@@ -11,7 +11,7 @@ mod sizes;
 pub use judge::{accept, number, unknown};
 
 // Why a check refuses: the test that fails. specs/Judge gives document 01's number and value of each case.
-#[derive(Drop)]
+#[derive(Clone, Copy)]
 pub enum Refusal {
     // Test 1: the lengths of x and M, or the sheet's room.
     Lengths,
@@ -32,7 +32,7 @@ pub enum Refusal {
 }
 
 // What a check answers.
-#[derive(Drop)]
+#[derive(Clone, Copy)]
 pub enum Answer {
     Accepted,
     Refused(Refusal),

@@ -24,7 +24,7 @@ const OUT_ROOM: usize = printing::LINE_ROOM * CHUNK_ROOM;
 const MOST_READS: usize = 18014398509481983;
 
 // How the program ends: all is printed, the input having ended or the opening having been refused; the input could not be read to its end; the output is closed.
-#[derive(Drop)]
+#[derive(Clone, Copy)]
 pub enum Finish {
     Printed,
     Refused,

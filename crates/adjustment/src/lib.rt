@@ -10,7 +10,7 @@ use input_lines::State;
 
 // A run between two chunks of its input: its state, how many bytes are held of the line that goes on and whether it had more, and how many bytes
 // were printed.
-#[derive(Drop)]
+#[derive(Clone, Copy)]
 pub struct Taken {
     pub state: State,
     pub len: usize,

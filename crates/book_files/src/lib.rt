@@ -12,14 +12,14 @@ use files::FileRefusal;
 pub use writing::write_file;
 
 // What the writing of a book is answered: the file's length in bytes, or why there is none.
-#[derive(Drop)]
+#[derive(Clone, Copy)]
 pub enum FileWritten {
     Length(usize),
     Refused(FileRefusal),
 }
 
 // What the entering of a file is answered.
-#[derive(Drop)]
+#[derive(Clone, Copy)]
 pub enum Entered {
     Done,
     Refused(FileRefusal),

@@ -11,7 +11,7 @@ pub use reading::{is_station_line, read_command};
 pub const LONGEST_LINE: usize = 50_000;
 
 // What a line asks.
-#[derive(Drop)]
+#[derive(Clone, Copy)]
 pub enum Command {
     // S: the next station of the list
     Station(Station),
@@ -25,7 +25,7 @@ pub enum Command {
 }
 
 // What the fields of an H, B or P line say: a place, and the record for it.
-#[derive(Drop)]
+#[derive(Clone, Copy)]
 enum Entry {
     Of(i64, Record),
     Unreadable,

@@ -11,7 +11,7 @@ pub use answer::{check_distance, check_distance_in, number, unknown};
 use network::Unit;
 
 // A taped slope distance between two stations by their numbers, all lengths in units: the instrument stands over `from`, the target over `to`.
-#[derive(Drop)]
+#[derive(Clone, Copy)]
 pub struct CheckDistance {
     pub from: i64,
     pub to: i64,
@@ -32,7 +32,7 @@ impl CheckDistance {
 }
 
 // Why a check distance is refused. specs/Distances gives document 02's number of each case.
-#[derive(Drop)]
+#[derive(Clone, Copy)]
 pub enum DistanceRefusal {
     // From or to is not in the list, or they are equal.
     Ends,
@@ -43,7 +43,7 @@ pub enum DistanceRefusal {
 }
 
 // Whether a check distance agrees with the sheet of an accepted pair.
-#[derive(Drop)]
+#[derive(Clone, Copy)]
 pub enum Agreement {
     Agrees,
     Disagrees,

@@ -24,7 +24,7 @@ use network::Unit;
 use normals::Normals;
 
 // The answer to a call for a proposal; specs/Proposals says what each case promises.
-#[derive(Drop)]
+#[derive(Clone, Copy)]
 pub enum Proposal {
     // x and M, as they are left in the lent slices, are accepted.
     Made,

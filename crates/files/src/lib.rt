@@ -14,7 +14,7 @@ pub use reading::holds_file;
 pub use writing::write_entry;
 
 // Why a call on files is refused.
-#[derive(Drop)]
+#[derive(Clone, Copy)]
 pub enum FileRefusal {
     BadPlace,
     NoRoom,
@@ -24,7 +24,7 @@ pub enum FileRefusal {
 }
 
 // Where the entry in force starts: at a byte of the night file or of the day file.
-#[derive(Drop)]
+#[derive(Clone, Copy)]
 pub enum EntryFound {
     InNight(usize),
     InDay(usize),
@@ -32,7 +32,7 @@ pub enum EntryFound {
 }
 
 // What document 02 fixes of an entry.
-#[derive(Drop)]
+#[derive(Clone, Copy)]
 pub struct FileEntry {}
 
 impl FileEntry {

@@ -12,7 +12,7 @@ pub use obeying::obey;
 pub use opening::{LIST_ROOM, is_ended, is_opened, open_list};
 
 // How far a run is; specs/Runs has what it means.
-#[derive(Drop)]
+#[derive(Clone, Copy)]
 pub enum Phase {
     // The station list goes on.
     Unopened,
@@ -23,14 +23,14 @@ pub enum Phase {
 }
 
 // How many numbers the latest readable X or M line gave, where there was one.
-#[derive(Drop)]
+#[derive(Clone, Copy)]
 pub enum Given {
     Nothing,
     Numbers(usize),
 }
 
 // The state of a run beside its book and its lent lists.
-#[derive(Drop)]
+#[derive(Clone, Copy)]
 pub struct State {
     // the lines so far, and the S lines read
     pub lines: u64,
@@ -43,14 +43,14 @@ pub struct State {
 }
 
 // What a line asks, and the state with it noted.
-#[derive(Drop)]
+#[derive(Clone, Copy)]
 struct LineRead {
     state: State,
     command: Command,
 }
 
 // How far a run is in a chunk: its state, and how many bytes of the lent ones are printed.
-#[derive(Drop)]
+#[derive(Clone, Copy)]
 pub struct Reached {
     pub state: State,
     pub printed: usize,

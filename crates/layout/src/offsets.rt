@@ -3,7 +3,7 @@ use book::Journal;
 use network::{Record, Unit};
 use normals::Normals;
 
-#[derive(Drop)]
+#[derive(Clone, Copy)]
 pub struct Layout {}
 
 impl Layout {

@@ -28,7 +28,7 @@ pub use stations::{
 pub use unit::Unit;
 
 // What a station's components are: held in all three, unknown in all three, or unknown in U alone.
-#[derive(Drop)]
+#[derive(Clone, Copy)]
 pub enum Kind {
     Known,
     Free,
@@ -36,7 +36,7 @@ pub enum Kind {
 }
 
 // A station with its provisional coordinates.
-#[derive(Drop)]
+#[derive(Clone, Copy)]
 pub struct Station {
     pub kind: Kind,
     pub east: i64,
@@ -45,14 +45,14 @@ pub struct Station {
 }
 
 // The station list of a book: `count` stations, the rest blank.
-#[derive(Drop)]
+#[derive(Clone, Copy)]
 pub struct Network {
     pub count: usize,
     pub stations: [Station; Unit::STATIONS],
 }
 
 // A GNSS baseline, antenna to antenna: stations by number, observed differences (to minus from), its symmetric 3×3 weight matrix, and the heights of the antennas above their marks.
-#[derive(Drop)]
+#[derive(Clone, Copy)]
 pub struct Baseline {
     pub from: i64,
     pub to: i64,
@@ -71,7 +71,7 @@ pub struct Baseline {
 }
 
 // A levelled height difference.
-#[derive(Drop)]
+#[derive(Clone, Copy)]
 pub struct Level {
     pub from: i64,
     pub to: i64,
@@ -80,7 +80,7 @@ pub struct Level {
 }
 
 // The position of a mark, with its uncertainty: the station by number, observed coordinates, and the symmetric 3×3 weight matrix.
-#[derive(Drop)]
+#[derive(Clone, Copy)]
 pub struct Position {
     pub station: i64,
     pub east: i64,
@@ -95,7 +95,7 @@ pub struct Position {
 }
 
 // What a place holds.
-#[derive(Drop)]
+#[derive(Clone, Copy)]
 pub enum Record {
     Empty,
     Baseline(Baseline),
@@ -104,7 +104,7 @@ pub enum Record {
 }
 
 // Document 01's place: where a record stands in the book.
-#[derive(Drop)]
+#[derive(Clone, Copy)]
 pub struct Place {
     pub entry: Record,
 }

@@ -4,7 +4,7 @@ ghost use Rattle.network.specs.Units.{weight_of};
 
 use weights::WeightMatrix;
 
-#[derive(Drop)]
+#[derive(Clone, Copy)]
 pub struct Unit {}
 
 impl Unit {

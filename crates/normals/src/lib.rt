@@ -20,7 +20,7 @@ pub use shares::{end_term, exchange_of, pair_term};
 
 // The observation equations of one record, which know no station. Its six ends are E, N, U at from, then E, N, U at to: end e has the
 // unknown at[e] with the coefficient coef[e], which is 0 where the component is held. Weights by rows.
-#[derive(Drop)]
+#[derive(Clone, Copy)]
 pub struct Equation {
     pub at: [usize; 6],
     pub coef: [i64; 6],
@@ -29,28 +29,28 @@ pub struct Equation {
 }
 
 // One of the amounts that an equation adds to N and u, and its entry, counted through N, by rows, and on through u.
-#[derive(Drop)]
+#[derive(Clone, Copy)]
 pub struct ShareTerm {
     pub entry: usize,
     pub amount: i64,
 }
 
 // The equations of a record that is taken off N and u, and of the one that is put on.
-#[derive(Drop)]
+#[derive(Clone, Copy)]
 pub struct Exchange {
     pub off: Equation,
     pub on: Equation,
 }
 
 // The unknowns of one station, in E, N, U: their numbers, and 1 where there is one. Both are 0 at a held component.
-#[derive(Drop)]
+#[derive(Clone, Copy)]
 struct StationUnknowns {
     at: [usize; 3],
     unknown: [i64; 3],
 }
 
 // N by rows, and u. Entries beyond the unknowns are 0.
-#[derive(Drop)]
+#[derive(Clone, Copy)]
 pub struct Normals {
     pub matrix: [i64; Normals::ENTRIES],
     pub right: [i64; Normals::ROW],

@@ -17,7 +17,7 @@ pub use rooms::{LINE_ROOM, SHEET_ROOM};
 pub use sheet_text::write_sheet;
 
 // How far a sheet is printed: the position after it, and the first word that is not printed.
-#[derive(Drop)]
+#[derive(Clone, Copy)]
 struct SheetPrinted {
     next: usize,
     word: usize,

@@ -12,7 +12,7 @@ pub use variances::variances_of;
 pub use verdicts::{global_verdict, verdict_word};
 
 // A verdict of the local test, or of the global one.
-#[derive(Drop)]
+#[derive(Clone, Copy)]
 pub enum Verdict {
     Pass,
     Fail,
@@ -23,7 +23,7 @@ pub enum Verdict {
 }
 
 // The 95% limits of the global test at one number of degrees of freedom, in thousandths.
-#[derive(Drop)]
+#[derive(Clone, Copy)]
 pub struct Limits {
     pub lower: i64,
     pub upper: i64,
@@ -31,7 +31,7 @@ pub struct Limits {
 
 // An observed component of a record, as the local test takes it: its residual, its entry of the adjugate and the determinant of the weights, the components of the station list at
 // the to and the from end, and 0 for `joins` where there is no from end.
-#[derive(Drop)]
+#[derive(Clone, Copy)]
 pub struct Observation {
     pub residual: i64,
     pub adjugate: i64,

@@ -12,14 +12,14 @@ pub use salvaging::salvage;
 pub use writing::list_pair;
 
 // How many runs of bytes a salvage skips, and how many entries it keeps.
-#[derive(Drop)]
+#[derive(Clone, Copy)]
 pub struct SalvageCounts {
     pub skipped: usize,
     pub kept: usize,
 }
 
 // What a salvage is answered.
-#[derive(Drop)]
+#[derive(Clone, Copy)]
 pub enum Salvaged {
     Counts(SalvageCounts),
     Refused(FileRefusal),

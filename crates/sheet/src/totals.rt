@@ -14,7 +14,7 @@ ghost use Rattle.sheet.specs.Totals.{counts_of, freedom, in_adjustment_in, share
 use network::{Network, Record, Unit};
 
 // Of all places: records, and words of their lines.
-#[derive(Drop)]
+#[derive(Clone, Copy)]
 pub struct Counts {
     pub records: usize,
     pub words: usize,

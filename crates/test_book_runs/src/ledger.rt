@@ -4,7 +4,7 @@ ghost use Rattle.std.specs.Prelude.{◌≤◌};
 use super::samples;
 use network::{Place, Record};
 
-#[derive(Drop)]
+#[derive(Clone, Copy)]
 pub struct Ledger {
     // places counted from 0, and what stands there
     pub at: [usize; 400],

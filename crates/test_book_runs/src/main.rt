@@ -14,7 +14,7 @@ use ledger::Ledger;
 use network::Record;
 
 // How often each number was answered, and how often book and ledger differed.
-#[derive(Drop)]
+#[derive(Clone, Copy)]
 struct Tally {
     answers: [u64; 10],
     differences: u64,
@@ -70,7 +70,7 @@ fn agrees(book: Book, ledger: Ledger) -> bool {
 }
 
 // A run: the book and the ledger side by side, what was found, and the generator.
-#[derive(Drop)]
+#[derive(Clone, Copy)]
 struct Side {
     book: Book,
     ledger: Ledger,
@@ -166,7 +166,7 @@ fn print_tally(tally: Tally) {
 }
 
 // n calls of one kind, at the places n to 1: how many were accepted, and the book.
-#[derive(Drop)]
+#[derive(Clone, Copy)]
 struct Edits {
     accepted: u64,
     book: Book,

@@ -72,7 +72,7 @@ pub(crate) fn inverse(first: i64) -> [i64; 36] {
 }
 
 // A book of `tied` with its corrections.
-#[derive(Drop)]
+#[derive(Clone, Copy)]
 pub(crate) struct Survey {
     book: Book,
     x: [i64; 6],

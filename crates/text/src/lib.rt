@@ -12,14 +12,14 @@ pub use numbers::number_of;
 pub use writing::{MOST_DIGITS, NUMBER_ROOM, write_byte, write_natural, write_number, write_text};
 
 // What a field says as a number.
-#[derive(Drop)]
+#[derive(Clone, Copy)]
 pub enum Number {
     Value(i64),
     Unreadable,
 }
 
 // How many numbers were read.
-#[derive(Drop)]
+#[derive(Clone, Copy)]
 pub enum Count {
     Numbers(usize),
     Unreadable,
@@ -27,7 +27,7 @@ pub enum Count {
 
 // How a chunk went on with a line: whether the line ended in it, how many of its bytes are held, whether there were more than there
 // is room for, and where the chunk is to be read next.
-#[derive(Drop)]
+#[derive(Clone, Copy)]
 pub struct Fed {
     pub whole: bool,
     pub len: usize,
@@ -36,7 +36,7 @@ pub struct Fed {
 }
 
 // What a run of digits says, before the sign.
-#[derive(Drop)]
+#[derive(Clone, Copy)]
 enum Digits {
     Value(u64),
     Unreadable,

@@ -28,7 +28,7 @@ pub fn determinant_of(w: WeightMatrix) -> i64
 }
 
 // The diagonal of the adjugate of a weight matrix, and its determinant.
-#[derive(Drop)]
+#[derive(Clone, Copy)]
 pub struct Adjugate {
     pub east: i64,
     pub north: i64,

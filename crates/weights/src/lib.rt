@@ -8,7 +8,7 @@ pub use adjugate::{Adjugate, adjugate_of};
 pub use rules::{matrix_fits, weights_in_range};
 
 // A symmetric 3×3 weight matrix, with rows and columns E, N, U.
-#[derive(Drop)]
+#[derive(Clone, Copy)]
 pub struct WeightMatrix {
     pub ee: i64,
     pub en: i64,

@@ -30,7 +30,7 @@ returns-then-not-same c =
     let a = c.args.a.now in
     let b = c.args.b.now in
     let h : c.loop-i.i < length a = omega arith in
-    sym (same_long a b long ∙ same_not a b (length a) c.loop-i.i h (sym compared ∙ not-true _ c.if-not-same.true))
+    sym (same_long a b long ∙ same_not a b (length a) c.loop-i.i h (sym compared ∙ c.if-not-same.true))
 
 pub loop-i-preserved : goal.loop-i-preserved
 loop-i-preserved c =
@@ -39,7 +39,7 @@ loop-i-preserved c =
     (get_or c.args.b.now c.loop-i.i (pos 0)) = c.same.ensures
     ∙ ap₂ eq_z (to_z-of_z w64 (get_or c.args.a.now c.loop-i.i (pos 0)) (record { sfits = c.same-arg-1.given }))
     (to_z-of_z w64 (get_or c.args.b.now c.loop-i.i (pos 0)) (record { sfits = c.same-arg-in-loop-i-1.given })) in
-    (search rules, same_more c.args.a.now c.args.b.now c.loop-i.i c.loop-i.invariant.1 (sym compared ∙ not-false _ c.if-not-same.false))
+    (search rules, same_more c.args.a.now c.args.b.now c.loop-i.i c.loop-i.invariant.1 (sym compared ∙ c.if-not-same.false))
 
 pub returns : goal.returns
 returns c =

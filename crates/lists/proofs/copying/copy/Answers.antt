@@ -18,7 +18,7 @@ pub loop-i-preserved : goal.loop-i-preserved
 loop-i-preserved c =
     let f = c.args.from.now in
     let e : to_z w64 (of_z w64 (get_or f c.loop-i.i (pos 0))) ≡ get_or f c.loop-i.i (pos 0) = to_z-of_z {w = w64} (sfits_of c.to-1.given) in
-    (search rules, (search rules, rw e (copied_more f c.loop-i.to-1 c.loop-i.i c.loop-i.invariant.1.1 (omega arith) (omega arith))))
+    (search rules, (search rules, rw e (copied_more f c.loop-i.to c.loop-i.i c.loop-i.invariant.1.1 (omega arith) (omega arith))))
 
 pub returns : goal.returns
-returns c = copied_all c.args.from.now c.loop-i.to-1 c.loop-i.i c.loop-i.invariant.1.1 (omega arith) (omega arith)
+returns c = copied_all c.args.from.now c.loop-i.to c.loop-i.i c.loop-i.invariant.1.1 (omega arith) (omega arith)

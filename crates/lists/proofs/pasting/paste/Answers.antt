@@ -17,7 +17,7 @@ pub loop-i-preserved : goal.loop-i-preserved
 loop-i-preserved c =
     let a = c.args in let n = c.loop-i.invariant.2 in (
       search rules,
-      paste_next a.list-1.now a.at a.w.now c.loop-i.i c.loop-i.list-1 _ c.loop-i.invariant.1 (search rules) (search rules) (to_z-of_z {w = w64} (search rules)),
+      paste_next a.list.now a.at a.w.now c.loop-i.i c.loop-i.list _ c.loop-i.invariant.1 (search rules) (search rules) (to_z-of_z {w = w64} (search rules)),
       simp length-set n,
     )
 
@@ -25,4 +25,4 @@ pub returns : goal.returns
 returns c =
     let a = c.args in
     let e : c.loop-i.i ≡ length a.w.now = omega arith in
-    c.loop-i.invariant.1 ∙ ap (λ (k : ℕ). paste a.list-1.now a.at a.w.now k) e ∙ paste_all a.list-1.now a.at a.w.now (search rules)
+    c.loop-i.invariant.1 ∙ ap (λ (k : ℕ). paste a.list.now a.at a.w.now k) e ∙ paste_all a.list.now a.at a.w.now (search rules)

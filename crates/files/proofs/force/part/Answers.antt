@@ -1,0 +1,24 @@
+-- `part`, by what was found: the part of the entry in its file, or the empty one. Assumes nothing.
+use Rattle.std.proofs.Common.{rules}
+use Rattle.files.specs.Force.{Inside, shown, lies_at}
+use Rattle.files.proofs.force.part.Goals as goal
+
+pub entry_part-requires : goal.entry_part-requires
+unfolding Inside
+entry_part-requires c = rw c.found-1.given.1 at c.requires
+
+pub entry_part-requires-in-InDay : goal.entry_part-requires-in-InDay
+unfolding Inside
+entry_part-requires-in-InDay c = rw c.found-in-InDay-1.given.1 at c.requires
+
+pub returns-in-InNight : goal.returns-in-InNight
+unfolding shown lies_at
+returns-in-InNight c = rw c.found-1.given.1 c.entry_part.ensures
+
+pub returns-in-InDay : goal.returns-in-InDay
+unfolding shown lies_at
+returns-in-InDay c = rw c.found-in-InDay-1.given.1 c.entry_part-in-InDay.ensures
+
+pub returns-in-Refused : goal.returns-in-Refused
+unfolding shown lies_at
+returns-in-Refused c = rw c.found-in-Refused-1.given.1 c.empty_part.ensures

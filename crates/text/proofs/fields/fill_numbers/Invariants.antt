@@ -1,0 +1,20 @@
+-- The invariant: what is stored from here on, over what is stored so far, is what all leading numbers leave. A field that is no number ends it (`fill-wrong`), so does the last one and a full list (`fill-full`). Assumes nothing.
+use mir.Facts.{to_z-of_z}
+use mir.Syntax.{w64}
+use Rattle.text.specs.Reading.{leading, fill_start, fill_wrong, fill_last, fill_more, fill_full}
+use Rattle.text.specs.FieldLaws.{end_within, fields_here, fields-last, fields-more}
+use Rattle.text.specs.Fields.{fields_of}
+use lib.Seq.{sets}
+use lib.ListN.{length, drop, length-set}
+use native.Mathlib.Omega.{arith}
+use Prim.Native.Nat.{ℕ, ◌≤◌, ◌-◌}
+use mathlib.Core.List.{List}
+use mathlib.Core.Path.{◌≡◌, sym, ap, ◌∙◌, refl}
+use borrow.Author.Rules.{rules}
+use Rattle.text.proofs.fields.fill_numbers.Given as goal
+
+abbrev pub invariant-loop-n : goal.invariant-loop-n
+invariant-loop-n l = (l.i ≤ length l.s) × (l.n ≤ length l.initial.out) × (length l.out ≡ length l.initial.out) × (sets l.out l.n (leading (length l.initial.out - l.n) (fields_of (drop l.i l.s))) ≡ sets l.initial.out 0 (leading (length l.initial.out) (fields_of l.s)))
+
+abbrev pub decreases-loop-n : goal.decreases-loop-n
+decreases-loop-n l = length l.initial.out - l.n

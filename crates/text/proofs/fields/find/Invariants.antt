@@ -1,0 +1,13 @@
+-- The invariant: where the byte is found from here is where it is found from the start. Assumes nothing.
+use Rattle.text.specs.Before.{before, end_here, end_found, end_more}
+use lib.ListN.{length, drop}
+use Prim.Native.Nat.{◌+◌, ◌-◌}
+use mathlib.Core.Path.{◌≡◌, refl, ◌∙◌}
+use borrow.Author.Rules.{rules}
+use Rattle.text.proofs.fields.find.Given as goal
+
+abbrev pub invariant-loop-i : goal.invariant-loop-i
+invariant-loop-i l = l.i + length (before l.b (drop l.i l.s)) ≡ l.from + length (before l.b (drop l.from l.s))
+
+abbrev pub decreases-loop-i : goal.decreases-loop-i
+decreases-loop-i l = length l.s - l.i

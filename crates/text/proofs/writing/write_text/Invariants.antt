@@ -1,0 +1,15 @@
+-- The invariant: the front of the text, up to here, is written. Assumes nothing.
+use Rattle.text.proofs.Steps.{text_start, text-more, text_whole}
+use lib.ListN.{length-set, length, take}
+use native.Mathlib.Omega.{arith}
+use mathlib.Core.Path.{refl, ◌≡◌}
+use Rattle.text.specs.Writing.{Written}
+use Prim.Native.Nat.{◌≤◌, ◌-◌, ◌+◌}
+use borrow.Author.Rules.{rules}
+use Rattle.text.proofs.writing.write_text.Given as goal
+
+abbrev pub invariant-loop-i : goal.invariant-loop-i
+invariant-loop-i l = (l.i ≤ length l.text) × (length l.out ≡ length l.initial.out) × Written l.initial.out l.at (take l.i l.text) (l.at + l.i) l.out
+
+abbrev pub decreases-loop-i : goal.decreases-loop-i
+decreases-loop-i l = length l.text - l.i
