@@ -12,6 +12,6 @@ returns c =
     both
     (both c.right_entry.ensures
     (c.same.ensures
-    ∙ pair (to_z-of_z {w = w64} {z = get_or w 13 (pos 0)} (search rules)) (to_z-of_z {w = w64} {z = c.to_signed.result} (sfits_of c.to_signed.type-inv) ∙ c.to_signed.ensures)))
+    ∙ pair (to_z-of_z {w = w64} {z = get_or w 13 (pos 0)} (search rules)) (to_z-of_z {w = w64} {z = c.to_signed.result} (sfits_of c.to_signed.type_inv) ∙ c.to_signed.ensures)))
     (c.same-2.ensures
-    ∙ pair (to_z-of_z {w = w64} {z = get_or w 14 (pos 0)} (search rules)) (to_z-of_z {w = w64} {z = c.previous_trailer.result} (sfits_of c.previous_trailer.type-inv) ∙ c.previous_trailer.ensures))
+    ∙ pair (to_z-of_z {w = w64} {z = get_or w 14 (pos 0)} (search rules)) (to_z-of_z {w = w64} {z = c.previous_trailer.result} (sfits_of c.previous_trailer.type_inv) ∙ c.previous_trailer.ensures))

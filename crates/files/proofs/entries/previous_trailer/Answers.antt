@@ -10,4 +10,4 @@ unfolding previous_trailer
 returns-then-at-eq0 c = ap previous_trailer (sym c.if-at-eq0.true)
 
 pub returns-else-at-eq0 : goal.returns-else-at-eq0
-returns-else-at-eq0 c = to_z-of_z {w = w64} {z = c.to_signed.result} (sfits_of c.to_signed.type-inv) ∙ c.to_signed.ensures ∙ sym (previous_at _ (omega arith))
+returns-else-at-eq0 c = to_z-of_z {w = w64} {z = c.to_signed.result} (sfits_of c.to_signed.type_inv) ∙ c.to_signed.ensures ∙ sym (previous_at _ (omega arith))

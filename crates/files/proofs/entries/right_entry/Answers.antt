@@ -11,4 +11,4 @@ returns c =
     let w = c.args.w.now in
     both c.right_words.ensures
     (c.same.ensures
-    ∙ pair (to_z-of_z {w = w64} {z = get_or w 15 (pos 0)} (search rules)) (to_z-of_z {w = w64} {z = c.sum.result} (sfits_of c.sum.type-inv) ∙ c.sum.ensures))
+    ∙ pair (to_z-of_z {w = w64} {z = get_or w 15 (pos 0)} (search rules)) (to_z-of_z {w = w64} {z = c.sum.result} (sfits_of c.sum.type_inv) ∙ c.sum.ensures))

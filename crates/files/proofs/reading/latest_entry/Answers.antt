@@ -15,14 +15,14 @@ pub returns-then-same : goal.returns-then-same
 returns-then-same c =
     let tested : c.same.result ≡ eq_z (word_at c.args.file.now (128 * (c.loop-n.n - 1) + 8)) (to_z w64 (of_z w64 c.args.place)) = c.same.ensures
     ∙ ap (λ (z : ℤ). eq_z z (to_z w64 (of_z w64 c.args.place)))
-    (to_z-of_z {w = w64} {z = c.word_at.result} (sfits_of c.word_at.type-inv) ∙ c.word_at.ensures) in
+    (to_z-of_z {w = w64} {z = c.word_at.result} (sfits_of c.word_at.type_inv) ∙ c.word_at.ensures) in
     latest-found _ _ c.loop-n.n (omega arith) c.loop-n.invariant.1 (sym tested ∙ c.if-same.true) ∙ ap (latest_entry c.args.file.now) (to_z-of_z {w = w64} c.ranges.place)
 
 pub loop-n-preserved : goal.loop-n-preserved
 loop-n-preserved c =
     let tested : c.same.result ≡ eq_z (word_at c.args.file.now (128 * (c.loop-n.n - 1) + 8)) (to_z w64 (of_z w64 c.args.place)) = c.same.ensures
     ∙ ap (λ (z : ℤ). eq_z z (to_z w64 (of_z w64 c.args.place)))
-    (to_z-of_z {w = w64} {z = c.word_at.result} (sfits_of c.word_at.type-inv) ∙ c.word_at.ensures) in
+    (to_z-of_z {w = w64} {z = c.word_at.result} (sfits_of c.word_at.type_inv) ∙ c.word_at.ensures) in
     (omega arith, latest-passed _ _ c.loop-n.n (omega arith) c.loop-n.invariant.1 (sym tested ∙ c.if-same.false))
 
 pub returns : goal.returns

@@ -8,7 +8,7 @@ use borrow.Author.Rules.{sfits_of}
 use Rattle.files.proofs.reading.latest_entry.Given as goal
 
 abbrev pub invariant-loop-n : goal.invariant-loop-n
-invariant-loop-n l = (l.n ≤ length l.file / 128) × (latest_entry_to l.file (to_z w64 l.place) l.n ≡ latest_entry l.file (to_z w64 l.place))
+invariant-loop-n l = (l.n ≤ length l.file / 128) × (latest_entry_to l.file l.place l.n ≡ latest_entry l.file l.place)
 
 abbrev pub decreases-loop-n : goal.decreases-loop-n
 decreases-loop-n l = l.n

@@ -13,18 +13,18 @@ use Rattle.text.proofs.fields.count_numbers.Goals as goal
 pub loop-n-init : goal.loop-n-init
 loop-n-init c = (omega arith, omega arith, count_start _ _)
 
-pub UNMAPPED_slice-bounds-number-of-end : goal.UNMAPPED_slice-bounds-number-of-end
-UNMAPPED_slice-bounds-number-of-end c = end_within _ _ _ c.field_end-end.ensures c.loop-n.invariant.0
+pub slice_bounds-number_of-end : goal.slice_bounds-number_of-end
+slice_bounds-number_of-end c = end_within _ _ _ c.field_end-end.ensures c.loop-n.invariant.0
 
 pub returns-in-Unreadable : goal.returns-in-Unreadable
 returns-in-Unreadable c =
-    count_wrong _ _ _ _ c.number_of.ensures _ c.enum_told-1.given.1
+    count_wrong _ _ _ _ c.number_of.ensures _ c.in-Unreadable.is
     ∙ ap (λ (fs : List (List ℕ)). count_after c.loop-n.n c.args.most (numbers_in fs)) (sym (fields_here _ _ _ c.field_end-end.ensures))
     ∙ c.loop-n.invariant.2
 
 pub returns-then-s-end : goal.returns-then-s-end
 returns-then-s-end c =
-    count_last _ _ _ _ c.number_of.ensures _ c.enum_told-in-Value-1.given.1 c.loop-n-test.true
+    count_last _ _ _ _ c.number_of.ensures _ c.in-Value.is c.loop-n-test.true
     ∙ ap (λ (fs : List (List ℕ)). count_after c.loop-n.n c.args.most (numbers_in fs)) (sym (fields-last _ _ _ c.field_end-end.ensures c.if-s-end.true))
     ∙ c.loop-n.invariant.2
 
@@ -33,7 +33,7 @@ loop-n-preserved c =
     (
       omega (arith, c.if-s-end.false),
       omega (arith, c.loop-n-test.true),
-      count_more _ _ _ _ c.number_of.ensures _ c.enum_told-in-Value-1.given.1 _
+      count_more _ _ _ _ c.number_of.ensures _ c.in-Value.is _
           ∙ ap (λ (fs : List (List ℕ)). count_after c.loop-n.n c.args.most (numbers_in fs)) (sym (fields-more _ _ _ c.field_end-end.ensures c.if-s-end.false))
           ∙ c.loop-n.invariant.2,
     )

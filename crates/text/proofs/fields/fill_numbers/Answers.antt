@@ -16,18 +16,18 @@ use Rattle.text.proofs.fields.fill_numbers.Goals as goal
 pub loop-n-init : goal.loop-n-init
 loop-n-init c = (omega arith, omega arith, refl, fill_start _ c.args.out.now _)
 
-pub UNMAPPED_slice-bounds-number-of-end : goal.UNMAPPED_slice-bounds-number-of-end
-UNMAPPED_slice-bounds-number-of-end c = end_within _ _ _ c.field_end-end.ensures c.loop-n.invariant.0
+pub slice_bounds-number_of-end : goal.slice_bounds-number_of-end
+slice_bounds-number_of-end c = end_within _ _ _ c.field_end-end.ensures c.loop-n.invariant.0
 
 pub returns-in-Unreadable : goal.returns-in-Unreadable
 returns-in-Unreadable c =
-    fill_wrong _ _ _ _ _ (omega (arith, c.loop-n-test.true, c.loop-n.invariant.2)) c.number_of.ensures _ c.enum_told-1.given.1
+    fill_wrong _ _ _ _ _ (omega (arith, c.loop-n-test.true, c.loop-n.invariant.2)) c.number_of.ensures _ c.in-Unreadable.is
     ∙ ap (λ (fs : List (List ℕ)). sets c.loop-n.out c.loop-n.n (leading (length c.args.out.now - c.loop-n.n) fs)) (sym (fields_here _ _ _ c.field_end-end.ensures))
     ∙ c.loop-n.invariant.3
 
 pub returns-then-s-end : goal.returns-then-s-end
 returns-then-s-end c =
-    fill_last _ _ _ _ _ (omega (arith, c.loop-n-test.true, c.loop-n.invariant.2)) c.number_of.ensures _ c.v-1.given.1 _ (to_z-of_z {w = w64} (search rules))
+    fill_last _ _ _ _ _ (omega (arith, c.loop-n-test.true, c.loop-n.invariant.2)) c.number_of.ensures _ c.in-Value.is _ (to_z-of_z {w = w64} (search rules))
     ∙ ap (λ (fs : List (List ℕ)). sets c.loop-n.out c.loop-n.n (leading (length c.args.out.now - c.loop-n.n) fs)) (sym (fields-last _ _ _ c.field_end-end.ensures c.if-s-end.true))
     ∙ c.loop-n.invariant.3
 
@@ -37,7 +37,7 @@ loop-n-preserved c =
       omega (arith, c.if-s-end.false),
       omega (arith, c.loop-n-test.true, c.loop-n.invariant.2),
       simp length-set c.loop-n.invariant.2,
-      fill_more _ _ _ _ _ (omega (arith, c.loop-n-test.true, c.loop-n.invariant.2)) c.number_of.ensures _ c.v-1.given.1 _ (to_z-of_z {w = w64} (search rules)) _
+      fill_more _ _ _ _ _ (omega (arith, c.loop-n-test.true, c.loop-n.invariant.2)) c.number_of.ensures _ c.in-Value.is _ (to_z-of_z {w = w64} (search rules)) _
           ∙ ap (λ (fs : List (List ℕ)). sets c.loop-n.out c.loop-n.n (leading (length c.args.out.now - c.loop-n.n) fs)) (sym (fields-more _ _ _ c.field_end-end.ensures c.if-s-end.false))
           ∙ c.loop-n.invariant.3,
     )

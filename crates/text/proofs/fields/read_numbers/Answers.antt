@@ -4,7 +4,7 @@ use borrow.Author.Rules.{rules}
 use Rattle.text.proofs.fields.read_numbers.Goals as goal
 
 pub returns-in-Unreadable : goal.returns-in-Unreadable
-returns-in-Unreadable c = stored-none _ _ _ _ c.count_numbers-c.ensures c.enum_told-1.given.1
+returns-in-Unreadable c = stored-none _ _ _ _ c.count_numbers-c.ensures c.in-Unreadable.is
 
 pub returns-in-Numbers : goal.returns-in-Numbers
-returns-in-Numbers c = stored-all _ _ _ _ c.count_numbers-c.ensures _ _ c.enum_told-in-Numbers-1.given.1 c.requires c.fill_numbers.ensures
+returns-in-Numbers c = stored-all _ _ _ _ c.count_numbers-c.ensures _ _ c.in-Numbers.is c.requires c.fill_numbers.ensures

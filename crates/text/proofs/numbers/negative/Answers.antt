@@ -12,10 +12,10 @@ use Rattle.text.proofs.numbers.negative.Goals as goal
 pub returns-then-n-le-MOST_NEGATIVE : goal.returns-then-n-le-MOST_NEGATIVE
 returns-then-n-le-MOST_NEGATIVE c =
     ap (λ (v : ℤ). Value v) (to_z-of_z {w = w64} (search rules) ∙ c.negated.ensures)
-    ∙ within_in minus _ _ _ c.d-1.given.1 c.if-n-le-MOST_NEGATIVE.true
+    ∙ within_in minus _ _ _ c.in-Value.is c.if-n-le-MOST_NEGATIVE.true
 
 pub returns-in-Unreadable : goal.returns-in-Unreadable
-returns-in-Unreadable c = within_none minus _ _ c.enum_told-1.given.1
+returns-in-Unreadable c = within_none minus _ _ c.in-Unreadable.is
 
 pub returns-else-n-le-MOST_NEGATIVE : goal.returns-else-n-le-MOST_NEGATIVE
-returns-else-n-le-MOST_NEGATIVE c = within-beyond minus _ _ _ c.d-1.given.1 c.if-n-le-MOST_NEGATIVE.false
+returns-else-n-le-MOST_NEGATIVE c = within-beyond minus _ _ _ c.in-Value.is c.if-n-le-MOST_NEGATIVE.false

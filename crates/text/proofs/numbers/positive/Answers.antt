@@ -10,10 +10,10 @@ use borrow.Author.Rules.{rules}
 use Rattle.text.proofs.numbers.positive.Goals as goal
 
 pub returns-then-n-le-MOST_POSITIVE : goal.returns-then-n-le-MOST_POSITIVE
-returns-then-n-le-MOST_POSITIVE c = ap (λ (v : ℤ). Value v) (to_z_pos w64 _ (omega arith)) ∙ within_in pos _ _ _ c.d-1.given.1 c.if-n-le-MOST_POSITIVE.true
+returns-then-n-le-MOST_POSITIVE c = ap (λ (v : ℤ). Value v) (to_z_pos w64 _ (omega arith)) ∙ within_in pos _ _ _ c.in-Value.is c.if-n-le-MOST_POSITIVE.true
 
 pub returns-in-Unreadable : goal.returns-in-Unreadable
-returns-in-Unreadable c = within_none pos _ _ c.enum_told-1.given.1
+returns-in-Unreadable c = within_none pos _ _ c.in-Unreadable.is
 
 pub returns-else-n-le-MOST_POSITIVE : goal.returns-else-n-le-MOST_POSITIVE
-returns-else-n-le-MOST_POSITIVE c = within-beyond pos _ _ _ c.d-1.given.1 c.if-n-le-MOST_POSITIVE.false
+returns-else-n-le-MOST_POSITIVE c = within-beyond pos _ _ _ c.in-Value.is c.if-n-le-MOST_POSITIVE.false
