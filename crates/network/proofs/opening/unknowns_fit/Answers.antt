@@ -1,0 +1,8 @@
+-- The definition, with what `number_of` ensures in it. Assumes nothing.
+use borrow.Author.Rules.{rules}
+use Rattle.network.specs.Stations.{unknowns_fit}
+use Rattle.network.proofs.opening.unknowns_fit.Goals as goal
+
+pub returns : goal.returns
+unfolding unknowns_fit
+returns c = rw c.number_of-n.ensures

@@ -1,0 +1,17 @@
+-- `place_words` stores the words of one record after those before it. The loop's invariant: the places passed are read back. Assumes nothing.
+use Prim.Native.Nat.{◌-◌, ◌*◌, ◌≤◌}
+use mathlib.Core.Path.{◌≡◌, refl, ap, ◌∙◌}
+use native.Mathlib.Omega.{arith}
+use lib.ListN.{length}
+use Rattle.lists.specs.Filling.{length_mapped}
+use Rattle.lists.specs.Pasted.{pasted}
+use Rattle.network.specs.RecordWords.{record_length}
+use Rattle.network.specs.PlaceLaws.{Lent, lent_none, lent-more, lent_all}
+use borrow.Author.Rules.{rules}
+use Rattle.network.proofs.places.place_words.Given as goal
+
+abbrev pub invariant-loop-p : goal.invariant-loop-p
+invariant-loop-p l = (l.p ≤ 256) × (length l.places ≡ 256) × Lent l.places l.p l.w
+
+abbrev pub decreases-loop-p : goal.decreases-loop-p
+decreases-loop-p l = 256 - l.p

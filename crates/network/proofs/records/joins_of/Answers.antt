@@ -1,0 +1,20 @@
+-- By the record, case by case. Assumes nothing.
+use borrow.Author.Rules.{rules}
+use Rattle.network.specs.Records.{joins}
+use Rattle.network.proofs.records.joins_of.Goals as goal
+
+pub returns-in-Empty : goal.returns-in-Empty
+unfolding joins
+returns-in-Empty c = rw c.in-Empty.is
+
+pub returns-in-Baseline : goal.returns-in-Baseline
+unfolding joins
+returns-in-Baseline c = rw c.in-Baseline.is
+
+pub returns-in-Height : goal.returns-in-Height
+unfolding joins
+returns-in-Height c = rw c.in-Height.is
+
+pub returns-in-Position : goal.returns-in-Position
+unfolding joins
+returns-in-Position c = rw c.in-Position.is

@@ -1,0 +1,15 @@
+-- The loop counts what it has passed (`CountedTo`). Assumes nothing.
+use mathlib.Core.Path.{sym, ◌∙◌}
+use Prim.Native.Nat.{◌-◌}
+use native.Mathlib.Omega.{arith}
+use lib.ListN.{length}
+use Rattle.salvage.specs.SalvageLaws.{run_few}
+use Rattle.salvage.proofs.Counted.{CountedTo, counted_none, counted_few, counted_keep, counted_skip, counted_all}
+use borrow.Author.Rules.{rules}
+use Rattle.salvage.proofs.scanning.salvage_counts.Given as goal
+
+abbrev pub invariant-loop-at : goal.invariant-loop-at
+invariant-loop-at l = CountedTo l.file l.skipped l.kept l.end l.at
+
+abbrev pub decreases-loop-at : goal.decreases-loop-at
+decreases-loop-at l = length l.file - l.at
