@@ -13,7 +13,7 @@ pub returns : goal.returns
 unfolding is_blank
 returns c =
     let x = c.args.x in
-    ap₂ ◌&&◌ (ap₂ ◌&&◌ (ap₂ ◌&&◌ c.is_Known.ensures
+    ap₂ ◌&&◌ (ap₂ ◌&&◌ (ap₂ ◌&&◌ c.is_known.ensures
     (c.same.ensures ∙ ap (λ (z : ℤ). eq_z z (pos 0)) (to_z-of_z w64 x.east (search rules))))
     (c.same-2.ensures ∙ ap (λ (z : ℤ). eq_z z (pos 0)) (to_z-of_z w64 x.north (search rules))))
     (c.same-3.ensures ∙ ap (λ (z : ℤ). eq_z z (pos 0)) (to_z-of_z w64 x.up (search rules)))

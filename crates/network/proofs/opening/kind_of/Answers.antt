@@ -1,4 +1,5 @@
 -- The number is read back from its bits; by its index: 1, 2, or any other (`other`). Assumes nothing.
+use native.Mathlib.Omega.{arith}
 use borrow.Author.Rules.{rules}
 use Prim.Native.Nat.{ℕ, zero, suc}
 use mathlib.Core.Path.{◌≡◌, refl, sym, ap, ◌∙◌}
@@ -33,4 +34,4 @@ pub returns-in_default : goal.returns-in_default
 unfolding kind_at
 returns-in_default c =
     let index : c.index_in.result ≡ index_in c.args.v 3 = c.index_in.ensures ∙ ap (λ (z : ℤ). index_in z 3) (to_z-of_z w64 c.args.v c.ranges.v) in
-    other c.index_in.result c.in-1.rest.0.1 c.in-1.rest.1 ∙ ap kind_at index
+    other c.index_in.result (λ e. omega arith) (λ e. omega arith) ∙ ap kind_at index

@@ -34,5 +34,5 @@ returns c =
     let counted : count_fits (length c.args.list.now / 4) ≡ true = sym c.count_fits.ensures ∙ c.if-not-count_fits.false in
     let e = c.network_of-net.ensures in
     rw (whole, counted, sym c.kinds_fit.ensures ∙ c.if-not-kinds_fit.false)
-    (ap₂ ◌&&◌ (c.coordinates_fit.ensures ∙ ap (λ (n : Network). coordinates_fit n.stations-1) e)
-    (c.unknowns_fit.ensures ∙ ap (λ (n : Network). unknowns_fit n.stations-1) e))
+    (ap₂ ◌&&◌ (c.coordinates_fit.ensures ∙ ap (λ (n : Network). coordinates_fit n.stations) e)
+    (c.unknowns_fit.ensures ∙ ap (λ (n : Network). unknowns_fit n.stations) e))

@@ -1,4 +1,5 @@
 -- `acts_in` is `acts`, by how many components the record observes. Assumes nothing.
+use native.Mathlib.Omega.{arith}
 use borrow.Author.Rules.{rules}
 use Prim.Native.Nat.{ℕ, zero, suc}
 use mathlib.Core.Path.{◌≡◌, refl, sym, ap, ◌∙◌}
@@ -23,5 +24,5 @@ returns-in-1 c = sym (ap (λ (n : ℕ). acts_of n c.args.c) (sym c.observations_
 pub returns-in_default : goal.returns-in_default
 unfolding acts observations acts_of
 returns-in_default c =
-    more c.observations_of.result c.args.c c.in-0.rest.0.1 c.in-0.rest.1
+    more c.observations_of.result c.args.c (λ e. omega arith) (λ e. omega arith)
     ∙ ap (λ (n : ℕ). acts_of n c.args.c) c.observations_of.ensures

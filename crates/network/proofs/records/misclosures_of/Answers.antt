@@ -14,8 +14,8 @@ use Rattle.network.proofs.records.misclosures_of.Goals as goal
 
 pub misclosure-x-requires : goal.misclosure-x-requires
 misclosure-x-requires c =
-    let joins-is : c.Joins-of.result ≡ joins c.args.r = c.Joins-of.ensures in
-    let joins-low : nat_abs (stored c.Joins-of.result) ≤ 1 = kept c.Joins-of.result (subst (λ (z : ℤ). nat_abs z ≤ 1) (sym joins-is) (joins-one c.args.r)) tt in
+    let joins-is : c.joins_of-g.result ≡ joins c.args.r = c.joins_of-g.ensures in
+    let joins-low : nat_abs (stored c.joins_of-g.result) ≤ 1 = kept c.joins_of-g.result (subst (λ (z : ℤ). nat_abs z ≤ 1) (sym joins-is) (joins-one c.args.r)) tt in
     let value-is : (a : ℕ) → get_or c.reduced_of-d.result a (pos 0) ≡ get_or (reduced c.args.r) a (pos 0) = λ a. ap (λ (l : List ℤ). get_or l a (pos 0)) c.reduced_of-d.ensures in
     let value-small : (a : ℕ) → nat_abs (stored (get_or c.reduced_of-d.result a (pos 0))) ≤ 1000000000 = λ a. kept (get_or c.reduced_of-d.result a (pos 0)) (subst (λ (z : ℤ). nat_abs z ≤ 1000000000) (sym (value-is a)) (values-small c.args.r c.requires.values a)) tt in
     let from_is : c.from_of-f.result ≡ from_of c.args.r = c.from_of-f.ensures in
@@ -26,8 +26,8 @@ misclosure-x-requires c =
 
 pub misclosure-y-requires : goal.misclosure-y-requires
 misclosure-y-requires c =
-    let joins-is : c.Joins-of.result ≡ joins c.args.r = c.Joins-of.ensures in
-    let joins-low : nat_abs (stored c.Joins-of.result) ≤ 1 = kept c.Joins-of.result (subst (λ (z : ℤ). nat_abs z ≤ 1) (sym joins-is) (joins-one c.args.r)) tt in
+    let joins-is : c.joins_of-g.result ≡ joins c.args.r = c.joins_of-g.ensures in
+    let joins-low : nat_abs (stored c.joins_of-g.result) ≤ 1 = kept c.joins_of-g.result (subst (λ (z : ℤ). nat_abs z ≤ 1) (sym joins-is) (joins-one c.args.r)) tt in
     let value-is : (a : ℕ) → get_or c.reduced_of-d.result a (pos 0) ≡ get_or (reduced c.args.r) a (pos 0) = λ a. ap (λ (l : List ℤ). get_or l a (pos 0)) c.reduced_of-d.ensures in
     let value-small : (a : ℕ) → nat_abs (stored (get_or c.reduced_of-d.result a (pos 0))) ≤ 1000000000 = λ a. kept (get_or c.reduced_of-d.result a (pos 0)) (subst (λ (z : ℤ). nat_abs z ≤ 1000000000) (sym (value-is a)) (values-small c.args.r c.requires.values a)) tt in
     let from_is : c.from_of-f.result ≡ from_of c.args.r = c.from_of-f.ensures in
@@ -38,8 +38,8 @@ misclosure-y-requires c =
 
 pub misclosure-z-requires : goal.misclosure-z-requires
 misclosure-z-requires c =
-    let joins-is : c.Joins-of.result ≡ joins c.args.r = c.Joins-of.ensures in
-    let joins-low : nat_abs (stored c.Joins-of.result) ≤ 1 = kept c.Joins-of.result (subst (λ (z : ℤ). nat_abs z ≤ 1) (sym joins-is) (joins-one c.args.r)) tt in
+    let joins-is : c.joins_of-g.result ≡ joins c.args.r = c.joins_of-g.ensures in
+    let joins-low : nat_abs (stored c.joins_of-g.result) ≤ 1 = kept c.joins_of-g.result (subst (λ (z : ℤ). nat_abs z ≤ 1) (sym joins-is) (joins-one c.args.r)) tt in
     let value-is : (a : ℕ) → get_or c.reduced_of-d.result a (pos 0) ≡ get_or (reduced c.args.r) a (pos 0) = λ a. ap (λ (l : List ℤ). get_or l a (pos 0)) c.reduced_of-d.ensures in
     let value-small : (a : ℕ) → nat_abs (stored (get_or c.reduced_of-d.result a (pos 0))) ≤ 1000000000 = λ a. kept (get_or c.reduced_of-d.result a (pos 0)) (subst (λ (z : ℤ). nat_abs z ≤ 1000000000) (sym (value-is a)) (values-small c.args.r c.requires.values a)) tt in
     let from_is : c.from_of-f.result ≡ from_of c.args.r = c.from_of-f.ensures in
@@ -53,7 +53,7 @@ unfolding misclosures
 returns c =
     let from_is : c.from_of-f.result ≡ from_of c.args.r = c.from_of-f.ensures in
     let to_is : c.to_of-t.result ≡ to_of c.args.r = c.to_of-t.ensures in
-    let joins-is : c.Joins-of.result ≡ joins c.args.r = c.Joins-of.ensures in
+    let joins-is : c.joins_of-g.result ≡ joins c.args.r = c.joins_of-g.ensures in
     let value-is : (a : ℕ) → get_or c.reduced_of-d.result a (pos 0) ≡ get_or (reduced c.args.r) a (pos 0) = λ a. ap (λ (l : List ℤ). get_or l a (pos 0)) c.reduced_of-d.ensures in
     let k = c.args.coordinate.now in
     let r = c.args.r in

@@ -4,7 +4,6 @@ use native.Mathlib.Omega.{arith}
 use Prim.Native.Nat.{ℕ, ◌+◌, ◌-◌, ◌<◌, ◌≤◌}
 use mathlib.Core.Path.{◌≡◌, sym, ap, ap₂, ◌∙◌, subst}
 use mathlib.Core.List.{List}
-use mathlib.Core.Logic.{⊎_elim}
 use borrow.Author.Tests.{eqb-true, ltb-true}
 use lib.Dec.{eqb, ltb}
 use lib.ListN.{get_or-replicate}
@@ -13,6 +12,7 @@ use Rattle.network.specs.Stations.{unknown, number}
 use Rattle.network.specs.StationLaws.{bit_in, number_0, number-+1, number_small}
 use Rattle.network.proofs.Listing.{Listed, listing_starts, listing_puts, listing_skips, listing_ends, no_room}
 use Rattle.network.proofs.stations.components_of.Goals as goal
+use Rattle.network.proofs.stations.components_of.Goals.{then-b-n, else-b-n}
 
 pub loop-q-init : goal.loop-q-init
 loop-q-init c = (search rules, sym (number_0 _), listing_starts _ _ (search rules) (λ m h. get_or-replicate 48 m 96 96 h))
@@ -45,14 +45,16 @@ loop-q-preserved c =
     let top : l.q < 96 = omega arith in (
       search rules,
       ap₂ ◌+◌ e u.ensures ∙ sym (number-+1 st l.q),
-      ⊎_elim
-          (λ w. subst (λ (o : List ℕ). Listed st o (l.n + u.result)) (sym w.1)
-          (listing_puts st l.out l.n l.q u.result e u.ensures
-          (eqb-true u.result 1 (and_left (eqb u.result 1) (ltb l.n 48) w.0.taken)) top
-          (ltb-true l.n 48 (and_right (eqb u.result 1) (ltb l.n 48) w.0.taken)) l.invariant.2))
-          (λ w. subst (λ (o : List ℕ). Listed st o (l.n + u.result)) (sym w.1)
-          (listing_skips st l.out l.n u.result l.invariant.2 (no_room u.result l.n h w.0.left)))
-          c.if-b-n.branch,
+      elim c.if-b-n.branch [
+        then-b-n w ↦
+            subst (λ (o : List ℕ). Listed st o (l.n + u.result)) (sym w.out-is)
+            (listing_puts st l.out l.n l.q u.result e u.ensures
+            (eqb-true u.result 1 (and_left (eqb u.result 1) (ltb l.n 48) w.if-b-n.true)) top
+            (ltb-true l.n 48 (and_right (eqb u.result 1) (ltb l.n 48) w.if-b-n.true)) l.invariant.2)
+        | else-b-n w ↦
+            subst (λ (o : List ℕ). Listed st o (l.n + u.result)) (sym w.out-is)
+            (listing_skips st l.out l.n u.result l.invariant.2 (no_room u.result l.n h w.if-b-n.false))
+      ],
     )
 
 pub returns : goal.returns

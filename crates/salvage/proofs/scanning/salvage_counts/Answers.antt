@@ -25,12 +25,12 @@ overflow_add-kept c = let l = c.loop-at in omega (arith, (counted_few _ _ _ _ _ 
 pub loop-at-preserved-then-right_at : goal.loop-at-preserved-then-right_at
 loop-at-preserved-then-right_at c =
     let l = c.loop-at in
-    rw c.run_count-skipped.ensures (counted_keep _ l.skipped l.auto l.end l.at l.invariant (omega arith) (sym c.right_at.ensures ∙ c.if-right_at.true))
+    rw c.run_count-skipped.ensures (counted_keep _ l.skipped l.kept l.end l.at l.invariant (omega arith) (sym c.right_at.ensures ∙ c.if-right_at.true))
 
 pub loop-at-preserved : goal.loop-at-preserved
 loop-at-preserved c =
     let l = c.loop-at in
-    counted_skip _ l.skipped l.auto l.end l.at l.invariant (omega arith) (sym c.right_at.ensures ∙ c.if-right_at.false)
+    counted_skip _ l.skipped l.kept l.end l.at l.invariant (omega arith) (sym c.right_at.ensures ∙ c.if-right_at.false)
 
 pub overflow_add-skipped-2 : goal.overflow_add-skipped-2
 overflow_add-skipped-2 c =
@@ -40,4 +40,4 @@ overflow_add-skipped-2 c =
 pub returns : goal.returns
 returns c =
     let l = c.loop-at in
-    counted_all _ l.skipped l.auto l.end l.at l.invariant (omega arith) c.run_count-skipped-2.ensures
+    counted_all _ l.skipped l.kept l.end l.at l.invariant (omega arith) c.run_count-skipped-2.ensures

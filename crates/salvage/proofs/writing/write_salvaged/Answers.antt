@@ -26,7 +26,7 @@ overflow_mul-start c =
     let inside : c.loop-at.at + 128 ≤ length c.args.file.now = omega (arith, c.loop-at-test.true, c.loop-at.invariant.counted.inside) in
     let right : right_at c.args.file.now c.loop-at.at ≡ true = sym c.right_at.ensures ∙ c.if-right_at.true in
     let rooms : (128 * c.loop-at.entries + 128 ≤ length c.loop-at.fresh)
-    × (16 * c.loop-at.entries + 16 ≤ length c.loop-at.auto) = let r = room-kept c.loop-at.invariant c.requires inside right in
+    × (16 * c.loop-at.entries + 16 ≤ length c.loop-at.kept) = let r = room-kept c.loop-at.invariant c.requires inside right in
     (omega (arith, r.0, c.loop-at.invariant.fresh_long), omega (arith, r.1, c.loop-at.invariant.kept_long)) in
     let r = rooms.0 in search rules
 
@@ -35,7 +35,7 @@ list_pair-requires c =
     let inside : c.loop-at.at + 128 ≤ length c.args.file.now = omega (arith, c.loop-at-test.true, c.loop-at.invariant.counted.inside) in
     let right : right_at c.args.file.now c.loop-at.at ≡ true = sym c.right_at.ensures ∙ c.if-right_at.true in
     let rooms : (128 * c.loop-at.entries + 128 ≤ length c.loop-at.fresh)
-    × (16 * c.loop-at.entries + 16 ≤ length c.loop-at.auto) = let r = room-kept c.loop-at.invariant c.requires inside right in
+    × (16 * c.loop-at.entries + 16 ≤ length c.loop-at.kept) = let r = room-kept c.loop-at.invariant c.requires inside right in
     (omega (arith, r.0, c.loop-at.invariant.fresh_long), omega (arith, r.1, c.loop-at.invariant.kept_long)) in
     rooms.1
 
@@ -44,7 +44,7 @@ copy_entry-requires c =
     let inside : c.loop-at.at + 128 ≤ length c.args.file.now = omega (arith, c.loop-at-test.true, c.loop-at.invariant.counted.inside) in
     let right : right_at c.args.file.now c.loop-at.at ≡ true = sym c.right_at.ensures ∙ c.if-right_at.true in
     let rooms : (128 * c.loop-at.entries + 128 ≤ length c.loop-at.fresh)
-    × (16 * c.loop-at.entries + 16 ≤ length c.loop-at.auto) = let r = room-kept c.loop-at.invariant c.requires inside right in
+    × (16 * c.loop-at.entries + 16 ≤ length c.loop-at.kept) = let r = room-kept c.loop-at.invariant c.requires inside right in
     (omega (arith, r.0, c.loop-at.invariant.fresh_long), omega (arith, r.1, c.loop-at.invariant.kept_long)) in
     (inside, rooms.0, omega arith)
 
@@ -53,7 +53,7 @@ overflow_add-entries c =
     let inside : c.loop-at.at + 128 ≤ length c.args.file.now = omega (arith, c.loop-at-test.true, c.loop-at.invariant.counted.inside) in
     let right : right_at c.args.file.now c.loop-at.at ≡ true = sym c.right_at.ensures ∙ c.if-right_at.true in
     let rooms : (128 * c.loop-at.entries + 128 ≤ length c.loop-at.fresh)
-    × (16 * c.loop-at.entries + 16 ≤ length c.loop-at.auto) = let r = room-kept c.loop-at.invariant c.requires inside right in
+    × (16 * c.loop-at.entries + 16 ≤ length c.loop-at.kept) = let r = room-kept c.loop-at.invariant c.requires inside right in
     (omega (arith, r.0, c.loop-at.invariant.fresh_long), omega (arith, r.1, c.loop-at.invariant.kept_long)) in
     let r = rooms.0 in search rules
 
