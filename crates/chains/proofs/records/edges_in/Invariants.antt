@@ -1,0 +1,17 @@
+-- The edges before place p are filled in (`Mapped`); each turn reads one record of the lent places and puts in its edge.
+use Prim.Native.Nat.{◌≤◌, ◌-◌}
+use mathlib.Core.Path.{ap, ◌∙◌}
+use native.Mathlib.Omega.{arith}
+use borrow.Author.Rules.{rules}
+use Rattle.lists.specs.Filling.{Mapped, starts, goes_on, finish}
+use Rattle.network.specs.Records.{record_at}
+use Rattle.network.specs.Places.{places_in}
+use Rattle.network.specs.declared.Record.{Record}
+use Rattle.chains.specs.Chains.{edge}
+use Rattle.chains.proofs.records.edges_in.Given as goal
+
+abbrev pub invariant-loop-p : goal.invariant-loop-p
+invariant-loop-p l = (l.p ≤ 256) × Mapped 0 256 (λ p'. edge l.c (record_at (places_in l.places) p')) l.initial.out l.out l.p
+
+abbrev pub decreases-loop-p : goal.decreases-loop-p
+decreases-loop-p l = 256 - l.p

@@ -1,0 +1,15 @@
+-- `with_stations_held` has put in the held among the first s stations at each turn. Assumes nothing.
+use Prim.Native.Nat.{◌≤◌, ◌-◌}
+use mathlib.Core.Path.{◌≡◌, refl, ◌∙◌}
+use native.Mathlib.Omega.{arith}
+use borrow.Author.Rules.{rules}
+use Rattle.chains.specs.Bits.{put_in, put_step}
+use Rattle.chains.specs.Chains.{is_held}
+use Rattle.network.specs.StationLaws.{unknown-at}
+use Rattle.chains.proofs.records.with_stations_held.Given as goal
+
+abbrev pub invariant-loop-s : goal.invariant-loop-s
+invariant-loop-s l = (l.s ≤ l.n) × (l.v ≡ put_in l.s (is_held l.stations l.c) (λ s'. s') l.w)
+
+abbrev pub decreases-loop-s : goal.decreases-loop-s
+decreases-loop-s l = l.n - l.s
