@@ -1,24 +1,14 @@
 -- `add_records`, place by place. The loop's invariant: n and u are those of the places passed; one place more is `firstN-more`, `firstU-more`. Assumes nothing.
-use borrow.Author.Rules.{rules}
-use native.Mathlib.Omega.{arith}
 use Prim.Native.Nat.{ℕ, ◌-◌, ◌≤◌}
-use mathlib.Core.Path.{◌≡◌, ap, ◌∙◌}
+use mathlib.Core.Path.{◌≡◌}
 use mathlib.Core.List.{List}
-use lib.Dec.{lit≤}
-use lib.IntN.{ℤ, pos}
-use Rattle.integers.specs.Tables.{plus}
+use lib.IntN.{ℤ}
 use Rattle.network.specs.Stations.{unknown_table, index_table, coordinates}
-use Rattle.network.specs.Records.{record_at}
 use Rattle.network.specs.Places.{places_in}
-use Rattle.network.specs.RuleLaws.{sound-stations}
 use Rattle.network.specs.declared.Network.{Network}
-use Rattle.network.specs.declared.Record.{Record}
 use Rattle.network.specs.declared.Place.{Place}
-use Rattle.normals.specs.Formulas.{entry_n, entry_u}
-use Rattle.normals.specs.ByRules.{ByRules, record_sound}
-use Rattle.normals.specs.Equations.{block_n, block_u}
-use Rattle.normals.specs.Shares.{equation, equation_by, is-observed, within_unknowns}
-use Rattle.normals.specs.FirstPlaces.{first_n, first_u, first_n_0, first_u_0, first_n-more, first_u-more, fits-at, within-first_n, within-first_u}
+use Rattle.normals.specs.ByRules.{ByRules}
+use Rattle.normals.specs.FirstPlaces.{first_n, first_u}
 use Rattle.normals.proofs.add_records.Given as goal
 
 -- of the network that the tables are of, which the code no longer holds

@@ -1,5 +1,4 @@
 -- `exchange_shares` takes the old record's share off N and u and puts the new one's on. Assumes nothing.
-use borrow.Author.Rules.{rules}
 use Prim.Native.Nat.{◌+◌, ◌^◌}
 use mathlib.Core.Path.{◌≡◌, ◌∙◌}
 use lib.Dec.{lit≤}
@@ -15,8 +14,7 @@ use Rattle.normals.proofs.exchange_shares.Goals as goal
 pub equation_of-p-requires : goal.equation_of-p-requires
 equation_of-p-requires c =
     let stations : SoundStations c.args.net.stations = sound-stations c.args.net c.requires.network in
-    let old : SoundRecord c.args.net.stations c.args.old = sound_record c.args.net c.args.old c.requires.network c.requires.old in
-    (
+    let old : SoundRecord c.args.net.stations c.args.old = sound_record c.args.net c.args.old c.requires.network c.requires.old in (
       rw c.coordinates_of-coordinate.ensures (is-observed _ stations _ old),
       rw c.unknowns_of-unknown.ensures (within_unknowns _ stations),
     )
@@ -24,8 +22,7 @@ equation_of-p-requires c =
 pub equation_of-q-requires : goal.equation_of-q-requires
 equation_of-q-requires c =
     let stations : SoundStations c.args.net.stations = sound-stations c.args.net c.requires.network in
-    let new : SoundRecord c.args.net.stations c.args.new = sound_record c.args.net c.args.new c.requires.network c.requires.new in
-    (
+    let new : SoundRecord c.args.net.stations c.args.new = sound_record c.args.net c.args.new c.requires.network c.requires.new in (
       rw c.coordinates_of-coordinate.ensures (is-observed _ stations _ new),
       rw c.unknowns_of-unknown.ensures (within_unknowns _ stations),
     )
@@ -36,8 +33,7 @@ add_equation-requires c =
     let old : SoundRecord c.args.net.stations c.args.old = sound_record c.args.net c.args.old c.requires.network c.requires.old in
     let old-equation : c.equation_of-p.result ≡ equation c.args.net.stations c.args.old = equation_by _ c.args.old c.numbers_of-at.ensures c.unknowns_of-unknown.ensures c.coordinates_of-coordinate.ensures
     c.equation_of-p.ensures in
-    let old-fits : EquationInRange c.equation_of-p.result = rw old-equation (equation-fits _ stations _ old) in
-    (
+    let old-fits : EquationInRange c.equation_of-p.result = rw old-equation (equation-fits _ stations _ old) in (
       lit≤ tt,
       old-fits,
       within_more 2304 2560000 (2 ^ 40) _ (lit≤ tt) c.requires.matrix,
@@ -77,8 +73,11 @@ returns c =
     let st = c.args.net.stations in
     let n = c.args.n.now in
     let u = c.args.u.now in
-    let g = stations in record { matrix = c.add_equation-2.ensures.matrix
+    let g = stations in record {
+      matrix = c.add_equation-2.ensures.matrix
           ∙ (λ i. plus 2304 ((c.add_equation.ensures.matrix ∙ (λ j. plus 2304 n (negsuc 0) (block_n (old-equation j))) ∙ shift_N st g c.args.old old n (negsuc 0)) i) (pos 1) (block_n (new-equation i)))
-          ∙ shift_N st g c.args.new new _ (pos 1); right = c.add_equation-2.ensures.right
+          ∙ shift_N st g c.args.new new _ (pos 1);
+      right = c.add_equation-2.ensures.right
           ∙ (λ i. plus 48 ((c.add_equation.ensures.right ∙ (λ j. plus 48 u (negsuc 0) (block_u (old-equation j))) ∙ shift_u st g c.args.old old u (negsuc 0)) i) (pos 1) (block_u (new-equation i)))
-          ∙ shift_u st g c.args.new new _ (pos 1) }
+          ∙ shift_u st g c.args.new new _ (pos 1);
+    }

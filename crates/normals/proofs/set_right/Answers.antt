@@ -1,9 +1,8 @@
 -- `set_right`: the loop's invariant is that the numbers passed are those given.
 use borrow.Author.Rules.{rules, sfits_of}
 use native.Mathlib.Omega.{arith}
-use Prim.Native.Nat.{◌-◌, ◌≤◌}
 use mathlib.Core.Path.{◌≡◌, refl}
-use lib.ListN.{length, take, get_or}
+use lib.ListN.{get_or}
 use lib.IntN.{pos}
 use mir.Syntax.{w64}
 use mir.Val.{to_z, of_z}

@@ -1,6 +1,5 @@
 -- `join_ends` is `join`, by what `has` told of the two ends. Assumes nothing.
 use mathlib.Core.Path.{sym, ◌∙◌}
-use borrow.Author.Rules.{rules}
 use Rattle.chains.specs.Search.{join_is}
 use Rattle.chains.proofs.passes.join_ends.Goals as goal
 

@@ -1,9 +1,7 @@
 -- `one_pass` is `pass` of the first p edges at each turn. Assumes nothing.
-use mathlib.Core.Path.{◌≡◌, refl, ◌∙◌}
+use mathlib.Core.Path.{◌≡◌}
 use Prim.Native.Nat.{◌≤◌, ◌-◌}
-use native.Mathlib.Omega.{arith}
-use borrow.Author.Rules.{rules}
-use Rattle.chains.specs.Search.{pass, pass_step}
+use Rattle.chains.specs.Search.{pass}
 use Rattle.chains.specs.Chains.{from_end, to_end}
 use Rattle.chains.proofs.passes.one_pass.Given as goal
 

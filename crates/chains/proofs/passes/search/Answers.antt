@@ -1,9 +1,7 @@
 -- `search` ends where a pass changes nothing; each other pass makes the word larger. Assumes nothing.
 use mathlib.Core.Path.{sym, ◌∙◌}
-use Prim.Native.Nat.{◌-◌, ◌^◌}
 use native.Mathlib.Omega.{arith}
-use Rattle.chains.specs.Search.{Partial, more, found, nothing_yet, pass_larger}
-use Rattle.chains.specs.Chains.{from_end, to_end}
+use Rattle.chains.specs.Search.{more, found, nothing_yet, pass_larger}
 use Rattle.chains.specs.ChainLaws.{low_ends}
 use Rattle.chains.proofs.passes.search.Goals as goal
 

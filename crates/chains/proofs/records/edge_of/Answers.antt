@@ -1,6 +1,5 @@
 -- `edge_of` puts the ends together where the record acts. Assumes nothing.
 use mathlib.Core.Path.{sym, ◌∙◌}
-use borrow.Author.Rules.{rules}
 use Rattle.chains.specs.ChainLaws.{edge_yes, edge_no}
 use Rattle.chains.proofs.records.edge_of.Goals as goal
 

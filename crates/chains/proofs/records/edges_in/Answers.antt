@@ -1,11 +1,8 @@
 -- The edges before place p are filled in (`Mapped`); each turn reads one record of the lent places and puts in its edge.
-use Prim.Native.Nat.{◌≤◌, ◌-◌}
 use mathlib.Core.Path.{ap, ◌∙◌}
 use native.Mathlib.Omega.{arith}
 use borrow.Author.Rules.{rules}
-use Rattle.lists.specs.Filling.{Mapped, starts, goes_on, finish}
-use Rattle.network.specs.Records.{record_at}
-use Rattle.network.specs.Places.{places_in}
+use Rattle.lists.specs.Filling.{starts, goes_on, finish}
 use Rattle.network.specs.declared.Record.{Record}
 use Rattle.chains.specs.Chains.{edge}
 use Rattle.chains.proofs.records.edges_in.Goals as goal

@@ -1,11 +1,8 @@
 -- `first_missing` stops at the first component that fails; all before it passed. Assumes nothing.
-use Prim.Native.Nat.{◌≤◌, ◌-◌}
 use mathlib.Core.Path.{◌≡◌, sym, ◌∙◌}
-use mathlib.Core.Bool.{true}
 use native.Mathlib.Omega.{arith}
 use borrow.Author.Rules.{rules}
-use borrow.Author.Tests.{not-true, not-false}
-use Rattle.lists.specs.All.{all_below, all_none, all_more}
+use Rattle.lists.specs.All.{all_none, all_more}
 use Rattle.network.specs.Stations.{unknown}
 use Rattle.chains.specs.Scans.{first-is, first_failing-none}
 use Rattle.chains.specs.ChainLaws.{held_or_in}

@@ -1,7 +1,6 @@
 -- Each of the three sets has the tied stations of its component, so the first component missing from them is the first untied (`first_found`).
 use mathlib.Core.Path.{◌∙◌}
 use native.Mathlib.Omega.{arith}
-use borrow.Author.Rules.{rules}
 use Rattle.chains.specs.ChainLaws.{first_found}
 use Rattle.chains.proofs.records.first_untied.Goals as goal
 

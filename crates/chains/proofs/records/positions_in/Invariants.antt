@@ -1,13 +1,9 @@
 -- `positions_in` has put in the stations of the positions at the first p places at each turn. Assumes nothing.
 use Prim.Native.Nat.{◌≤◌, ◌-◌}
-use mathlib.Core.Path.{◌≡◌, refl, ap, ◌∙◌}
-use mathlib.Core.Bool.{cond}
-use native.Mathlib.Omega.{arith}
-use borrow.Author.Rules.{rules}
+use mathlib.Core.Path.{◌≡◌}
 use Rattle.network.specs.Records.{record_at, is_position, to_of}
 use Rattle.network.specs.Places.{places_in}
-use Rattle.network.specs.declared.Record.{Record}
-use Rattle.chains.specs.Bits.{set_bit, put_in, put_step}
+use Rattle.chains.specs.Bits.{put_in}
 use Rattle.chains.proofs.records.positions_in.Given as goal
 
 abbrev pub invariant-loop-p : goal.invariant-loop-p

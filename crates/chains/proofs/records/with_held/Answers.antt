@@ -1,6 +1,5 @@
 -- `with_held` goes by the test of the kind. Assumes nothing.
 use mathlib.Core.Path.{sym, ◌∙◌}
-use borrow.Author.Rules.{rules}
 use borrow.Author.Tests.{eq-eqb, ne_eqb}
 use Rattle.chains.proofs.records.with_held.Goals as goal
 

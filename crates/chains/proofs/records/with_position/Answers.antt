@@ -1,6 +1,5 @@
 -- `with_position` goes by the test of the record. Assumes nothing.
 use mathlib.Core.Path.{sym, ◌∙◌}
-use borrow.Author.Rules.{rules}
 use Rattle.chains.proofs.records.with_position.Goals as goal
 
 pub with-requires : goal.with-requires

@@ -1,10 +1,8 @@
 -- `with_stations_held` has put in the held among the first s stations at each turn. Assumes nothing.
-use Prim.Native.Nat.{◌≤◌, ◌-◌}
 use mathlib.Core.Path.{◌≡◌, refl, ◌∙◌}
 use native.Mathlib.Omega.{arith}
 use borrow.Author.Rules.{rules}
 use Rattle.chains.specs.Bits.{put_in, put_step}
-use Rattle.chains.specs.Chains.{is_held}
 use Rattle.network.specs.StationLaws.{unknown-at}
 use Rattle.chains.proofs.records.with_stations_held.Goals as goal
 

@@ -1,7 +1,6 @@
 -- `has` reads the bit by a shift. Assumes nothing.
 use mathlib.Core.Path.{ap}
 use Prim.Native.Nat.{ℕ}
-use borrow.Author.Rules.{rules}
 use lib.Dec.{eqb}
 use Rattle.chains.specs.Bits.{digit_shift}
 use Rattle.chains.proofs.sets.has.Goals as goal

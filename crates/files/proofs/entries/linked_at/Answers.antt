@@ -1,5 +1,5 @@
 -- `linked_at` tests the sixteen words there. Assumes nothing.
-use Rattle.std.proofs.Common.{ap, ◌∙◌, rules}
+use Rattle.std.proofs.Common.{ap, ◌∙◌}
 use Rattle.files.specs.Entries.{linked_entry}
 use Rattle.files.specs.Files.{linked_at}
 use Rattle.files.proofs.entries.linked_at.Goals as goal

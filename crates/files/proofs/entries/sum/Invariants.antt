@@ -1,9 +1,6 @@
 -- `sum`: what is passed and what is left make the whole, modulo 2^64. Assumes nothing.
-use Rattle.std.proofs.Common.{◌≡◌, ℕ, ◌+◌, ◌-◌, ◌%◌, ◌^◌, ◌<◌, length, get_or, drop, pos, ap, ◌∙◌, zero-add, arith, to_z-of_z, w64, rules}
+use Rattle.std.proofs.Common.{◌≡◌, ◌+◌, ◌-◌, ◌%◌, ◌^◌, ◌<◌, length, drop}
 use Rattle.files.specs.Entries.{total}
-use Rattle.files.proofs.Loops.{sum-turn, sum_end}
-use Rattle.words.specs.Signed.{unsigned}
-use borrow.Author.Rules.{sfits_of}
 use Rattle.files.proofs.entries.sum.Given as goal
 
 abbrev pub invariant-loop-i : goal.invariant-loop-i

@@ -1,5 +1,5 @@
 -- `empty_part` is the part from 0 to 0. Assumes nothing.
-use Rattle.std.proofs.Common.{◌≡◌, ℕ, ◌+◌, refl, ap, arith, rules}
+use Rattle.std.proofs.Common.{◌≡◌, ℕ, ◌+◌, refl, ap, arith}
 use Rattle.files.proofs.force.empty_part.Goals as goal
 
 pub returns : goal.returns

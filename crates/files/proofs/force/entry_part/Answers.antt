@@ -1,5 +1,5 @@
 -- `entry_part` is the part from `at` to 128 bytes further. Assumes nothing.
-use Rattle.std.proofs.Common.{◌≡◌, ◌+◌, ◌-◌, refl, arith, rules}
+use Rattle.std.proofs.Common.{◌≡◌, ◌+◌, ◌-◌, refl, arith}
 use Rattle.files.proofs.force.entry_part.Goals as goal
 
 pub returns : goal.returns

@@ -1,7 +1,6 @@
 -- `find`: the refusals in their order, and then the latest entry. Assumes nothing.
-use Rattle.std.proofs.Common.{◌≡◌, ◌&&◌, ℤ, pos, sym, ap, ◌∙◌, to_z-of_z, w64, rules}
+use Rattle.std.proofs.Common.{◌≡◌, ◌&&◌, ℤ, pos, sym, ap, ◌∙◌, to_z-of_z, w64}
 use lib.Signed.{le_z}
-use borrow.Author.Tests.{not-true, not-false}
 use Rattle.files.specs.Files.{reads}
 use Rattle.files.specs.Force.{force_in}
 use Rattle.files.proofs.Tests.{both}

@@ -1,5 +1,5 @@
 -- `latest_of_two`, by its three ways out. Assumes nothing.
-use Rattle.std.proofs.Common.{◌≡◌, ap, ◌∙◌, arith, to_z-of_z, w64, rules}
+use Rattle.std.proofs.Common.{◌≡◌, ap, ◌∙◌, arith, to_z-of_z, w64}
 use Rattle.files.specs.Files.{latest_entry}
 use Rattle.files.proofs.Ways.{in_night, in_day, in_none}
 use Rattle.files.proofs.force.latest_of_two.Goals as goal

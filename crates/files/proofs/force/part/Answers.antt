@@ -1,5 +1,4 @@
 -- `part`, by what was found: the part of the entry in its file, or the empty one. Assumes nothing.
-use Rattle.std.proofs.Common.{rules}
 use Rattle.files.specs.Force.{Inside, shown, lies_at}
 use Rattle.files.proofs.force.part.Goals as goal
 

@@ -1,7 +1,5 @@
 -- `holds_file` walks back: the entries not yet passed are linked exactly where the file reads. Assumes nothing.
-use Rattle.std.proofs.Common.{◌≡◌, ◌/◌, ◌%◌, ◌≤◌, length, sym, ◌∙◌, arith, rules}
-use borrow.Author.Tests.{not-true, not-false}
-use Rattle.files.specs.Files.{linked_to, reads}
+use Rattle.std.proofs.Common.{sym, ◌∙◌, arith}
 use Rattle.files.proofs.Tests.{reads_odd, reads-even, none_left}
 use Rattle.files.proofs.Loops.{linked_turn, linked_no}
 use Rattle.files.proofs.reading.holds_file.Goals as goal

@@ -1,9 +1,6 @@
 -- `holds_file` walks back: the entries not yet passed are linked exactly where the file reads. Assumes nothing.
-use Rattle.std.proofs.Common.{◌≡◌, ◌/◌, ◌%◌, ◌≤◌, length, sym, ◌∙◌, arith, rules}
-use borrow.Author.Tests.{not-true, not-false}
+use Rattle.std.proofs.Common.{◌≡◌, ◌/◌, ◌%◌, ◌≤◌, length}
 use Rattle.files.specs.Files.{linked_to, reads}
-use Rattle.files.proofs.Tests.{reads_odd, reads-even, none_left}
-use Rattle.files.proofs.Loops.{linked_turn, linked_no}
 use Rattle.files.proofs.reading.holds_file.Given as goal
 
 abbrev pub invariant-loop-end : goal.invariant-loop-end

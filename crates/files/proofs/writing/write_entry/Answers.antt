@@ -1,5 +1,5 @@
 -- `write_entry` writes what `with_trailer` gives. Assumes nothing.
-use Rattle.std.proofs.Common.{ap, ◌∙◌, rules}
+use Rattle.std.proofs.Common.{ap, ◌∙◌}
 use Rattle.words.specs.Runs.{put_words}
 use Rattle.files.proofs.writing.write_entry.Goals as goal
 

@@ -1,7 +1,6 @@
 -- By the kind: each arm is a case of the definition. Assumes nothing.
 use mathlib.Core.Path.{sym, ap}
 use Rattle.network.specs.StationWords.{kind_word}
-use borrow.Author.Rules.{rules}
 use Rattle.network.proofs.as_words.kind_word.Goals as goal
 
 pub returns-in-Known : goal.returns-in-Known

@@ -1,15 +1,11 @@
 -- The loop's invariant: the stations passed pass the test (`all_below`). The first that fails settles it (`all-fails`); after the last, `all_done`. Assumes nothing.
 use borrow.Author.Rules.{rules}
-use borrow.Author.Tests.{not-true, not-false}
 use native.Mathlib.Omega.{arith}
-use Prim.Native.Nat.{ℕ, ◌-◌, ◌≤◌}
 use mathlib.Core.Path.{◌≡◌, sym, ◌∙◌}
-use mathlib.Core.Bool.{Bool, true, ◌||◌}
-use mathlib.Core.List.{List}
+use mathlib.Core.Bool.{◌||◌}
 use lib.Dec.{ltb}
-use Rattle.network.specs.declared.Station.{Station}
-use Rattle.lists.specs.All.{all_below, all_none, all_more, all_done, all_fails}
-use Rattle.network.specs.Stations.{station_at, is_blank, blank_beyond}
+use Rattle.lists.specs.All.{all_none, all_more, all_done, all_fails}
+use Rattle.network.specs.Stations.{blank_beyond}
 use Rattle.network.proofs.opening.blank_beyond.Invariants.{test}
 use Rattle.network.proofs.opening.blank_beyond.Goals as goal
 

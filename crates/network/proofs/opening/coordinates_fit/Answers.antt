@@ -1,17 +1,12 @@
 -- The loop's invariant: the coordinates passed, each read back from its bits, are in range (`all_below`). The first that fails settles it (`all-fails`). Assumes nothing.
 use borrow.Author.Rules.{rules, sfits_of}
-use borrow.Author.Tests.{not-true, not-false}
 use native.Mathlib.Omega.{arith}
-use Prim.Native.Nat.{ℕ, ◌-◌, ◌≤◌}
 use mathlib.Core.Path.{◌≡◌, sym, ap, ◌∙◌}
-use mathlib.Core.Bool.{Bool, true}
-use mathlib.Core.List.{List}
 use lib.Dec.{leb}
 use lib.IntN.{ℤ, nat_abs}
 use mir.Syntax.{w64}
 use mir.ValLaws.{to_z-of_z}
-use Rattle.network.specs.declared.Station.{Station}
-use Rattle.lists.specs.All.{all_below, all_none, all_more, all_done, all_fails}
+use Rattle.lists.specs.All.{all_none, all_more, all_done, all_fails}
 use Rattle.network.specs.Stations.{coordinate, coordinates_fit}
 use Rattle.network.proofs.opening.coordinates_fit.Invariants.{test}
 use Rattle.network.proofs.opening.coordinates_fit.Goals as goal

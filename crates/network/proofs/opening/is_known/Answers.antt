@@ -1,5 +1,4 @@
 -- By the kind: each arm is a case of the definition. Assumes nothing.
-use borrow.Author.Rules.{rules}
 use Rattle.network.specs.Stations.{is_known}
 use Rattle.network.proofs.opening.is_known.Goals as goal
 

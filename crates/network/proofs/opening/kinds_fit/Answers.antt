@@ -1,16 +1,11 @@
 -- The loop's invariant: the stations passed have kinds, each number read back from its bits (`all_below`). The first that fails settles it (`all-fails`). Assumes nothing.
 use borrow.Author.Rules.{rules, sfits_of}
-use borrow.Author.Tests.{not-true, not-false}
 use native.Mathlib.Omega.{arith}
-use Prim.Native.Nat.{ℕ, ◌-◌, ◌*◌, ◌/◌, ◌≤◌}
 use mathlib.Core.Path.{◌≡◌, sym, ap, ◌∙◌}
-use mathlib.Core.Bool.{Bool, true}
-use mathlib.Core.List.{List}
-use lib.ListN.{length, get_or}
-use lib.IntN.{ℤ, pos}
+use lib.IntN.{ℤ}
 use mir.Syntax.{w64}
 use mir.ValLaws.{to_z-of_z}
-use Rattle.lists.specs.All.{all_below, all_none, all_more, all_done, all_fails}
+use Rattle.lists.specs.All.{all_none, all_more, all_done, all_fails}
 use Rattle.network.specs.Stations.{is_kind, kinds_fit}
 use Rattle.network.proofs.opening.kinds_fit.Invariants.{test}
 use Rattle.network.proofs.opening.kinds_fit.Goals as goal

@@ -1,5 +1,4 @@
 -- The definition, with what the four calls ensure in it. Assumes nothing.
-use borrow.Author.Rules.{rules}
 use Rattle.network.specs.Stations.{network_fits}
 use Rattle.network.proofs.opening.network_fits.Goals as goal
 

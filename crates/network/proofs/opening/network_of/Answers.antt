@@ -1,13 +1,13 @@
 -- The loop fills the stations from the front: `Mapped` is the invariant, and `finish` makes it the whole list. Assumes nothing.
 use borrow.Author.Rules.{rules}
 use native.Mathlib.Omega.{arith}
-use Prim.Native.Nat.{◌-◌, ◌/◌, ◌≤◌}
+use Prim.Native.Nat.{◌/◌}
 use mathlib.Core.Path.{ap}
 use mathlib.Core.List.{List}
 use lib.ListN.{length}
 use Rattle.network.specs.declared.Station.{Station}
-use Rattle.network.specs.Stations.{blank_station, station_in, network_of}
-use Rattle.lists.specs.Filling.{Mapped, starts, goes_on, finish}
+use Rattle.network.specs.Stations.{blank_station, network_of}
+use Rattle.lists.specs.Filling.{starts, goes_on, finish}
 use Rattle.network.proofs.opening.network_of.Goals as goal
 
 pub loop-s-init : goal.loop-s-init

@@ -1,5 +1,4 @@
 -- Inside the list the number is read; beyond its end the definition gives 0. Assumes nothing.
-use borrow.Author.Rules.{rules}
 use native.Mathlib.Omega.{arith}
 use Prim.Native.Nat.{◌≤◌}
 use mathlib.Core.Path.{sym}

@@ -1,5 +1,4 @@
 -- By what `opens` told of the list. Assumes nothing.
-use borrow.Author.Rules.{rules}
 use mathlib.Core.Path.{sym, ◌∙◌}
 use Rattle.network.proofs.opening.open_no.Goals as goal
 

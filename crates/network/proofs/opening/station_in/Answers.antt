@@ -1,5 +1,5 @@
 -- Each of the four numbers is read back from its bits; equal parts make the same station (`same-station`). Assumes nothing.
-use borrow.Author.Rules.{rules, sfits_of}
+use borrow.Author.Rules.{sfits_of}
 use mathlib.Core.Path.{◌≡◌, ap, ◌∙◌}
 use lib.IntN.{ℤ}
 use mir.Syntax.{w64}

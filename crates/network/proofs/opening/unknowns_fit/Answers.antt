@@ -1,5 +1,4 @@
 -- The definition, with what `number_of` ensures in it. Assumes nothing.
-use borrow.Author.Rules.{rules}
 use Rattle.network.specs.Stations.{unknowns_fit}
 use Rattle.network.proofs.opening.unknowns_fit.Goals as goal
 

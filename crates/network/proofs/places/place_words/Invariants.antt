@@ -1,13 +1,8 @@
 -- `place_words` stores the words of one record after those before it. The loop's invariant: the places passed are read back. Assumes nothing.
-use Prim.Native.Nat.{◌-◌, ◌*◌, ◌≤◌}
-use mathlib.Core.Path.{◌≡◌, refl, ap, ◌∙◌}
-use native.Mathlib.Omega.{arith}
+use Prim.Native.Nat.{◌-◌, ◌≤◌}
+use mathlib.Core.Path.{◌≡◌}
 use lib.ListN.{length}
-use Rattle.lists.specs.Filling.{length_mapped}
-use Rattle.lists.specs.Pasted.{pasted}
-use Rattle.network.specs.RecordWords.{record_length}
-use Rattle.network.specs.PlaceLaws.{Lent, lent_none, lent-more, lent_all}
-use borrow.Author.Rules.{rules}
+use Rattle.network.specs.PlaceLaws.{Lent}
 use Rattle.network.proofs.places.place_words.Given as goal
 
 abbrev pub invariant-loop-p : goal.invariant-loop-p

@@ -1,6 +1,5 @@
 -- `record_at` reads the record's words where its place stands. Assumes nothing.
 use mathlib.Core.Path.{sym, ◌∙◌}
-use borrow.Author.Rules.{rules}
 use Rattle.network.specs.Places.{record_in_place}
 use Rattle.network.proofs.places.record_at.Goals as goal
 

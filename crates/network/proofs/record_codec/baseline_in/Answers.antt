@@ -1,5 +1,5 @@
 -- Each word is inside the list and read back from its bits; `baseline_of` puts them together with what the two calls gave. Assumes nothing.
-use borrow.Author.Rules.{rules, sfits_of}
+use borrow.Author.Rules.{sfits_of}
 use mathlib.Core.Path.{◌∙◌}
 use Prim.Native.Nat.{◌+◌}
 use mathlib.Core.List.{[], ◌∷◌}

@@ -1,5 +1,5 @@
 -- Each word is inside the list and read back from its bits; `height_of` puts them together. Assumes nothing.
-use borrow.Author.Rules.{rules, sfits_of}
+use borrow.Author.Rules.{sfits_of}
 use mir.Syntax.{w64}
 use mir.Facts.{to_z-of_z}
 use Prim.Native.Nat.{◌+◌}

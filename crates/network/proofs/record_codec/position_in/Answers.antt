@@ -1,5 +1,5 @@
 -- The station is inside the list and read back from its bits; `position_of` puts it together with what the two calls gave. Assumes nothing.
-use borrow.Author.Rules.{rules, sfits_of}
+use borrow.Author.Rules.{sfits_of}
 use mathlib.Core.Path.{◌∙◌}
 use Prim.Native.Nat.{◌+◌}
 use lib.IntN.{pos}

@@ -1,5 +1,5 @@
 -- The kind is read back from its bits; by it a baseline, a height difference, a position, or else the empty record (`other-record`). Assumes nothing.
-use borrow.Author.Rules.{rules, sfits_of}
+use borrow.Author.Rules.{sfits_of}
 use mathlib.Core.Path.{◌≡◌, sym, ap, ◌∙◌}
 use mir.Syntax.{w64}
 use mir.Facts.{to_z-of_z}

@@ -1,5 +1,4 @@
 -- By the record: an empty one is the case of the definition, the others are what the callees ensure. Assumes nothing.
-use borrow.Author.Rules.{rules}
 use mathlib.Core.Path.{sym, ap}
 use Rattle.network.specs.RecordWords.{record_words}
 use Rattle.network.proofs.record_codec.record_words.Goals as goal

@@ -1,5 +1,4 @@
 -- `is_empty`: a record that observes nothing is an empty place. Assumes nothing.
-use borrow.Author.Rules.{rules}
 use Prim.Native.Nat.{ℕ}
 use mathlib.Core.Path.{ap}
 use lib.Dec.{eqb}

@@ -1,5 +1,4 @@
 -- By the record, case by case. Assumes nothing.
-use borrow.Author.Rules.{rules}
 use Rattle.network.specs.Records.{is_position}
 use Rattle.network.proofs.records.is_position.Goals as goal
 

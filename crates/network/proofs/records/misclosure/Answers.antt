@@ -1,12 +1,9 @@
 -- By whether the record acts: if not, 0; else the numbers are small, so the product and both differences fit (`difference`). Assumes nothing.
-use borrow.Author.Rules.{rules}
-use borrow.Author.Tests.{not-true, not-false}
 use mathlib.Core.Path.{refl}
 use Prim.Native.Nat.{◌+◌, ◌*◌}
 use lib.ListN.{get_or}
 use lib.IntN.{pos}
 use Rattle.integers.specs.Code.{fit, code_bounds}
-use Rattle.network.specs.Stations.{coordinate}
 use Rattle.network.specs.Records.{misclosure_at}
 use Rattle.network.proofs.Differences.{difference}
 use Rattle.network.proofs.records.misclosure.Goals as goal

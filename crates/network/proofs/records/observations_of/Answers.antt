@@ -1,5 +1,4 @@
 -- By the record, case by case. Assumes nothing.
-use borrow.Author.Rules.{rules}
 use Rattle.network.specs.Records.{observations}
 use Rattle.network.proofs.records.observations_of.Goals as goal
 

@@ -1,5 +1,4 @@
 -- Both numbers are read back from their bits; the rest is the definition, with what the three calls ensure in it. Assumes nothing.
-use borrow.Author.Rules.{rules}
 use mir.Syntax.{w64}
 use mir.ValLaws.{to_z-of_z}
 use Rattle.network.specs.Rules.{ends_fit}

@@ -1,5 +1,4 @@
 -- The number is read back from its bits; its index is below the count exactly where it is in the list (`index-test`). Assumes nothing.
-use borrow.Author.Rules.{rules}
 use Prim.Native.Nat.{ℕ}
 use mathlib.Core.Path.{ap, ◌∙◌}
 use lib.Dec.{ltb}

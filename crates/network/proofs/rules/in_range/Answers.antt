@@ -1,5 +1,4 @@
 -- By the record: what the callees ensure of each kind. Assumes nothing.
-use borrow.Author.Rules.{rules}
 use mathlib.Core.Path.{sym, ap, ◌∙◌}
 use Rattle.network.specs.Rules.{in_range}
 use Rattle.network.proofs.rules.in_range.Goals as goal

@@ -1,5 +1,4 @@
 -- The misclosures are small (`misclosures-small`), so each is read back from its bits and its test is that of the definition (`closes`). Assumes nothing.
-use borrow.Author.Rules.{rules}
 use Prim.Native.Nat.{ℕ}
 use mathlib.Core.Path.{◌≡◌, ap, ap₂, ◌∙◌}
 use mathlib.Core.Bool.{Bool, ◌&&◌}

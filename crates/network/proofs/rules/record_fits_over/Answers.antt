@@ -1,5 +1,4 @@
 -- By what `is_empty` told of the record; where it is not empty, the test of what `record_no_over` ensures. Assumes nothing.
-use borrow.Author.Rules.{rules}
 use mathlib.Core.Path.{sym, ◌∙◌}
 use Rattle.network.specs.Rules.{record_fits_over}
 use Rattle.network.proofs.rules.record_fits_over.Goals as goal

@@ -1,5 +1,4 @@
 -- By whether the record observes three components; in range its weights are small, as `matrix_fits` asks (`weights-small`). Assumes nothing.
-use borrow.Author.Rules.{rules}
 use borrow.Author.Tests.{eq-eqb, ne_eqb}
 use mathlib.Core.Path.{sym, ap, ◌∙◌, subst}
 use Rattle.weights.specs.Rules.{matrix_fits}

@@ -1,6 +1,4 @@
 -- Test by test, the lowest number first; ends in the list and values in range give what the later tests ask (`judged-observed`). Assumes nothing.
-use borrow.Author.Rules.{rules}
-use borrow.Author.Tests.{not-true, not-false}
 use mathlib.Core.Path.{◌≡◌, sym, ◌∙◌}
 use mathlib.Core.Bool.{true}
 use Rattle.network.specs.Rules.{record_ends_fit, in_range, record_matrix_fits, record_no_over}

@@ -1,7 +1,7 @@
 -- The loop's invariant: n unknowns are passed, and the entries below n are their components (`Listed`); a turn is `listing-puts` or `listing-skips`. Assumes nothing.
 use borrow.Author.Rules.{rules}
 use native.Mathlib.Omega.{arith}
-use Prim.Native.Nat.{ℕ, ◌+◌, ◌-◌, ◌<◌, ◌≤◌}
+use Prim.Native.Nat.{ℕ, ◌+◌, ◌<◌, ◌≤◌}
 use mathlib.Core.Path.{◌≡◌, sym, ap, ap₂, ◌∙◌, subst}
 use mathlib.Core.List.{List}
 use borrow.Author.Tests.{eqb-true, ltb-true}
@@ -46,7 +46,7 @@ loop-q-preserved c =
       search rules,
       ap₂ ◌+◌ e u.ensures ∙ sym (number-+1 st l.q),
       elim c.if-b-n.branch [
-        then-b-n w ↦
+        | then-b-n w ↦
             subst (λ (o : List ℕ). Listed st o (l.n + u.result)) (sym w.out-is)
             (listing_puts st l.out l.n l.q u.result e u.ensures
             (eqb-true u.result 1 (and_left (eqb u.result 1) (ltb l.n 48) w.if-b-n.true)) top

@@ -1,17 +1,8 @@
 -- The loop's invariant: n unknowns are passed, and the entries below n are their components (`Listed`); a turn is `listing-puts` or `listing-skips`. Assumes nothing.
-use borrow.Author.Rules.{rules}
-use native.Mathlib.Omega.{arith}
-use Prim.Native.Nat.{ℕ, ◌+◌, ◌-◌, ◌<◌, ◌≤◌}
-use mathlib.Core.Path.{◌≡◌, sym, ap, ap₂, ◌∙◌, subst}
-use mathlib.Core.List.{List}
-use mathlib.Core.Logic.{⊎_elim}
-use borrow.Author.Tests.{eqb-true, ltb-true}
-use lib.Dec.{eqb, ltb}
-use lib.ListN.{get_or-replicate}
-use Rattle.words.specs.Bools.{and_left, and_right}
-use Rattle.network.specs.Stations.{unknown, number}
-use Rattle.network.specs.StationLaws.{bit_in, number_0, number-+1, number_small}
-use Rattle.network.proofs.Listing.{Listed, listing_starts, listing_puts, listing_skips, listing_ends, no_room}
+use Prim.Native.Nat.{◌-◌, ◌≤◌}
+use mathlib.Core.Path.{◌≡◌}
+use Rattle.network.specs.Stations.{number}
+use Rattle.network.proofs.Listing.{Listed}
 use Rattle.network.proofs.stations.components_of.Given as goal
 
 abbrev pub invariant-loop-q : goal.invariant-loop-q

@@ -1,13 +1,8 @@
 -- The loop fills the table from the front: `Mapped` is the invariant; each coordinate is read back from its bits. Assumes nothing.
-use borrow.Author.Rules.{rules, sfits_of}
-use native.Mathlib.Omega.{arith}
 use Prim.Native.Nat.{◌-◌, ◌≤◌}
-use mathlib.Core.Path.{◌∙◌}
 use lib.IntN.{pos}
-use mir.ValLaws.{to_z-of_z}
-use mir.Syntax.{w64}
 use Rattle.network.specs.Stations.{coordinate}
-use Rattle.lists.specs.Filling.{Mapped, starts, goes_on, finish}
+use Rattle.lists.specs.Filling.{Mapped}
 use Rattle.network.proofs.stations.coordinates_of.Given as goal
 
 abbrev pub invariant-loop-q : goal.invariant-loop-q

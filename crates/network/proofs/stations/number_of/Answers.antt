@@ -1,8 +1,8 @@
 -- The loop's invariant: n is the number of unknowns passed; a turn adds 0 or 1 (`number-+1`), so the sum fits. Assumes nothing.
 use borrow.Author.Rules.{rules}
 use native.Mathlib.Omega.{arith}
-use Prim.Native.Nat.{◌+◌, ◌-◌, ◌≤◌}
-use mathlib.Core.Path.{◌≡◌, sym, ap, ap₂, ◌∙◌}
+use Prim.Native.Nat.{◌+◌, ◌≤◌}
+use mathlib.Core.Path.{sym, ap, ap₂, ◌∙◌}
 use Rattle.network.specs.Stations.{unknown, number}
 use Rattle.network.specs.StationLaws.{bit_in, number_0, number-+1, number_small}
 use Rattle.network.proofs.stations.number_of.Goals as goal

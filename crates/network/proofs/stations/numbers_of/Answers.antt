@@ -2,11 +2,11 @@
 use borrow.Author.Rules.{rules}
 use native.Mathlib.Omega.{arith}
 use native.Mathlib.Nat.{le_refl, mul-le-mul}
-use Prim.Native.Nat.{◌+◌, ◌-◌, ◌*◌, ◌≤◌}
-use mathlib.Core.Path.{◌≡◌, sym, ap₂, ◌∙◌}
-use Rattle.network.specs.Stations.{unknown, number, unknown_index}
+use Prim.Native.Nat.{◌+◌, ◌*◌, ◌≤◌}
+use mathlib.Core.Path.{sym, ap₂, ◌∙◌}
+use Rattle.network.specs.Stations.{unknown, unknown_index}
 use Rattle.network.specs.StationLaws.{bit_in, number_0, number-+1, number_small}
-use Rattle.lists.specs.Filling.{Mapped, starts, goes_on, finish}
+use Rattle.lists.specs.Filling.{starts, goes_on, finish}
 use Rattle.network.proofs.stations.numbers_of.Goals as goal
 
 pub loop-q-init : goal.loop-q-init

@@ -1,12 +1,8 @@
 -- The loop fills the table from the front: `Mapped` is the invariant, with n the number of unknowns passed; n is small and a bit is 0 or 1, so the product fits. Assumes nothing.
-use borrow.Author.Rules.{rules}
-use native.Mathlib.Omega.{arith}
-use native.Mathlib.Nat.{le_refl, mul-le-mul}
-use Prim.Native.Nat.{◌+◌, ◌-◌, ◌*◌, ◌≤◌}
-use mathlib.Core.Path.{◌≡◌, sym, ap₂, ◌∙◌}
-use Rattle.network.specs.Stations.{unknown, number, unknown_index}
-use Rattle.network.specs.StationLaws.{bit_in, number_0, number-+1, number_small}
-use Rattle.lists.specs.Filling.{Mapped, starts, goes_on, finish}
+use Prim.Native.Nat.{◌-◌, ◌≤◌}
+use mathlib.Core.Path.{◌≡◌}
+use Rattle.network.specs.Stations.{number, unknown_index}
+use Rattle.lists.specs.Filling.{Mapped}
 use Rattle.network.proofs.stations.numbers_of.Given as goal
 
 abbrev pub invariant-loop-q : goal.invariant-loop-q

@@ -1,5 +1,4 @@
 -- By the kind; where the height alone is unknown, by the component. Assumes nothing.
-use borrow.Author.Rules.{rules}
 use borrow.Author.Tests.{eq-eqb, ne_eqb}
 use Rattle.network.specs.Stations.{unknown_in}
 use Rattle.network.proofs.stations.unknown_in.Goals as goal

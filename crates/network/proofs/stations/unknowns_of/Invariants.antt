@@ -1,15 +1,8 @@
 -- The loop fills the table from the front: `Mapped` is the invariant; an entry is 0 or 1, so the cast keeps it (`bit-cast`). Assumes nothing.
-use borrow.Author.Rules.{rules}
-use native.Mathlib.Omega.{arith}
-use Prim.Native.Nat.{ℕ, ◌-◌, ◌≤◌}
-use mathlib.Core.Path.{ap, ◌∙◌}
-use lib.IntN.{pos, nat_abs}
-use mir.Syntax.{w64}
-use mir.Val.{to_z}
+use Prim.Native.Nat.{◌-◌, ◌≤◌}
+use lib.IntN.{pos}
 use Rattle.network.specs.Stations.{unknown}
-use Rattle.network.specs.StationLaws.{unknown-bit, bit_in}
-use Rattle.lists.specs.Stored.{bit_cast, fits_by}
-use Rattle.lists.specs.Filling.{Mapped, starts, goes_on, finish}
+use Rattle.lists.specs.Filling.{Mapped}
 use Rattle.network.proofs.stations.unknowns_of.Given as goal
 
 abbrev pub invariant-loop-q : goal.invariant-loop-q

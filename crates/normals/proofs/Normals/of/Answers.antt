@@ -1,5 +1,4 @@
 -- `Normals::of` puts together what `add_records` makes of zeros. Assumes nothing.
-use borrow.Author.Rules.{rules}
 use Rattle.normals.proofs.Normals.of.Goals as goal
 
 pub returns : goal.returns

@@ -1,5 +1,4 @@
 -- `add_equation` adds a record's share to N and u. Assumes nothing.
-use borrow.Author.Rules.{rules}
 use mathlib.Core.Path.{ap, ◌∙◌}
 use lib.IntN.{ℤ}
 use Rattle.integers.specs.Tables.{plus}

@@ -1,14 +1,14 @@
 -- `add_matrix` adds a record's share to N. The loop's invariant: the ends passed are added. Assumes nothing.
 use borrow.Author.Rules.{rules}
 use native.Mathlib.Omega.{arith}
-use Prim.Native.Nat.{ℕ, ◌+◌, ◌-◌, ◌≤◌, ◌^◌}
+use Prim.Native.Nat.{ℕ, ◌+◌, ◌^◌}
 use mathlib.Core.Path.{◌≡◌, ap, ◌∙◌}
 use mathlib.Core.List.{List}
 use lib.IntN.{ℤ}
 use mir.Syntax.{w64}
 use mir.Val.{to_z, of_z}
 use lib.Dec.{lit≤}
-use Rattle.integers.specs.Sums.{sum, sum-+1, sum_zero}
+use Rattle.integers.specs.Sums.{sum-+1, sum_zero}
 use Rattle.normals.specs.declared.Equation.{Equation}
 use Rattle.integers.specs.Tables.{plus, plus_none, plus-plus, Within, within-plus, within_more}
 use Rattle.lists.specs.Stored.{back, kept}

@@ -1,20 +1,11 @@
 -- `add_matrix` adds a record's share to N. The loop's invariant: the ends passed are added. Assumes nothing.
-use borrow.Author.Rules.{rules}
-use native.Mathlib.Omega.{arith}
-use Prim.Native.Nat.{ℕ, ◌+◌, ◌-◌, ◌≤◌, ◌^◌}
-use mathlib.Core.Path.{◌≡◌, ap, ◌∙◌}
-use mathlib.Core.List.{List}
+use Prim.Native.Nat.{ℕ, ◌-◌, ◌≤◌}
+use mathlib.Core.Path.{◌≡◌}
 use lib.IntN.{ℤ}
-use mir.Syntax.{w64}
-use mir.Val.{to_z, of_z}
-use lib.Dec.{lit≤}
-use Rattle.integers.specs.Sums.{sum, sum-+1, sum_zero}
+use Rattle.integers.specs.Sums.{sum}
 use Rattle.normals.specs.declared.Equation.{Equation}
-use Rattle.integers.specs.Tables.{plus, plus_none, plus-plus, Within, within-plus, within_more}
-use Rattle.lists.specs.Stored.{back, kept}
-use Rattle.normals.specs.Equations.{ends_of, row_n, block_n}
-use Rattle.normals.specs.EquationSizes.{rows-size}
-use Rattle.normals.proofs.Steps.{fit_ends}
+use Rattle.integers.specs.Tables.{plus}
+use Rattle.normals.specs.Equations.{ends_of, row_n}
 use Rattle.normals.proofs.equations.add_matrix.Given as goal
 
 -- what the ends below e add

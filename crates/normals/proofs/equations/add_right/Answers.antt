@@ -1,15 +1,14 @@
 -- `add_right` adds a record's share to u. The loop's invariant: the ends passed are added. Assumes nothing.
 use borrow.Author.Rules.{rules}
 use native.Mathlib.Omega.{arith}
-use Prim.Native.Nat.{ℕ, ◌+◌, ◌-◌, ◌%◌, ◌≤◌, ◌^◌}
+use Prim.Native.Nat.{ℕ, ◌+◌, ◌%◌, ◌≤◌, ◌^◌}
 use mathlib.Core.Path.{◌≡◌, ap, ◌∙◌}
 use lib.ListN.{get_or}
 use lib.IntN.{ℤ, pos, nat_abs, ◌+ℤ◌, ◌*ℤ◌}
 use mir.Syntax.{w64}
 use mir.Val.{to_z, of_z}
 use Rattle.integers.specs.Code.{fit, code_bounds}
-use Rattle.integers.specs.Sums.{sum, sum-+1, sum_zero, δ}
-use Rattle.normals.specs.declared.Equation.{Equation}
+use Rattle.integers.specs.Sums.{sum-+1, sum_zero}
 use Rattle.integers.specs.Tables.{plus, plus_none, plus_step, Within, within-plus}
 use Rattle.lists.specs.Stored.{back, kept}
 use Rattle.normals.specs.Equations.{at_of, coef_of, weighted, block_u}

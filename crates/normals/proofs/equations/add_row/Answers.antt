@@ -1,13 +1,13 @@
 -- `add_row` adds the part of one end to N. The loop's invariant: the pairs passed are added. Assumes nothing.
 use borrow.Author.Rules.{rules}
 use native.Mathlib.Omega.{arith}
-use Prim.Native.Nat.{ℕ, ◌+◌, ◌-◌, ◌*◌, ◌%◌, ◌≤◌, ◌^◌}
+use Prim.Native.Nat.{ℕ, ◌+◌, ◌*◌, ◌%◌, ◌^◌}
 use mathlib.Core.Path.{◌≡◌, sym, ap, ◌∙◌}
-use lib.IntN.{ℤ, pos, ◌*ℤ◌}
+use lib.IntN.{ℤ, pos}
 use mir.Syntax.{w64}
 use mir.Val.{to_z, of_z}
 use Rattle.integers.specs.Code.{fit, code_bounds}
-use Rattle.integers.specs.Sums.{sum, sum-+1, sum_zero, δ}
+use Rattle.integers.specs.Sums.{sum-+1, sum_zero}
 use Rattle.normals.specs.declared.Equation.{Equation}
 use Rattle.integers.specs.Tables.{plus, plus_none, plus_step, Within, within-plus}
 use Rattle.words.specs.SignedLaws.{eq_z_true}

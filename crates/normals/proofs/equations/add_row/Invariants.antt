@@ -1,20 +1,11 @@
 -- `add_row` adds the part of one end to N. The loop's invariant: the pairs passed are added. Assumes nothing.
-use borrow.Author.Rules.{rules}
-use native.Mathlib.Omega.{arith}
-use Prim.Native.Nat.{ℕ, ◌+◌, ◌-◌, ◌*◌, ◌%◌, ◌≤◌, ◌^◌}
-use mathlib.Core.Path.{◌≡◌, sym, ap, ◌∙◌}
-use lib.IntN.{ℤ, pos, ◌*ℤ◌}
-use mir.Syntax.{w64}
-use mir.Val.{to_z, of_z}
-use Rattle.integers.specs.Code.{fit, code_bounds}
-use Rattle.integers.specs.Sums.{sum, sum-+1, sum_zero, δ}
+use Prim.Native.Nat.{ℕ, ◌+◌, ◌-◌, ◌*◌, ◌≤◌}
+use mathlib.Core.Path.{◌≡◌}
+use lib.IntN.{ℤ, ◌*ℤ◌}
+use Rattle.integers.specs.Sums.{sum, δ}
 use Rattle.normals.specs.declared.Equation.{Equation}
-use Rattle.integers.specs.Tables.{plus, plus_none, plus_step, Within, within-plus}
-use Rattle.words.specs.SignedLaws.{eq_z_true}
-use Rattle.lists.specs.Stored.{back, kept}
-use Rattle.normals.specs.Equations.{at_of, coef_of, ends_of, pair_n, row_n}
-use Rattle.normals.specs.EquationSizes.{row_size}
-use Rattle.normals.proofs.Steps.{Turn, entry_step, entry_fits, row_held}
+use Rattle.integers.specs.Tables.{plus}
+use Rattle.normals.specs.Equations.{at_of, ends_of, pair_n}
 use Rattle.normals.proofs.equations.add_row.Given as goal
 
 -- what the ends below f add

@@ -1,12 +1,10 @@
 -- `coefs_of` gives the coefficients at the six ends. Assumes nothing.
-use borrow.Author.Rules.{rules}
 use Prim.Native.Nat.{◌+◌, ◌*◌}
 use mathlib.Core.Path.{refl, ap₂}
 use mathlib.Core.List.{◌∷◌}
 use lib.ListN.{get_or}
 use lib.IntN.{pos}
 use Rattle.integers.specs.Code.{fit, code_bounds}
-use Rattle.network.specs.Stations.{unknown}
 use Rattle.lists.specs.Stored.{back}
 use Rattle.normals.proofs.Steps.{from_coef}
 use Rattle.normals.proofs.records.coefs_of.Goals as goal

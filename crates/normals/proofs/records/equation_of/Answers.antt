@@ -1,10 +1,8 @@
 -- `equation_of` gives a record's observation equations. Assumes nothing.
-use borrow.Author.Rules.{rules}
 use native.Mathlib.Omega.{arith}
 use Prim.Native.Nat.{◌≤◌}
 use mathlib.Core.Path.{◌≡◌, ap₂, ◌∙◌}
 use lib.IntN.{nat_abs}
-use Rattle.network.specs.Stations.{unknown}
 use Rattle.network.specs.Records.{from_of, to_of, joins, joins-one}
 use Rattle.normals.specs.Equations.{end_indices, coefs}
 use Rattle.lists.specs.Stored.{back, kept}

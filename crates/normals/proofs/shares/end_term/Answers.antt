@@ -1,5 +1,4 @@
 -- `end_term` multiplies an end's coefficient and its row of P times the misclosures; an equation in range keeps the product in 64 bits. Assumes nothing.
-use borrow.Author.Rules.{rules}
 use native.Mathlib.Omega.{arith}
 use Prim.Native.Nat.{◌+◌, ◌≤◌}
 use mathlib.Core.Path.{ap, ◌∙◌}

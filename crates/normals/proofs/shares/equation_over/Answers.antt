@@ -1,5 +1,4 @@
 -- `equation_over` puts the unknowns of both stations together; with the tables of the station list the ends come out the same. Assumes nothing.
-use borrow.Author.Rules.{rules}
 use Prim.Native.Nat.{ℕ, ◌<◌, ◌≤◌}
 use mathlib.Core.Path.{ap, ap₂, ◌∙◌}
 use native.Mathlib.Omega.{arith}

@@ -1,5 +1,4 @@
 -- `exchange_of` makes the equations of both records, which are by the rules. Assumes nothing.
-use borrow.Author.Rules.{rules}
 use Rattle.network.specs.RuleLaws.{SoundStations, SoundRecord, sound-stations, sound_record}
 use Rattle.normals.specs.Shares.{is-observed}
 use Rattle.normals.proofs.shares.exchange_of.Goals as goal

@@ -1,5 +1,4 @@
 -- `pair_term` multiplies the coefficients and the weight of two ends; an equation in range keeps the products in 64 bits. Assumes nothing.
-use borrow.Author.Rules.{rules}
 use native.Mathlib.Omega.{arith}
 use Prim.Native.Nat.{◌+◌, ◌*◌, ◌%◌}
 use lib.ListN.{get_or}

@@ -1,5 +1,4 @@
 -- `unknowns_at` numbers the unknowns of a station on from those before it. Assumes nothing.
-use borrow.Author.Rules.{rules}
 use Prim.Native.Nat.{◌+◌, ◌*◌}
 use mathlib.Core.Path.{refl, sym, ap, ap₂, ◌∙◌}
 use mathlib.Core.List.{◌∷◌}

@@ -1,8 +1,6 @@
 -- It counts, tests the room, and writes. Assumes nothing.
 use mathlib.Core.Path.{◌∙◌}
-use borrow.Author.Tests.{not-true, not-false}
 use Rattle.salvage.proofs.Room.{room-is, gives-no_room, gives_all}
-use borrow.Author.Rules.{rules}
 use Rattle.salvage.proofs.salvaging.salvage.Goals as goal
 
 pub returns-then-not-room_for : goal.returns-then-not-room_for

@@ -1,7 +1,6 @@
 -- A first word that is no kind tells that there is no entry; any other asks for all sixteen. Assumes nothing.
 use mathlib.Core.Path.{ap, ◌∙◌}
 use mathlib.Core.Bool.{◌&&◌}
-use borrow.Author.Tests.{not-true}
 use lib.IntN.{pos}
 use lib.Signed.{le_z}
 use mir.Syntax.{w64}
@@ -9,7 +8,7 @@ use mir.Facts.{to_z-of_z}
 use Rattle.files.specs.Entries.{right_entry}
 use Rattle.files.specs.Files.{right_at}
 use Rattle.salvage.proofs.FirstWord.{wrong_at}
-use borrow.Author.Rules.{rules, sfits_of}
+use borrow.Author.Rules.{sfits_of}
 use Rattle.salvage.proofs.scanning.right_at.Goals as goal
 
 pub returns-then-not-between : goal.returns-then-not-between

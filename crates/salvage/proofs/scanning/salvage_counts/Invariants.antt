@@ -1,11 +1,7 @@
 -- The loop counts what it has passed (`CountedTo`). Assumes nothing.
-use mathlib.Core.Path.{sym, ◌∙◌}
 use Prim.Native.Nat.{◌-◌}
-use native.Mathlib.Omega.{arith}
 use lib.ListN.{length}
-use Rattle.salvage.specs.SalvageLaws.{run_few}
-use Rattle.salvage.proofs.Counted.{CountedTo, counted_none, counted_few, counted_keep, counted_skip, counted_all}
-use borrow.Author.Rules.{rules}
+use Rattle.salvage.proofs.Counted.{CountedTo}
 use Rattle.salvage.proofs.scanning.salvage_counts.Given as goal
 
 abbrev pub invariant-loop-at : goal.invariant-loop-at

@@ -6,7 +6,6 @@ use lib.IntN.{ℤ}
 use Rattle.words.specs.Runs.{put_words}
 use Rattle.files.specs.BytesLaws.{words_take}
 use Rattle.files.specs.Entries.{entry_words}
-use borrow.Author.Rules.{rules}
 use Rattle.salvage.proofs.writing.copy_entry.Goals as goal
 
 pub returns : goal.returns

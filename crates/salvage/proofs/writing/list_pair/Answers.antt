@@ -6,7 +6,7 @@ use mir.Facts.{to_z-of_z}
 use Rattle.words.specs.Signed.{signed}
 use Rattle.words.specs.Words.{put_word}
 use Rattle.salvage.proofs.Written.{pair_put}
-use borrow.Author.Rules.{rules, sfits_of}
+use borrow.Author.Rules.{sfits_of}
 use Rattle.salvage.proofs.writing.list_pair.Goals as goal
 
 pub returns : goal.returns

@@ -8,7 +8,6 @@ use lib.ListN.{length}
 use Rattle.words.specs.Runs.{put_words}
 use Rattle.salvage.specs.Salvage.{pair_words}
 use Rattle.salvage.specs.ScanLaws.{run_one, run_none}
-use borrow.Author.Rules.{rules}
 use Rattle.salvage.proofs.writing.list_run.Goals as goal
 
 pub list_pair-requires : goal.list_pair-requires

@@ -1,12 +1,7 @@
 -- The loop has written what it has passed (`WrittenTo`). Assumes nothing.
-use mathlib.Core.Path.{◌≡◌, sym, ◌∙◌}
-use Prim.Native.Nat.{◌+◌, ◌-◌, ◌*◌, ◌≤◌}
-use native.Mathlib.Omega.{arith}
-use mathlib.Core.Bool.{true}
+use Prim.Native.Nat.{◌-◌}
 use lib.ListN.{length}
-use Rattle.files.specs.Files.{right_at}
-use Rattle.salvage.proofs.Written.{WrittenTo, written_none, written-keep, written-skip, written_fresh, written-kept, written_skipped, room-kept, room_run, room-last}
-use borrow.Author.Rules.{rules}
+use Rattle.salvage.proofs.Written.{WrittenTo}
 use Rattle.salvage.proofs.writing.write_salvaged.Given as goal
 
 abbrev pub invariant-loop-at : goal.invariant-loop-at

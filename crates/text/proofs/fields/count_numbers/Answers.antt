@@ -1,13 +1,11 @@
 -- The invariant: the count from here, with what is counted so far, is the count of all fields. A field that is no number ends it (`count-wrong`), so does the last (`count-last`) and one beyond the most (`count-full`). Assumes nothing.
 use Rattle.text.specs.FieldLaws.{first_and_rest, end_within, fields_here, fields-last, fields-more}
 use Rattle.text.specs.Reading.{count_after, count_start, count_wrong, count_last, count_more, count_full}
-use Rattle.text.specs.Fields.{fields_of, numbers_in, at_most, count_of}
-use lib.ListN.{length, drop}
+use Rattle.text.specs.Fields.{numbers_in}
 use native.Mathlib.Omega.{arith}
-use Prim.Native.Nat.{ℕ, ◌≤◌, ◌-◌}
+use Prim.Native.Nat.{ℕ}
 use mathlib.Core.List.{List}
-use mathlib.Core.Path.{◌≡◌, sym, ap, ◌∙◌}
-use borrow.Author.Rules.{rules}
+use mathlib.Core.Path.{sym, ap, ◌∙◌}
 use Rattle.text.proofs.fields.count_numbers.Goals as goal
 
 pub loop-n-init : goal.loop-n-init
@@ -29,14 +27,13 @@ returns-then-s-end c =
     ∙ c.loop-n.invariant.2
 
 pub loop-n-preserved : goal.loop-n-preserved
-loop-n-preserved c =
-    (
-      omega (arith, c.if-s-end.false),
-      omega (arith, c.loop-n-test.true),
-      count_more _ _ _ _ c.number_of.ensures _ c.in-Value.is _
-          ∙ ap (λ (fs : List (List ℕ)). count_after c.loop-n.n c.args.most (numbers_in fs)) (sym (fields-more _ _ _ c.field_end-end.ensures c.if-s-end.false))
-          ∙ c.loop-n.invariant.2,
-    )
+loop-n-preserved c = (
+  omega (arith, c.if-s-end.false),
+  omega (arith, c.loop-n-test.true),
+  count_more _ _ _ _ c.number_of.ensures _ c.in-Value.is _
+      ∙ ap (λ (fs : List (List ℕ)). count_after c.loop-n.n c.args.most (numbers_in fs)) (sym (fields-more _ _ _ c.field_end-end.ensures c.if-s-end.false))
+      ∙ c.loop-n.invariant.2,
+)
 
 pub returns : goal.returns
 returns c =

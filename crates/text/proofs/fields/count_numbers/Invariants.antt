@@ -1,13 +1,9 @@
 -- The invariant: the count from here, with what is counted so far, is the count of all fields. A field that is no number ends it (`count-wrong`), so does the last (`count-last`) and one beyond the most (`count-full`). Assumes nothing.
-use Rattle.text.specs.FieldLaws.{first_and_rest, end_within, fields_here, fields-last, fields-more}
-use Rattle.text.specs.Reading.{count_after, count_start, count_wrong, count_last, count_more, count_full}
+use Rattle.text.specs.Reading.{count_after}
 use Rattle.text.specs.Fields.{fields_of, numbers_in, at_most, count_of}
 use lib.ListN.{length, drop}
-use native.Mathlib.Omega.{arith}
-use Prim.Native.Nat.{ℕ, ◌≤◌, ◌-◌}
-use mathlib.Core.List.{List}
-use mathlib.Core.Path.{◌≡◌, sym, ap, ◌∙◌}
-use borrow.Author.Rules.{rules}
+use Prim.Native.Nat.{◌≤◌, ◌-◌}
+use mathlib.Core.Path.{◌≡◌}
 use Rattle.text.proofs.fields.count_numbers.Given as goal
 
 abbrev pub invariant-loop-n : goal.invariant-loop-n

@@ -1,16 +1,10 @@
 -- The invariant: what is stored from here on, over what is stored so far, is what all leading numbers leave. A field that is no number ends it (`fill-wrong`), so does the last one and a full list (`fill-full`). Assumes nothing.
-use mir.Facts.{to_z-of_z}
-use mir.Syntax.{w64}
-use Rattle.text.specs.Reading.{leading, fill_start, fill_wrong, fill_last, fill_more, fill_full}
-use Rattle.text.specs.FieldLaws.{end_within, fields_here, fields-last, fields-more}
+use Rattle.text.specs.Reading.{leading}
 use Rattle.text.specs.Fields.{fields_of}
 use lib.Seq.{sets}
-use lib.ListN.{length, drop, length-set}
-use native.Mathlib.Omega.{arith}
-use Prim.Native.Nat.{ℕ, ◌≤◌, ◌-◌}
-use mathlib.Core.List.{List}
-use mathlib.Core.Path.{◌≡◌, sym, ap, ◌∙◌, refl}
-use borrow.Author.Rules.{rules}
+use lib.ListN.{length, drop}
+use Prim.Native.Nat.{◌≤◌, ◌-◌}
+use mathlib.Core.Path.{◌≡◌}
 use Rattle.text.proofs.fields.fill_numbers.Given as goal
 
 abbrev pub invariant-loop-n : goal.invariant-loop-n

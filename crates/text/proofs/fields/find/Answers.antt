@@ -1,9 +1,6 @@
 -- The invariant: where the byte is found from here is where it is found from the start. Assumes nothing.
-use Rattle.text.specs.Before.{before, end_here, end_found, end_more}
-use lib.ListN.{length, drop}
-use Prim.Native.Nat.{◌+◌, ◌-◌}
-use mathlib.Core.Path.{◌≡◌, refl, ◌∙◌}
-use borrow.Author.Rules.{rules}
+use Rattle.text.specs.Before.{end_here, end_found, end_more}
+use mathlib.Core.Path.{refl, ◌∙◌}
 use Rattle.text.proofs.fields.find.Goals as goal
 
 pub loop-i-init : goal.loop-i-init

@@ -1,9 +1,8 @@
 -- The invariant: where the byte is found from here is where it is found from the start. Assumes nothing.
-use Rattle.text.specs.Before.{before, end_here, end_found, end_more}
+use Rattle.text.specs.Before.{before}
 use lib.ListN.{length, drop}
 use Prim.Native.Nat.{◌+◌, ◌-◌}
-use mathlib.Core.Path.{◌≡◌, refl, ◌∙◌}
-use borrow.Author.Rules.{rules}
+use mathlib.Core.Path.{◌≡◌}
 use Rattle.text.proofs.fields.find.Given as goal
 
 abbrev pub invariant-loop-i : goal.invariant-loop-i

@@ -2,7 +2,6 @@
 use Rattle.text.specs.FieldLaws.{a_letter, no_letter, letter_inside}
 use native.Mathlib.Omega.{arith}
 use mathlib.Core.Path.{sym}
-use borrow.Author.Rules.{rules}
 use Rattle.text.proofs.fields.letter_at.Goals as goal
 
 pub overflow_sub-end : goal.overflow_sub-end

@@ -1,6 +1,5 @@
 -- The numbers are counted first: an unreadable field or too many store nothing (`stored-none`), else all are stored (`stored-all`). Assumes nothing.
 use Rattle.text.specs.Reading.{stored-none, stored-all}
-use borrow.Author.Rules.{rules}
 use Rattle.text.proofs.fields.read_numbers.Goals as goal
 
 pub returns-in-Unreadable : goal.returns-in-Unreadable

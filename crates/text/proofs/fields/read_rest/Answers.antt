@@ -1,6 +1,5 @@
 -- A field that ends the line has none after it (`rest-none`); else the numbers from the next field on are read (`rest_some`). Assumes nothing.
 use Rattle.text.specs.Reading.{rest-none, rest_some}
-use borrow.Author.Rules.{rules}
 use Rattle.text.proofs.fields.read_rest.Goals as goal
 
 pub returns-then-s-end : goal.returns-then-s-end

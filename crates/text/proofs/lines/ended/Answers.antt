@@ -1,7 +1,6 @@
 -- By whether the part ends inside the chunk, as `fedAt` has it. Assumes nothing.
 use Rattle.text.specs.Lines.{fed_at}
 use borrow.Author.Tests.{lt-ltb, le-ltb}
-use borrow.Author.Rules.{rules}
 use Rattle.text.proofs.lines.ended.Goals as goal
 
 pub returns-then-end-chunk : goal.returns-then-end-chunk

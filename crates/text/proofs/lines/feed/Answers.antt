@@ -1,7 +1,6 @@
 -- By the room in the line buffer: no byte is left of the chunk (`feeds-none`), the part fits (`feeds-all`), or its front does (`feeds-cut`). Assumes nothing.
 use mathlib.Core.Path.{refl}
 use Rattle.text.specs.LineLaws.{feeds-all, feeds-cut, feeds_none}
-use borrow.Author.Rules.{rules}
 use Rattle.text.proofs.lines.feed.Goals as goal
 
 pub returns-then-chunk-end : goal.returns-then-chunk-end

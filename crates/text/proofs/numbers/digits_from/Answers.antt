@@ -1,13 +1,10 @@
 -- The invariant: the digits from here, after the value so far, say what all of them say; the value is at most the cut. A byte that is no digit ends it (`digits-wrong`). Assumes nothing.
-use Rattle.text.specs.Digits.{cut_to, digits_after, digits_of, digit_bounds, digits_more, digits_wrong, digits_end, digits-none, digits-start}
+use Rattle.text.specs.Digits.{digit_bounds, digits_more, digits_wrong, digits_end, digits-none, digits-start}
 use Rattle.text.specs.Numbers.{is_digit}
-use borrow.Author.Tests.{not-true, not-false}
-use lib.ListN.{length, drop, get_or}
+use lib.ListN.{get_or}
 use native.Mathlib.Omega.{arith}
-use Prim.Native.Nat.{◌≤◌, ◌-◌}
 use mathlib.Core.Bool.{true}
 use mathlib.Core.Path.{◌≡◌, sym, ◌∙◌}
-use borrow.Author.Rules.{rules}
 use Rattle.text.proofs.numbers.digits_from.Goals as goal
 
 pub returns-then-s-from : goal.returns-then-s-from
@@ -26,8 +23,7 @@ grow-n-requires c =
 
 pub loop-i-preserved : goal.loop-i-preserved
 loop-i-preserved c =
-    let a_digit : is_digit (get_or c.args.s.now c.loop-i.i 0) ≡ true = sym c.is_digit.ensures ∙ c.if-not-is_digit.false in
-    (
+    let a_digit : is_digit (get_or c.args.s.now c.loop-i.i 0) ≡ true = sym c.is_digit.ensures ∙ c.if-not-is_digit.false in (
       digits_more _ _ _ _ c.grow-n.ensures c.loop-i-test.true a_digit ∙ c.loop-i.invariant.0,
       omega (arith, c.grow-n.ensures),
     )

@@ -1,13 +1,8 @@
 -- The invariant: the digits from here, after the value so far, say what all of them say; the value is at most the cut. A byte that is no digit ends it (`digits-wrong`). Assumes nothing.
-use Rattle.text.specs.Digits.{cut_to, digits_after, digits_of, digit_bounds, digits_more, digits_wrong, digits_end, digits-none, digits-start}
-use Rattle.text.specs.Numbers.{is_digit}
-use borrow.Author.Tests.{not-true, not-false}
-use lib.ListN.{length, drop, get_or}
-use native.Mathlib.Omega.{arith}
+use Rattle.text.specs.Digits.{cut_to, digits_after, digits_of}
+use lib.ListN.{length, drop}
 use Prim.Native.Nat.{◌≤◌, ◌-◌}
-use mathlib.Core.Bool.{true}
-use mathlib.Core.Path.{◌≡◌, sym, ◌∙◌}
-use borrow.Author.Rules.{rules}
+use mathlib.Core.Path.{◌≡◌}
 use Rattle.text.proofs.numbers.digits_from.Given as goal
 
 abbrev pub invariant-loop-i : goal.invariant-loop-i

@@ -1,6 +1,5 @@
 -- 0 is its own negative (`minus-zero`); of any other the bits are those of the complement of one less (`minus-bits`). Assumes nothing.
 use Rattle.text.specs.Digits.{minus_zero, minus-bits}
-use borrow.Author.Rules.{rules}
 use Rattle.text.proofs.numbers.negated.Goals as goal
 
 pub returns-then-n-eq0 : goal.returns-then-n-eq0

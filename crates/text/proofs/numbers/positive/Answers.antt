@@ -6,7 +6,6 @@ use mir.Syntax.{w64}
 use lib.IntN.{ℤ, pos}
 use native.Mathlib.Omega.{arith}
 use mathlib.Core.Path.{ap, ◌∙◌}
-use borrow.Author.Rules.{rules}
 use Rattle.text.proofs.numbers.positive.Goals as goal
 
 pub returns-then-n-le-MOST_POSITIVE : goal.returns-then-n-le-MOST_POSITIVE

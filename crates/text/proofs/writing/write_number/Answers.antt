@@ -6,7 +6,6 @@ use lib.Signed.{lt_z}
 use lib.IntN.{ℤ, pos, nat_abs}
 use native.Mathlib.Omega.{arith}
 use mathlib.Core.Path.{◌≡◌, sym, ap, ◌∙◌}
-use borrow.Author.Rules.{rules}
 use Rattle.text.proofs.writing.write_number.Goals as goal
 
 pub returns-then-is_negative : goal.returns-then-is_negative

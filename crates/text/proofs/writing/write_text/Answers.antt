@@ -1,11 +1,8 @@
 -- The invariant: the front of the text, up to here, is written. Assumes nothing.
 use Rattle.text.proofs.Steps.{text_start, text-more, text_whole}
-use lib.ListN.{length-set, length, take}
+use lib.ListN.{length-set}
 use native.Mathlib.Omega.{arith}
-use mathlib.Core.Path.{refl, ◌≡◌}
-use Rattle.text.specs.Writing.{Written}
-use Prim.Native.Nat.{◌≤◌, ◌-◌, ◌+◌}
-use borrow.Author.Rules.{rules}
+use mathlib.Core.Path.{refl}
 use Rattle.text.proofs.writing.write_text.Goals as goal
 
 pub loop-i-init : goal.loop-i-init

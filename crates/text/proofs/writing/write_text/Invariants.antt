@@ -1,11 +1,8 @@
 -- The invariant: the front of the text, up to here, is written. Assumes nothing.
-use Rattle.text.proofs.Steps.{text_start, text-more, text_whole}
-use lib.ListN.{length-set, length, take}
-use native.Mathlib.Omega.{arith}
-use mathlib.Core.Path.{refl, ◌≡◌}
+use lib.ListN.{length, take}
+use mathlib.Core.Path.{◌≡◌}
 use Rattle.text.specs.Writing.{Written}
 use Prim.Native.Nat.{◌≤◌, ◌-◌, ◌+◌}
-use borrow.Author.Rules.{rules}
 use Rattle.text.proofs.writing.write_text.Given as goal
 
 abbrev pub invariant-loop-i : goal.invariant-loop-i

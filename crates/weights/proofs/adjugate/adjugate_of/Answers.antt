@@ -1,5 +1,5 @@
 -- The weights are small, so each minor is that of the weights (`minor-is`), read back from its bits; the determinant is what its call ensures. Assumes nothing.
-use borrow.Author.Rules.{rules, sfits_of}
+use borrow.Author.Rules.{sfits_of}
 use mathlib.Core.Path.{◌∙◌}
 use mir.Syntax.{w64}
 use mir.ValLaws.{to_z-of_z}

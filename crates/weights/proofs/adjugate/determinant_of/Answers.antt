@@ -30,10 +30,10 @@ overflow_mul-e c =
     let minors-small : (nat_abs c.minor-x.result ≤ 200000000)
     × (nat_abs c.minor-y.result ≤ 200000000)
     × (nat_abs c.minor-z.result ≤ 200000000) = (
-  minor_size c.args.w.nn c.args.w.uu c.args.w.nu c.args.w.nu _ c.minor-x.ensures c.requires.nn c.requires.uu c.requires.nu c.requires.nu,
-  minor_size c.args.w.en c.args.w.uu c.args.w.nu c.args.w.eu _ c.minor-y.ensures c.requires.en c.requires.uu c.requires.nu c.requires.eu,
-  minor_size c.args.w.en c.args.w.nu c.args.w.nn c.args.w.eu _ c.minor-z.ensures c.requires.en c.requires.nu c.requires.nn c.requires.eu,
-) in
+      minor_size c.args.w.nn c.args.w.uu c.args.w.nu c.args.w.nu _ c.minor-x.ensures c.requires.nn c.requires.uu c.requires.nu c.requires.nu,
+      minor_size c.args.w.en c.args.w.uu c.args.w.nu c.args.w.eu _ c.minor-y.ensures c.requires.en c.requires.uu c.requires.nu c.requires.eu,
+      minor_size c.args.w.en c.args.w.nu c.args.w.nn c.args.w.eu _ c.minor-z.ensures c.requires.en c.requires.nu c.requires.nn c.requires.eu,
+    ) in
     let p = c.requires in
     let k = minors-small in
     fit (search code_bounds depth 12) tt
@@ -43,10 +43,10 @@ overflow_mul-n c =
     let minors-small : (nat_abs c.minor-x.result ≤ 200000000)
     × (nat_abs c.minor-y.result ≤ 200000000)
     × (nat_abs c.minor-z.result ≤ 200000000) = (
-  minor_size c.args.w.nn c.args.w.uu c.args.w.nu c.args.w.nu _ c.minor-x.ensures c.requires.nn c.requires.uu c.requires.nu c.requires.nu,
-  minor_size c.args.w.en c.args.w.uu c.args.w.nu c.args.w.eu _ c.minor-y.ensures c.requires.en c.requires.uu c.requires.nu c.requires.eu,
-  minor_size c.args.w.en c.args.w.nu c.args.w.nn c.args.w.eu _ c.minor-z.ensures c.requires.en c.requires.nu c.requires.nn c.requires.eu,
-) in
+      minor_size c.args.w.nn c.args.w.uu c.args.w.nu c.args.w.nu _ c.minor-x.ensures c.requires.nn c.requires.uu c.requires.nu c.requires.nu,
+      minor_size c.args.w.en c.args.w.uu c.args.w.nu c.args.w.eu _ c.minor-y.ensures c.requires.en c.requires.uu c.requires.nu c.requires.eu,
+      minor_size c.args.w.en c.args.w.nu c.args.w.nn c.args.w.eu _ c.minor-z.ensures c.requires.en c.requires.nu c.requires.nn c.requires.eu,
+    ) in
     let p = c.requires in
     let k = minors-small in
     fit (search code_bounds depth 12) tt
@@ -56,10 +56,10 @@ overflow_mul-u c =
     let minors-small : (nat_abs c.minor-x.result ≤ 200000000)
     × (nat_abs c.minor-y.result ≤ 200000000)
     × (nat_abs c.minor-z.result ≤ 200000000) = (
-  minor_size c.args.w.nn c.args.w.uu c.args.w.nu c.args.w.nu _ c.minor-x.ensures c.requires.nn c.requires.uu c.requires.nu c.requires.nu,
-  minor_size c.args.w.en c.args.w.uu c.args.w.nu c.args.w.eu _ c.minor-y.ensures c.requires.en c.requires.uu c.requires.nu c.requires.eu,
-  minor_size c.args.w.en c.args.w.nu c.args.w.nn c.args.w.eu _ c.minor-z.ensures c.requires.en c.requires.nu c.requires.nn c.requires.eu,
-) in
+      minor_size c.args.w.nn c.args.w.uu c.args.w.nu c.args.w.nu _ c.minor-x.ensures c.requires.nn c.requires.uu c.requires.nu c.requires.nu,
+      minor_size c.args.w.en c.args.w.uu c.args.w.nu c.args.w.eu _ c.minor-y.ensures c.requires.en c.requires.uu c.requires.nu c.requires.eu,
+      minor_size c.args.w.en c.args.w.nu c.args.w.nn c.args.w.eu _ c.minor-z.ensures c.requires.en c.requires.nu c.requires.nn c.requires.eu,
+    ) in
     let p = c.requires in
     let k = minors-small in
     fit (search code_bounds depth 12) tt
@@ -69,10 +69,10 @@ overflow_sub-result c =
     let minors-small : (nat_abs c.minor-x.result ≤ 200000000)
     × (nat_abs c.minor-y.result ≤ 200000000)
     × (nat_abs c.minor-z.result ≤ 200000000) = (
-  minor_size c.args.w.nn c.args.w.uu c.args.w.nu c.args.w.nu _ c.minor-x.ensures c.requires.nn c.requires.uu c.requires.nu c.requires.nu,
-  minor_size c.args.w.en c.args.w.uu c.args.w.nu c.args.w.eu _ c.minor-y.ensures c.requires.en c.requires.uu c.requires.nu c.requires.eu,
-  minor_size c.args.w.en c.args.w.nu c.args.w.nn c.args.w.eu _ c.minor-z.ensures c.requires.en c.requires.nu c.requires.nn c.requires.eu,
-) in
+      minor_size c.args.w.nn c.args.w.uu c.args.w.nu c.args.w.nu _ c.minor-x.ensures c.requires.nn c.requires.uu c.requires.nu c.requires.nu,
+      minor_size c.args.w.en c.args.w.uu c.args.w.nu c.args.w.eu _ c.minor-y.ensures c.requires.en c.requires.uu c.requires.nu c.requires.eu,
+      minor_size c.args.w.en c.args.w.nu c.args.w.nn c.args.w.eu _ c.minor-z.ensures c.requires.en c.requires.nu c.requires.nn c.requires.eu,
+    ) in
     let p = c.requires in
     let k = minors-small in
     fit (search code_bounds depth 12) tt
@@ -82,10 +82,10 @@ overflow_add-result c =
     let minors-small : (nat_abs c.minor-x.result ≤ 200000000)
     × (nat_abs c.minor-y.result ≤ 200000000)
     × (nat_abs c.minor-z.result ≤ 200000000) = (
-  minor_size c.args.w.nn c.args.w.uu c.args.w.nu c.args.w.nu _ c.minor-x.ensures c.requires.nn c.requires.uu c.requires.nu c.requires.nu,
-  minor_size c.args.w.en c.args.w.uu c.args.w.nu c.args.w.eu _ c.minor-y.ensures c.requires.en c.requires.uu c.requires.nu c.requires.eu,
-  minor_size c.args.w.en c.args.w.nu c.args.w.nn c.args.w.eu _ c.minor-z.ensures c.requires.en c.requires.nu c.requires.nn c.requires.eu,
-) in
+      minor_size c.args.w.nn c.args.w.uu c.args.w.nu c.args.w.nu _ c.minor-x.ensures c.requires.nn c.requires.uu c.requires.nu c.requires.nu,
+      minor_size c.args.w.en c.args.w.uu c.args.w.nu c.args.w.eu _ c.minor-y.ensures c.requires.en c.requires.uu c.requires.nu c.requires.eu,
+      minor_size c.args.w.en c.args.w.nu c.args.w.nn c.args.w.eu _ c.minor-z.ensures c.requires.en c.requires.nu c.requires.nn c.requires.eu,
+    ) in
     let p = c.requires in
     let k = minors-small in
     fit (search code_bounds depth 12) tt
@@ -98,10 +98,10 @@ returns c =
     let minors-small : (nat_abs c.minor-x.result ≤ 200000000)
     × (nat_abs c.minor-y.result ≤ 200000000)
     × (nat_abs c.minor-z.result ≤ 200000000) = (
-  minor_size c.args.w.nn c.args.w.uu c.args.w.nu c.args.w.nu _ c.minor-x.ensures c.requires.nn c.requires.uu c.requires.nu c.requires.nu,
-  minor_size c.args.w.en c.args.w.uu c.args.w.nu c.args.w.eu _ c.minor-y.ensures c.requires.en c.requires.uu c.requires.nu c.requires.eu,
-  minor_size c.args.w.en c.args.w.nu c.args.w.nn c.args.w.eu _ c.minor-z.ensures c.requires.en c.requires.nu c.requires.nn c.requires.eu,
-) in
+      minor_size c.args.w.nn c.args.w.uu c.args.w.nu c.args.w.nu _ c.minor-x.ensures c.requires.nn c.requires.uu c.requires.nu c.requires.nu,
+      minor_size c.args.w.en c.args.w.uu c.args.w.nu c.args.w.eu _ c.minor-y.ensures c.requires.en c.requires.uu c.requires.nu c.requires.eu,
+      minor_size c.args.w.en c.args.w.nu c.args.w.nn c.args.w.eu _ c.minor-z.ensures c.requires.en c.requires.nu c.requires.nn c.requires.eu,
+    ) in
     let p = c.requires in
     let k = minors-small in
     let w = c.args.w in

@@ -1,5 +1,4 @@
 -- The definition, with what the two calls ensure in it. Assumes nothing.
-use borrow.Author.Rules.{rules}
 use Rattle.weights.specs.Rules.{matrix_fits}
 use Rattle.weights.proofs.rules.matrix_fits.Goals as goal
 

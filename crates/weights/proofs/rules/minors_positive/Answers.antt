@@ -1,5 +1,5 @@
 -- Weight, minor and determinant are read back from their bits, so each test is that of the definition, in its order. Assumes nothing.
-use borrow.Author.Rules.{rules, sfits_of}
+use borrow.Author.Rules.{sfits_of}
 use mathlib.Core.Path.{ap, ap₂, ◌∙◌}
 use mathlib.Core.Bool.{◌&&◌}
 use lib.IntN.{ℤ, pos}

@@ -1,5 +1,4 @@
 -- `Unit::weight_of`: nothing is rounded off before the quotient, and beyond twice the deviation of weight 1 the quotient is 0. Assumes nothing.
-use borrow.Author.Rules.{rules}
 use native.Mathlib.Omega.{arith}
 use Prim.Native.Nat.{ℕ, ◌<◌}
 use mathlib.Core.Path.{◌≡◌, sym, ap}
