@@ -1,0 +1,22 @@
+-- `rows_near` stops at the first row that fails; all before it pass. Assumes nothing.
+use Prim.Native.Nat.{ℕ, ◌≤◌, ◌-◌, ◌*◌, ◌^◌}
+use mathlib.Core.Path.{◌≡◌, sym, ◌∙◌}
+use mathlib.Core.Bool.{Bool, true, false}
+use native.Mathlib.Nat.{zero-mul}
+use native.Mathlib.Omega.{arith}
+use borrow.Author.Rules.{rules}
+use borrow.Author.Tests.{not-true, not-false}
+use lib.Dec.{leb}
+use lib.IntN.{nat_abs}
+use Rattle.integers.specs.Sums.{sum_n}
+use Rattle.lists.specs.All.{all_below, all_none, all_more, all_fails, all_done}
+use Rattle.integers.specs.Inverses.{defect}
+use Rattle.acceptance.specs.Tests.{by_rows, defect_small}
+use Rattle.acceptance.specs.Loops.{row_next_lem, row_end}
+use Rattle.acceptance.proofs.inverse.rows_near.Given as goal
+
+abbrev pub invariant-loop-i : goal.invariant-loop-i
+invariant-loop-i l = (l.i ≤ l.n) × ((l.row ≡ l.i * l.n) × (all_below l.i (λ i'. leb (sum_n l.n (λ j. nat_abs (defect l.n (by_rows 48 l.normal) (by_rows l.n l.m) i' j))) (2 ^ 26)) ≡ true))
+
+abbrev pub decreases-loop-i : goal.decreases-loop-i
+decreases-loop-i l = l.n - l.i

@@ -1,0 +1,18 @@
+-- `dot` has the sum of the first k products at each turn. Assumes nothing.
+use Prim.Native.Nat.{ℕ, ◌≤◌, ◌<◌, ◌-◌, ◌+◌, ◌*◌}
+use mathlib.Core.Path.{◌≡◌, sym, ◌∙◌}
+use native.Mathlib.Omega.{arith}
+use lib.IntN.{ℤ, ◌*ℤ◌}
+use mir.Syntax.{w64}
+use mir.Val.{to_z}
+use Rattle.integers.specs.Sums.{sum as Sum, sum_zero}
+use Rattle.integers.specs.Products.{Turn, turn}
+use Rattle.acceptance.specs.Loops.{factors}
+use Rattle.acceptance.specs.Tests.{at}
+use Rattle.acceptance.proofs.products.dot.Given as goal
+
+abbrev pub invariant-loop-k : goal.invariant-loop-k
+invariant-loop-k l = (l.k ≤ l.n) × (l.sum ≡ Sum l.k (λ k'. at l.a (l.row + k') *ℤ at l.b (l.column + k' * l.stride)))
+
+abbrev pub decreases-loop-k : goal.decreases-loop-k
+decreases-loop-k l = l.n - l.k

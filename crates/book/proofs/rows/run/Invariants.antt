@@ -1,0 +1,28 @@
+-- The loop's invariant: the book is that after the first k rows, and the first k answers are those to them.
+use Prim.Native.Nat.{ℕ, ◌-◌, ◌<◌, ◌≤◌}
+use mathlib.Core.Path.{◌≡◌, refl, ap, ◌∙◌, subst}
+use mathlib.Core.Bool.{true}
+use mathlib.Core.List.{List}
+use native.Mathlib.Omega.{arith}
+use borrow.Author.Rules.{rules}
+use mir.Syntax.{w64}
+use mir.Facts.{to_z-of_z}
+use lib.IntN.{ℤ, pos}
+use lib.ListN.{length, take, get_or}
+use Rattle.lists.specs.Filling.{Mapped, starts, goes_on}
+use Rattle.book.specs.declared.Book.{Book}
+use Rattle.book.specs.Run.{final, answers, final_zero, length-answers}
+use Rattle.book.specs.Book.{book_says, book_next, sound}
+use Rattle.book.specs.Rows.{rows_in, row_next, row_says}
+use Rattle.book.specs.ReplayLaws.{turn-says, turn-next, length-rows, all_rows, filled, unfilled}
+use Rattle.book.proofs.rows.run.Given as goal
+
+-- what row k is answered
+abbrev pub said : Book → List ℤ → ℕ → ℕ → ℤ
+said b w n k = get_or (answers (row_next book_next) (row_says book_says) b (rows_in w n)) k (pos 0)
+
+abbrev pub invariant-loop-k : goal.invariant-loop-k
+invariant-loop-k l = (l.k ≤ l.n) × Mapped (pos 0) (length l.initial.answers) (said l.initial.state l.calls l.n) l.initial.answers l.answers l.k × (l.state ≡ final (row_next book_next) l.initial.state (take l.k (rows_in l.calls l.n))) × (sound l.state ≡ true)
+
+abbrev pub decreases-loop-k : goal.decreases-loop-k
+decreases-loop-k l = l.n - l.k

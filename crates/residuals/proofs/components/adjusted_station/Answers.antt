@@ -1,0 +1,16 @@
+-- Each coordinate is what its call of `adjusted` ensures, read back from the array. Assumes nothing.
+use borrow.Author.Rules.{rules, sfits_of}
+use mathlib.Core.Path.{refl, ap₂, ◌∙◌}
+use mathlib.Core.List.{◌∷◌}
+use mir.Syntax.{w64}
+use mir.ValLaws.{to_z-of_z}
+use Rattle.residuals.specs.Components.{adjusted_station_in}
+use Rattle.residuals.proofs.components.adjusted_station.Goals as goal
+
+pub returns : goal.returns
+unfolding adjusted_station_in
+returns c =
+    let x = c.adjusted-x in let y = c.adjusted-y in let z = c.adjusted-z in
+    ap₂ ◌∷◌ (to_z-of_z w64 x.result (sfits_of x.type_inv) ∙ x.ensures)
+    (ap₂ ◌∷◌ (to_z-of_z w64 y.result (sfits_of y.type_inv) ∙ y.ensures)
+    (ap₂ ◌∷◌ (to_z-of_z w64 z.result (sfits_of z.type_inv) ∙ z.ensures) refl))
