@@ -14,7 +14,7 @@ pub overflow_sub-d : goal.overflow_sub-d
 overflow_sub-d c =
     let small : nat_abs c.dot-d.result ≤ 48 * 2 ^ 57 = rw c.dot-d.ensures (dot_small (pair-factors c.requires.defect_range _ c.args.i c.args.j c.requires.row_value.0 c.requires.row_value.1.0 c.requires.row_value.1.1)) in
     let one : Difference (pos 1073741824) c.dot-d.result = difference (pos 1073741824) c.dot-d.result (omega (arith, small)) in
-    one.ranges
+    one.fits
 
 pub size-requires : goal.size-requires
 size-requires c = tt
@@ -30,7 +30,7 @@ pub overflow_sub-d-2 : goal.overflow_sub-d-2
 overflow_sub-d-2 c =
     let small : nat_abs c.dot-d.result ≤ 48 * 2 ^ 57 = rw c.dot-d.ensures (dot_small (pair-factors c.requires.defect_range _ c.args.i c.args.j c.requires.row_value.0 c.requires.row_value.1.0 c.requires.row_value.1.1)) in
     let nil : Difference (pos 0) c.dot-d.result = difference (pos 0) c.dot-d.result (omega (arith, small)) in
-    nil.ranges
+    nil.fits
 
 pub size-requires-2 : goal.size-requires-2
 size-requires-2 c = tt

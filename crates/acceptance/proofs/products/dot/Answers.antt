@@ -48,7 +48,7 @@ overflow_mul-sum-in-loop-k c =
     let left : ℕ → ℤ = λ k. at c.args.a.now (c.args.row + k) in
     let right : ℕ → ℤ = λ k. at c.args.b.now (c.args.column + k * c.args.stride) in
     let this-turn : Turn (left c.loop-k.k) (right c.loop-k.k)
-    c.loop-k.sum
+    c.loop-k.sum-bits
     (Sum (c.loop-k.k + 1) (λ k. left k *ℤ right k)) = turn (factors c.requires) c.loop-k-test.true c.loop-k.invariant.1 in
     this-turn.mul
 
@@ -57,7 +57,7 @@ overflow_add-sum-in-loop-k-2 c =
     let left : ℕ → ℤ = λ k. at c.args.a.now (c.args.row + k) in
     let right : ℕ → ℤ = λ k. at c.args.b.now (c.args.column + k * c.args.stride) in
     let this-turn : Turn (left c.loop-k.k) (right c.loop-k.k)
-    c.loop-k.sum
+    c.loop-k.sum-bits
     (Sum (c.loop-k.k + 1) (λ k. left k *ℤ right k)) = turn (factors c.requires) c.loop-k-test.true c.loop-k.invariant.1 in
     this-turn.add
 
@@ -72,7 +72,7 @@ loop-k-preserved c =
     let left : ℕ → ℤ = λ k. at c.args.a.now (c.args.row + k) in
     let right : ℕ → ℤ = λ k. at c.args.b.now (c.args.column + k * c.args.stride) in
     let this-turn : Turn (left c.loop-k.k) (right c.loop-k.k)
-    c.loop-k.sum
+    c.loop-k.sum-bits
     (Sum (c.loop-k.k + 1) (λ k. left k *ℤ right k)) = turn (factors c.requires) c.loop-k-test.true c.loop-k.invariant.1 in
     (omega arith, this-turn.next)
 

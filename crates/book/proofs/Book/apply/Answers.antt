@@ -10,8 +10,7 @@ use Rattle.book.proofs.Book.apply.Goals as goal
 
 pub returns-in-Edit : goal.returns-in-Edit
 returns-in-Edit c =
-    let k = c.call-1.given in
-    (rw k.1 (c.edit.ensures.0 ∙ ap (λ (p : ℤ). outcome c.args.self (Edit p k.0.1.0)) (to_z-of_z {w = w64} (search rules))), c.edit.ensures.1)
+    (rw c.in-Edit.is (c.edit.ensures.0 ∙ ap (λ (p : ℤ). outcome c.args.self (Edit p c.in-Edit.change)) (to_z-of_z {w = w64} (search rules))), c.edit.ensures.1)
 
 pub returns-in-Undo : goal.returns-in-Undo
 returns-in-Undo c = (rw c.in-Undo.is c.undo.ensures.0, c.undo.ensures.1)

@@ -26,7 +26,7 @@ pub returns-then-n-ne0 : goal.returns-then-n-ne0
 returns-then-n-ne0 c =
     let sound-self : SoundParts c.args.self = sound-parts _ (record { places = search (rules, length_mapped); entries = search (rules, length_mapped); matrix = search rules; right = search rules }) c.requires in
     let at_place : c.index_in-i.result ≡ place_of c.args.place = c.index_in-i.ensures ∙ ap (λ (z : ℤ). index_in z 256) (to_z-of_z {w = w64} c.ranges.place) in
-    let number : c.edit_no-n.result ≡ book_says c.args.self (Edit c.args.place c.args.change) = edit_number c.args.self sound-self _ c.args.place _ c.args.change _ _ _ refl (to_z-of_z {w = w64} c.fits.place) c.index_in-i.ensures c.record_at-current.ensures c.edit_no-n.ensures in
+    let number : c.edit_no-n.result ≡ book_says c.args.self (Edit c.args.place c.args.change) = edit_number c.args.self sound-self _ c.args.place _ c.args.change _ _ _ refl (to_z-of_z {w = w64} c.ranges.place) c.index_in-i.ensures c.record_at-current.ensures c.edit_no-n.ensures in
     edit_done c.args.self c.args.place c.args.change _ _ _ _ sound-self number at_place refl (settled-refused _ _ _ _ c.if-n-ne0.true refl)
 
 pub push-longer-requires : goal.push-longer-requires
@@ -38,7 +38,7 @@ pub put-book-requires : goal.put-book-requires
 put-book-requires c =
     let sound-self : SoundParts c.args.self = sound-parts _ (record { places = search (rules, length_mapped); entries = search (rules, length_mapped); matrix = search rules; right = search rules }) c.requires in
     let at_place : c.index_in-i.result ≡ place_of c.args.place = c.index_in-i.ensures ∙ ap (λ (z : ℤ). index_in z 256) (to_z-of_z {w = w64} c.ranges.place) in
-    let number : c.edit_no-n.result ≡ book_says c.args.self (Edit c.args.place c.args.change) = edit_number c.args.self sound-self _ c.args.place _ c.args.change _ _ _ refl (to_z-of_z {w = w64} c.fits.place) c.index_in-i.ensures c.record_at-current.ensures c.edit_no-n.ensures in
+    let number : c.edit_no-n.result ≡ book_says c.args.self (Edit c.args.place c.args.change) = edit_number c.args.self sound-self _ c.args.place _ c.args.change _ _ _ refl (to_z-of_z {w = w64} c.ranges.place) c.index_in-i.ensures c.record_at-current.ensures c.edit_no-n.ensures in
     let m = edit_may_put c.args.self c.args.place c.args.change _ _ at_place c.puts_of-r.ensures (sym number ∙ c.if-n-ne0.false) in
     (m.inside, m.fits, sound-self)
 
@@ -46,7 +46,7 @@ pub returns : goal.returns
 returns c =
     let sound-self : SoundParts c.args.self = sound-parts _ (record { places = search (rules, length_mapped); entries = search (rules, length_mapped); matrix = search rules; right = search rules }) c.requires in
     let at_place : c.index_in-i.result ≡ place_of c.args.place = c.index_in-i.ensures ∙ ap (λ (z : ℤ). index_in z 256) (to_z-of_z {w = w64} c.ranges.place) in
-    let number : c.edit_no-n.result ≡ book_says c.args.self (Edit c.args.place c.args.change) = edit_number c.args.self sound-self _ c.args.place _ c.args.change _ _ _ refl (to_z-of_z {w = w64} c.fits.place) c.index_in-i.ensures c.record_at-current.ensures c.edit_no-n.ensures in
+    let number : c.edit_no-n.result ≡ book_says c.args.self (Edit c.args.place c.args.change) = edit_number c.args.self sound-self _ c.args.place _ c.args.change _ _ _ refl (to_z-of_z {w = w64} c.ranges.place) c.index_in-i.ensures c.record_at-current.ensures c.edit_no-n.ensures in
     edit_done c.args.self c.args.place c.args.change _ _ _ _ sound-self number at_place c.puts_of-r.ensures
     (settled_done _ _ _ _ c.if-n-ne0.false
     (ap (λ (x : Book). record { refusal = 0; book = x }) (edited-is c.args.self _ _ _ _ _ c.record_at-current.ensures c.push-longer.ensures c.put-book.ensures)))

@@ -1,4 +1,5 @@
 -- By the number: 0 to 2 are cases of the definition, the place read back from its bits; any other is `other_row`. Assumes nothing.
+use native.Mathlib.Omega.{arith}
 use mir.Syntax.{w64}
 use mir.Facts.{to_z-of_z}
 use Rattle.book.specs.Rows.{row_of}
@@ -18,4 +19,4 @@ unfolding row_of
 returns-in-2 c = rw c.in-2.is
 
 pub returns-in_default : goal.returns-in_default
-returns-in_default c = let r = c.in-0.rest in other_row _ _ _ r.0.0.1 r.0.1 r.1
+returns-in_default c = other_row _ _ _ (λ e. omega arith) (λ e. omega arith) (λ e. omega arith)

@@ -47,9 +47,6 @@ loop-k-preserved c =
       a.ensures.sound,
     )
 
-pub UNMAPPED_same-length : goal.UNMAPPED_same-length
-UNMAPPED_same-length c = c.loop-k.invariant.1.long
-
 pub returns : goal.returns
 returns c =
     let w = c.args.calls.now in

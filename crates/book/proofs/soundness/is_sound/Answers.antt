@@ -14,21 +14,21 @@ use Rattle.book.proofs.soundness.is_sound.Goals as goal
 pub returns-then-not-rules_fit : goal.returns-then-not-rules_fit
 returns-then-not-rules_fit c =
     let book : Book = c.args.book in
-    let rules : rules_fit book.network book.places book.journal ≡ c.rules_fit.result = sym (c.rules_fit.ensures ∙ ap (λ (l : List Place). rules_fit book.network l book.journal) c.place_words-places.ensures) in
-    rules_fail book (rules ∙ c.if-not-rules_fit.true)
+    let rules_told : rules_fit book.network book.places book.journal ≡ c.rules_fit.result = sym (c.rules_fit.ensures ∙ ap (λ (l : List Place). rules_fit book.network l book.journal) c.place_words-places.ensures) in
+    rules_fail book (rules_told ∙ c.if-not-rules_fit.true)
 
 pub are_of-requires : goal.are_of-requires
 are_of-requires c =
     let book : Book = c.args.book in
-    let rules : rules_fit book.network book.places book.journal ≡ c.rules_fit.result = sym (c.rules_fit.ensures ∙ ap (λ (l : List Place). rules_fit book.network l book.journal) c.place_words-places.ensures) in
+    let rules_told : rules_fit book.network book.places book.journal ≡ c.rules_fit.result = sym (c.rules_fit.ensures ∙ ap (λ (l : List Place). rules_fit book.network l book.journal) c.place_words-places.ensures) in
     let lengths : (length c.args.book.normals.matrix ≡ 2304) × (length c.args.book.normals.right ≡ 48) = search rules in
     (search rules, by_rules c.args.book.network _ c.args.book.journal (sym c.rules_fit.ensures ∙ c.if-not-rules_fit.false), lengths.0, lengths.1)
 
 pub returns : goal.returns
 returns c =
     let book : Book = c.args.book in
-    let rules : rules_fit book.network book.places book.journal ≡ c.rules_fit.result = sym (c.rules_fit.ensures ∙ ap (λ (l : List Place). rules_fit book.network l book.journal) c.place_words-places.ensures) in
+    let rules_told : rules_fit book.network book.places book.journal ≡ c.rules_fit.result = sym (c.rules_fit.ensures ∙ ap (λ (l : List Place). rules_fit book.network l book.journal) c.place_words-places.ensures) in
     let b = book in
     c.are_of.ensures
     ∙ ap (λ (l : List Place). same_normals b.normals (normals_of b.network.stations l)) c.place_words-places.ensures
-    ∙ rules_hold b (rules ∙ c.if-not-rules_fit.false)
+    ∙ rules_hold b (rules_told ∙ c.if-not-rules_fit.false)

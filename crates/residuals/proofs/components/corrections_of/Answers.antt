@@ -21,7 +21,7 @@ loop-q-init c = (search rules, starts (pos 0) 96 _ _ (search rules))
 pub offset_bounds-x-k : goal.offset_bounds-x-k
 offset_bounds-x-k c =
     let below : (q : ℕ) → q < 96 → get_or c.numbers_of-number.result q 0 < length c.args.x.now = λ q h. rw (c.numbers_of-number.ensures, get_d_tabulate 96 (unknown_index c.args.stations) q 0 h, c.requires.1.long) (unknown_index_below c.args.stations q h c.requires.0) in
-    let k = below c.loop-q.q (omega (arith, c.loop-q-test.true)) in omega (arith, k, c.well-formed.1.0)
+    let k = below c.loop-q.q (omega (arith, c.loop-q-test.true)) in omega (arith, k, c.well_formed.1.0)
 
 pub bounds-x-k : goal.bounds-x-k
 bounds-x-k c =

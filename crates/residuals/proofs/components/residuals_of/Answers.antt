@@ -28,21 +28,21 @@ residual-x-requires c =
     let value : (a : ℕ) → nat_abs (stored (get_or c.misclosures_of-l.result a (pos 0))) ≤ 100000 = λ a. kept (get_or c.misclosures_of-l.result a (pos 0)) (rw c.misclosures_of-l.ensures (c.requires.closes a)) tt in
     let joined : nat_abs (stored c.joins_of-j.result) ≤ 1 = kept c.joins_of-j.result (rw c.joins_of-j.ensures (joins-one c.args.r)) tt in
     let ht = c.requires.observed.to in let hf = c.requires.observed.from in
-    record { work_length_in_bounds = omega (arith, c.to_of-t.ensures); most_unknowns_in_bounds = (omega (arith, c.from_of-f.ensures), omega arith, value 0, joined, c.requires.moved) }
+    (omega (arith, c.to_of-t.ensures), omega (arith, c.from_of-f.ensures), omega arith, value 0, joined, c.requires.moved)
 
 pub residual-y-requires : goal.residual-y-requires
 residual-y-requires c =
     let value : (a : ℕ) → nat_abs (stored (get_or c.misclosures_of-l.result a (pos 0))) ≤ 100000 = λ a. kept (get_or c.misclosures_of-l.result a (pos 0)) (rw c.misclosures_of-l.ensures (c.requires.closes a)) tt in
     let joined : nat_abs (stored c.joins_of-j.result) ≤ 1 = kept c.joins_of-j.result (rw c.joins_of-j.ensures (joins-one c.args.r)) tt in
     let ht = c.requires.observed.to in let hf = c.requires.observed.from in
-    record { work_length_in_bounds = omega (arith, c.to_of-t.ensures); most_unknowns_in_bounds = (omega (arith, c.from_of-f.ensures), omega arith, value 1, joined, c.requires.moved) }
+    (omega (arith, c.to_of-t.ensures), omega (arith, c.from_of-f.ensures), omega arith, value 1, joined, c.requires.moved)
 
 pub residual-z-requires : goal.residual-z-requires
 residual-z-requires c =
     let value : (a : ℕ) → nat_abs (stored (get_or c.misclosures_of-l.result a (pos 0))) ≤ 100000 = λ a. kept (get_or c.misclosures_of-l.result a (pos 0)) (rw c.misclosures_of-l.ensures (c.requires.closes a)) tt in
     let joined : nat_abs (stored c.joins_of-j.result) ≤ 1 = kept c.joins_of-j.result (rw c.joins_of-j.ensures (joins-one c.args.r)) tt in
     let ht = c.requires.observed.to in let hf = c.requires.observed.from in
-    record { work_length_in_bounds = omega (arith, c.to_of-t.ensures); most_unknowns_in_bounds = (omega (arith, c.from_of-f.ensures), omega arith, value 2, joined, c.requires.moved) }
+    (omega (arith, c.to_of-t.ensures), omega (arith, c.from_of-f.ensures), omega arith, value 2, joined, c.requires.moved)
 
 pub returns : goal.returns
 returns c =

@@ -1,4 +1,5 @@
 -- By the number of components that the record observes: `single-divided` where there is no weight or one, `matrix-divided` for a matrix. Assumes nothing.
+use native.Mathlib.Omega.{arith}
 use borrow.Author.Rules.{rules}
 use Prim.Native.Nat.{ℕ, zero, suc}
 use mathlib.Core.Path.{◌≡◌, refl, sym, ap, ◌∙◌, subst}
@@ -26,8 +27,8 @@ more (suc (suc n)) w p q g = g
 
 pub adjugate_of-requires : goal.adjugate_of-requires
 adjugate_of-requires c =
-    let some : observations c.args.r ≡ 0 → ⊥ = λ e. c.in-0.rest.0.1 (c.observations_of.ensures ∙ e) in
-    let not-one : observations c.args.r ≡ 1 → ⊥ = λ e. c.in-0.rest.1 (c.observations_of.ensures ∙ e) in
+    let some : observations c.args.r ≡ 0 → ⊥ = λ e. let h = c.observations_of.ensures ∙ e in omega arith in
+    let not-one : observations c.args.r ≡ 1 → ⊥ = λ e. let h = c.observations_of.ensures ∙ e in omega arith in
     let matrix : MatrixQuotients (weight_matrix_of c.args.r) = more _ _ some not-one c.requires in
     subst SmallWeights (sym c.weight_matrix_of-w.ensures) matrix.small
 
@@ -48,8 +49,8 @@ returns-in-1 c =
 
 pub returns-in_default : goal.returns-in_default
 returns-in_default c =
-    let some : observations c.args.r ≡ 0 → ⊥ = λ e. c.in-0.rest.0.1 (c.observations_of.ensures ∙ e) in
-    let not-one : observations c.args.r ≡ 1 → ⊥ = λ e. c.in-0.rest.1 (c.observations_of.ensures ∙ e) in
+    let some : observations c.args.r ≡ 0 → ⊥ = λ e. let h = c.observations_of.ensures ∙ e in omega arith in
+    let not-one : observations c.args.r ≡ 1 → ⊥ = λ e. let h = c.observations_of.ensures ∙ e in omega arith in
     let matrix : MatrixQuotients (weight_matrix_of c.args.r) = more _ _ some not-one c.requires in
     let w = rw c.weight_matrix_of-w.ensures at c.adjugate_of.ensures in
     matrix_divided c.args.r c.adjugate_of.result some not-one matrix w.0 w.1 w.2 w.3
