@@ -28,7 +28,7 @@ pub record Ahead (r₀ : Run) (k₀ : KeptLine) (chunk before : List ℕ) (r : R
 -- a run before its first byte, whatever the lent bytes, the lists and the line buffer hold: there is no book before the opening
 pub record Begun (t : Taken) : Type 0 where
   pub run : (b : Book) (list x m : List ℤ) → run_of t.state b list x m ≡ start
-  pub blank : (line : List ℕ) → holds line t.len t.over ≡ lines.nothingHeld
+  pub blank : (line : List ℕ) → holds line t.len t.over ≡ lines.nothing_held
   pub ready : (bytes : List ℕ) (list x m : List ℤ) → book_bytes ≤ length bytes → list_room ≤ length list → most_corrections ≤ length x → most_entries ≤ length m → Ready t.state bytes list x m
   pub lines : t.state.lines ≡ 0
   pub short : t.len ≡ 0

@@ -73,7 +73,7 @@ entry_right x k h = rw (le-ltb k 2304 h)
 
 -- ════ by the rules
 network-fits : network_fits sample_network ≡ true
-unfolding network_fits blank_beyond coordinates_fit unknowns_fit all_below is_blank is_known coordinate coordinate_in unknown unknown_in number Rattle.integers.specs.Sums.sumN sample_network
+unfolding network_fits blank_beyond coordinates_fit unknowns_fit all_below is_blank is_known coordinate coordinate_in unknown unknown_in number Rattle.integers.specs.Sums.sum_n sample_network
 network-fits = refl
 
 abbrev tests : ℕ → Bool

@@ -2,7 +2,7 @@
 -- from the book that an accepted opening gives, for every list of calls ("enters, strikes and undos", document 02's request 3), with any arguments,
 -- refused ones among them. Assumes nothing.
 --   opened_book, book_next, book_says   specs/Book.antt     the book's calls: what their contracts promise
---   empty_ledger, ledger_next, ledger_says  specs/Ledger.antt   the ledger; standing: its record at a place; ledgerNormals: its N and u, worked out afresh
+--   empty_ledger, ledger_next, ledger_says  specs/Ledger.antt   the ledger; standing: its record at a place; ledger_normals: its N and u, worked out afresh
 --   final, answers                   specs/Run.antt      the state after a run, and the answers along it
 --   row_next, row_says                 specs/Rows.antt     a row is a call (Names), or words that name none (Nameless): answered −1, and nothing changes
 use Rattle.std.specs.Prelude.{ℕ, ◌<◌, ◌≤◌, ◌≡◌, true, List, ◌↔◌, ℤ, pos, length, get_or, take}

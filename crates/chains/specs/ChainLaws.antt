@@ -166,7 +166,7 @@ module _ (net : Network) (places : List Place) (g : EndsInRange net places) wher
       (λ e. is_tied_lem q e ∙ tied_whole net places (q % 3) g (q / 3) (h (q % 3) (q / 3) (omega arith) (omega arith) (ap (unknown net.stations) i ∙ e)))
       (unknown_cases net.stations q))
 
-  -- where it fails, `firstUntied` is the first unknown without a chain
+  -- where it fails, `first_untied` is the first unknown without a chain
   pub first_untied_lem : all_tied net places ≡ false → FirstWithoutChain net places (first_untied net places)
   unfolding all_tied first_untied is_tied
   first_untied_lem e = go (first_fails (is_tied net places) 96 e) (unknown_cases net.stations (first_failing 96 (is_tied net places)))

@@ -20,7 +20,7 @@ unfoldable pub then_nine : Answer → Bool → Answer
 then_nine Accepted fits = cond fits Accepted (Refused TooLarge)
 then_nine (Refused refusal) fits = Refused refusal
 
--- ════ the answer; room: the sheet, where one is lent, has room. Its number and values are acceptance's numberOf and unknownOf
+-- ════ the answer; room: the sheet, where one is lent, has room. Its number and values are acceptance's number_of and unknown_of
 unfoldable pub checked : Book → List ℤ → List ℤ → Bool → Answer
 checked b x m room = then_nine (answer b.network b.places x m room) (sizes_fit b.network b.places x)
 

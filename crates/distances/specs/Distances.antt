@@ -20,7 +20,7 @@ use Rattle.distances.specs.declared.Agreement.{Agreement}
 use Rattle.distances.specs.declared.Agreement.TheVariants.{Agrees, Disagrees, Refused}
 
 -- ════ 17: "a value out of range"
--- "Heights are 0 to 300,000" (`heightAboveMarkFits`, in crate network), "s is 1 to 1,800,000,000, t is 0 to 100,000 and below s."
+-- "Heights are 0 to 300,000" (`height_above_mark_fits`, in crate network), "s is 1 to 1,800,000,000, t is 0 to 100,000 and below s."
 unfoldable pub distance_in_range : CheckDistance → Bool
 distance_in_range d =
     height_above_mark_fits d.instrument && height_above_mark_fits d.target

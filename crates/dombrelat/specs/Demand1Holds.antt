@@ -34,15 +34,15 @@ use Rattle.files.specs.Force.{file_number, in_force}
 use Rattle.files.specs.declared.FileRefusal.{FileRefusal}
 use Rattle.files.specs.declared.FileRefusal.TheVariants.{BadPlace, NoRoom, NotCarried}
 use Rattle.files.specs.declared.EntryFound.{EntryFound}
-use Rattle.files.specs.declared.EntryFound.TheVariants.{InNight, InDay, Refused as notFound}
+use Rattle.files.specs.declared.EntryFound.TheVariants.{InNight, InDay, Refused as not_found}
 use Rattle.book_files.specs.Writing.{book_entries, all_carried, write_answer, file_left}
 use Rattle.book_files.specs.Entering.{calls_in, enter_answer}
-use Rattle.book_files.specs.declared.FileWritten.TheVariants.{Length, Refused as notWritten}
+use Rattle.book_files.specs.declared.FileWritten.TheVariants.{Length, Refused as not_written}
 use Rattle.book_files.specs.declared.Entered.{Entered}
-use Rattle.book_files.specs.declared.Entered.TheVariants.{Done, Refused as notEntered}
+use Rattle.book_files.specs.declared.Entered.TheVariants.{Done, Refused as not_entered}
 use Rattle.salvage.specs.Salvage.{salvage_answer, fresh_left, skipped_left, kept_left}
 use Rattle.salvage.specs.declared.Salvaged.{Salvaged}
-use Rattle.salvage.specs.declared.Salvaged.TheVariants.{Counts, Refused as notSalvaged}
+use Rattle.salvage.specs.declared.Salvaged.TheVariants.{Counts, Refused as not_salvaged}
 use Rattle.dombrelat.specs.Calls.{Returned, refused_with, answered_with, through, edit_call, open_call}
 use Rattle.dombrelat.specs.CheckCalls.{Judged, judged_lent, check_call, sheet_call, distance_call}
 use Rattle.dombrelat.specs.Proposal.{Proposes}
@@ -113,7 +113,7 @@ settled_right s e l = record { told = told-small e.refusal l; stays = go e.refus
 -- ════ openings and edits
 -- an opening's number is 0 or 1
 pub opening-small : (w : List ℤ) → (opening w).refusal ≤ 9
-opening-small w = go (stations.opens w) (opened_book (stations.networkOf w)) (opened_book (stations.networkOf []))
+opening-small w = go (stations.opens w) (opened_book (stations.network_of w)) (opened_book (stations.network_of []))
   where
     go : (t : Bool) (a b : Book) → (cond {A = Edited} t (record { refusal = 0; book = a }) (record { refusal = 1; book = b })).refusal ≤ 9
     go true a b = let h : 0 ≤ 9 = omega arith in h
@@ -260,7 +260,7 @@ write_right s file =
   where
     go : (t u v : Bool)
         → Right (pos (128 * length (book_entries (book_of s)))) file
-        (let w = cond u (cond v (Length (128 * length (book_entries (book_of s)))) (notWritten NotCarried)) (notWritten NoRoom) in
+        (let w = cond u (cond v (Length (128 * length (book_entries (book_of s)))) (not_written NotCarried)) (not_written NoRoom) in
         cond t (record { answer = written_word w; bytes = file_left w (book_of s) file }) (refused_with 25 file))
     go true true true = record { told = told-given _; stays = λ h. absurd (h (length_none (length (book_entries (book_of s))))) }
     go true true false = number_right _ file NotCarried
@@ -281,7 +281,7 @@ found_right night day p out =
     shown : (f : EntryFound) → Right (pos 0) out (given_found f out)
     shown (InNight at) = record { told = told-given (pos 0); stays = λ h. absurd (h (given-none 0)) }
     shown (InDay at) = record { told = told-given (pos 0); stays = λ h. absurd (h (given-none 0)) }
-    shown (notFound r) = number_right (pos 0) out r
+    shown (not_found r) = number_right (pos 0) out r
 
 -- a file entered: one refused leaves the book and the answers as they came, and else the book's bytes fit
 record EntersRight (s before : List ℕ) (e : FileEntered) : Type 0 where
@@ -298,7 +298,7 @@ enter_right s file before = go (bytes_fit s) refl (enter_answer file (length bef
 
     go : (t : Bool) → bytes_fit s ≡ t → (e : Entered) → EntersRight s before (cond t (entered_into e s file before) (record { answer = pos 25; book = s; answers = before }))
     go true f Done = record { told = told-given (pos 0); stays = λ h. absurd (h (given-none 0)); fits = λ e. run_fits s f (calls_in file) }
-    go true f (notEntered r) = small (file_number r) (number-least r) (let h = number_most_lem r in omega arith)
+    go true f (not_entered r) = small (file_number r) (number-least r) (let h = number_most_lem r in omega arith)
     go false f e = small 25 (omega arith) (omega arith)
 
 -- a file salvaged: one refused leaves all four slices as they came
@@ -308,13 +308,13 @@ record SalvagesRight (fresh skipped kept counts : List ℕ) (r : SalvageReturned
 
 salvage_right : (f fresh skipped kept counts : List ℕ) → SalvagesRight fresh skipped kept counts (salvage_call f fresh skipped kept counts)
 unfolding salvage_call fresh_left skipped_left kept_left
-salvage_right f fresh skipped kept counts = go (cond (leb 16 (length counts)) (salvage_answer f (length fresh) (length skipped) (length kept)) (notSalvaged NoRoom))
+salvage_right f fresh skipped kept counts = go (cond (leb 16 (length counts)) (salvage_answer f (length fresh) (length skipped) (length kept)) (not_salvaged NoRoom))
   where
     go : (s : Salvaged)
         → SalvagesRight fresh skipped kept counts
         (record { answer = salvaged_word s; fresh = fresh_left s f fresh; skipped = skipped_left s f skipped; kept = kept_left s f kept; counts = counts_left s counts })
     go (Counts n) = record { told = told-given (pos 0); stays = λ h. absurd (h (given-none 0)) }
-    go (notSalvaged r) = record { told = told-refusal (pos 0) (file_number r) (number-least r) (let h = number_most_lem r in omega arith); stays = λ h. (refl, refl, refl, refl) }
+    go (not_salvaged r) = record { told = told-refusal (pos 0) (file_number r) (number-least r) (let h = number_most_lem r in omega arith); stays = λ h. (refl, refl, refl, refl) }
 
 -- ════ all calls
 told_as : (k r n : ℤ) → r ≡ n → Told k n → Told k r

@@ -10,19 +10,19 @@ use Rattle.files.specs.Files.{reads}
 use Rattle.files.specs.Force.{file_number, in_force}
 use Rattle.files.specs.declared.FileRefusal.TheVariants.{BadPlace, NoRoom, Unreadable}
 use Rattle.files.specs.declared.EntryFound.{EntryFound}
-use Rattle.files.specs.declared.EntryFound.TheVariants.{InNight, InDay, Refused as notFound}
+use Rattle.files.specs.declared.EntryFound.TheVariants.{InNight, InDay, Refused as not_found}
 use Rattle.book_files.specs.Writing.{write_answer, file_left}
 use Rattle.book_files.specs.Entering.{calls_in, enter_answer}
 use Rattle.book_files.specs.declared.FileWritten.{FileWritten}
-use Rattle.book_files.specs.declared.FileWritten.TheVariants.{Length, Refused as notWritten}
+use Rattle.book_files.specs.declared.FileWritten.TheVariants.{Length, Refused as not_written}
 use Rattle.book_files.specs.declared.Entered.{Entered}
-use Rattle.book_files.specs.declared.Entered.TheVariants.{Done, Refused as notEntered}
+use Rattle.book_files.specs.declared.Entered.TheVariants.{Done, Refused as not_entered}
 use Rattle.dombrelat.specs.Calls.{Returned, refused_with, bytes_next, bytes_says}
 
 -- ════ a book written. "A write returns its length": no refusal's number is a multiple of 128
 abbrev pub written_word : FileWritten → ℤ
 written_word (Length n) = pos n
-written_word (notWritten r) = pos (file_number r)
+written_word (not_written r) = pos (file_number r)
 
 unfoldable pub write_call : List ℕ → List ℕ → Returned
 write_call s file =
@@ -35,7 +35,7 @@ longest_file = 32768
 
 abbrev pub LengthSmall : FileWritten → Type 0
 LengthSmall (Length n) = n ≤ longest_file
-LengthSmall (notWritten r) = Unit {0}
+LengthSmall (not_written r) = Unit {0}
 
 -- ════ a file tested
 unfoldable pub check_file_call : List ℕ → ℤ
@@ -48,7 +48,7 @@ found_in file at out = record { answer = pos 0; bytes = put_words out 0 (file �
 abbrev pub given_found : EntryFound → List ℕ → Returned
 given_found (InNight at) out = found_in (pos 1) at out
 given_found (InDay at) out = found_in (pos 2) at out
-given_found (notFound r) out = refused_with (file_number r) out
+given_found (not_found r) out = refused_with (file_number r) out
 
 unfoldable pub found_call : List ℕ → List ℕ → ℤ → List ℕ → Returned
 found_call night day place out =
@@ -62,13 +62,13 @@ pub record FileEntered : Type 0 where
 
 abbrev pub entered_word : Entered → ℤ
 entered_word Done = pos 0
-entered_word (notEntered r) = pos (file_number r)
+entered_word (not_entered r) = pos (file_number r)
 
 -- each is judged as a call of its own, and has an answer word of its own
 abbrev pub entered_into : Entered → List ℕ → List ℕ → List ℕ → FileEntered
 entered_into Done s file before =
     record { answer = pos 0; book = final bytes_next s (calls_in file); answers = put_words before 0 (answers bytes_next bytes_says s (calls_in file)) }
-entered_into (notEntered r) s file before = record { answer = pos (file_number r); book = s; answers = before }
+entered_into (not_entered r) s file before = record { answer = pos (file_number r); book = s; answers = before }
 
 unfoldable pub enter_call : List ℕ → List ℕ → List ℕ → FileEntered
 enter_call s file before =

@@ -34,7 +34,7 @@ unfoldable pub all_calls : List Step → List Call
 all_calls [] = []
 all_calls (x ∷ xs) = calls_of x ++ all_calls xs
 
--- the bytes that a step leaves, and the answers to its calls: those of a file's entries are the words that `enterCall` writes (`answers-written`)
+-- the bytes that a step leaves, and the answers to its calls: those of a file's entries are the words that `enter_call` writes (`answers-written`)
 abbrev pub step_next : List ℕ → Step → List ℕ
 step_next s (single c) = bytes_next s c
 step_next s (whole file before) = (enter_call s file before).book

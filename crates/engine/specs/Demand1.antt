@@ -2,7 +2,7 @@
 -- Document 01: "It changes neither book, history nor sheet. A refused opening makes no book". The crate dombrelat states it again over the C calls. Assumes nothing.
 --   opening, outcome      book, specs/Book.antt      what the contracts of `Book::open` and of the edits promise: the answer, and the book afterwards
 --   checked, sheet_after   checks, specs/Checks.antt  what those of `check` and `check_sheet` promise; answer_number (acceptance, specs/Judge.antt): the number of an answer
---   agreement             distances, specs/Distances.antt   what that of `check_distance` promises; agreementNumber: its number
+--   agreement             distances, specs/Distances.antt   what that of `check_distance` promises; agreement_number: its number
 --   Proposed              specs/Proposals.antt       what that of `propose` promises
 use Rattle.std.specs.Prelude.{◌≡◌, true, List, [], ◌∷◌, ℤ, pos, negsuc, ◌≢◌}
 use Rattle.acceptance.specs.Judge.{answer_number}

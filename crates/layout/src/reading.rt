@@ -67,8 +67,8 @@ pub fn network_in(s: &[u8]) -> Network
 
 // The words of a record, the first of them word k.
 pub fn record_at(s: &[u8], k: usize) -> [i64; Record::LENGTH]
-    requires { (book_bytes ≤ length s.now) × (k + words.recordLength ≤ book_length) }
-    ensures { result ≡ words_at s.now (8 * k) words.recordLength }
+    requires { (book_bytes ≤ length s.now) × (k + words.record_length ≤ book_length) }
+    ensures { result ≡ words_at s.now (8 * k) words.record_length }
 {
     let mut w = [0i64; Record::LENGTH];
     words::read_words(s, 8 * k, &mut w);
@@ -76,8 +76,8 @@ pub fn record_at(s: &[u8], k: usize) -> [i64; Record::LENGTH]
 }
 
 fn entry_in(s: &[u8], k: usize) -> Record
-    requires { (book_bytes ≤ length s.now) × (k + words.recordLength ≤ book_length) }
-    ensures { result ≡ words.recordIn (words_of s.now) k }
+    requires { (book_bytes ≤ length s.now) × (k + words.record_length ≤ book_length) }
+    ensures { result ≡ words.record_in (words_of s.now) k }
 {
     let w = record_at(s, k);
     network::record_in(&w, 0)

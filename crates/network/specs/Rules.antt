@@ -41,7 +41,7 @@ height_above_mark_fits h = le_z (pos 0) h && le_z h (pos most_height_above_mark)
 unfoldable pub up_in_range : Baseline → Bool
 up_in_range b = observed_fits b.up && height_above_mark_fits b.hf && height_above_mark_fits b.ht && observed_fits (reduced_up b)
 
--- "Diagonal and single weights 1 to 10,000; off-diagonals within ±10,000": `weightFits` and `weightsInRange`, in crate weights
+-- "Diagonal and single weights 1 to 10,000; off-diagonals within ±10,000": `weight_fits` and `weights_in_range`, in crate weights
 unfoldable pub baseline_in_range : Baseline → Bool
 baseline_in_range b = observed_fits b.east && observed_fits b.north && up_in_range b && weights_in_range (weight_matrix_of (baseline b))
 
@@ -60,7 +60,7 @@ in_range (height h) = height_in_range h
 in_range (position p) = position_in_range p
 
 -- ════ 5: "A matrix needs all three leading minors positive, and each diagonal entry of its adjugate at most 16 times its determinant":
--- `matrixFits`, in crate weights; of a record that has a matrix, which observes three components
+-- `matrix_fits`, in crate weights; of a record that has a matrix, which observes three components
 unfoldable pub record_matrix_fits : Record → Bool
 record_matrix_fits r = cond (eqb (observations r) 3) (matrix_fits (weight_matrix_of r)) true
 

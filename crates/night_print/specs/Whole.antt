@@ -1,4 +1,4 @@
--- A whole text, however it is cut into chunks: what the calls print one after the other is what `printOf` says of the text. Assumes nothing.
+-- A whole text, however it is cut into chunks: what the calls print one after the other is what `print_of` says of the text. Assumes nothing.
 use Rattle.std.specs.Prelude.{ℕ, suc, ◌≡◌, refl, Bool, true, false, cond, List, [], ◌∷◌, ◌++◌, map, take}
 use Rattle.std.proofs.Common.{sym, ap, ◌∙◌, append_assoc, append-nil}
 use Rattle.text.specs.Lines.{KeptLine, kept, nothing_held, came, came_all, concat, last_kept, lines_of}

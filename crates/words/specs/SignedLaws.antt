@@ -1,4 +1,4 @@
--- Laws of the signed helpers: `eqZ` is equality, the size of a number between limits, `indexIn` is an index exactly of 1 to n, and
+-- Laws of the signed helpers: `eq_z` is equality, the size of a number between limits, `index_in` is an index exactly of 1 to n, and
 -- `signed` and `unsigned` undo each other. Assumes nothing.
 use Rattle.std.specs.Prelude.{◌≡◌, refl, true, false, cond, ◌&&◌, ℕ, zero, suc, ◌-◌, ◌<◌, ◌≤◌, ◌^◌, ltb, ℤ, pos, negsuc, nat_abs}
 use Rattle.std.proofs.Common.{ap, arith, lt_irrefl, eqb-true, eq-eqb, lt-ltb, le-ltb, leb-true, le-leb, SFits}

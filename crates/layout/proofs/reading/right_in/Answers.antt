@@ -1,0 +1,11 @@
+-- `right_in` reads a part of N and u. Assumes nothing.
+use mathlib.Core.Path.{sym, ◌∙◌}
+use native.Mathlib.Omega.{arith}
+use Rattle.layout.specs.Layout.{book_in, right_start, book_length}
+use Rattle.layout.specs.RunPatches.{part_at}
+use borrow.Author.Rules.{rules}
+use Rattle.layout.proofs.reading.right_in.Goals as goal
+
+pub returns : goal.returns
+unfolding book_in
+returns c = c.read_words.ensures ∙ sym (part_at c.args.s.now 0 book_length right_start 48 (omega arith))
