@@ -1,6 +1,5 @@
 // The thin reader over a lent slice of station structs: it lays the stations' numbers out flat and opens the book on them.
-// The three functions here take the slice, which the prover does not follow by itself: each is proved by hand, step by step of its code, so
-// a change of the code is a change of the proof. What can be done on plain numbers is done in `numbers`.
+// What can be done on plain numbers is done in `numbers`.
 #![tactic(auto)]
 
 mod numbers;

@@ -11,7 +11,7 @@ use Rattle.sheet.specs.Totals.{share_tin, Weighed, weighed_at, Summed, summed-no
 use Rattle.sheet.proofs.totals.t_of.Given as goal
 
 abbrev pub invariant-loop-p : goal.invariant-loop-p
-invariant-loop-p l = (l.p ≤ 256) × Summed l.unknown l.coordinate l.correction (places_in l.places) l.t-bits l.p
+invariant-loop-p l = (l.p ≤ 256) × Summed l.unknown l.coordinate l.correction (places_in l.places) l.t l.p
 
 abbrev pub decreases-loop-p : goal.decreases-loop-p
 decreases-loop-p l = 256 - l.p
