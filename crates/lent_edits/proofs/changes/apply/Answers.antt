@@ -21,7 +21,7 @@ applied s x y n t fit e p =
 
 pub returns-in-Edit : goal.returns-in-Edit
 returns-in-Edit c =
-    let e = (λ i. Edit (to_z-of_z {w = w64} {z = c.in-Edit.place} (search rules) i) c.call-1.given.0.1.0) ∙ sym c.in-Edit.is in
+    let e = (λ i. Edit (to_z-of_z {w = w64} {z = c.in-Edit.place} (search rules) i) c.in-Edit.change) ∙ sym c.in-Edit.is in
     applied c.args.s.now _ c.args.call _ _ c.requires e c.change_place.ensures
 
 pub returns-in-Undo : goal.returns-in-Undo

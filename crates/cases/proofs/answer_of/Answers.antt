@@ -4,14 +4,7 @@ use native.Mathlib.Omega.{arith}
 use borrow.Author.Rules.{rules}
 use mir.Syntax.{w64}
 use mir.Facts.{to_z-of_z}
-use Rattle.cases.proofs.answer_of.Statement.{statement}
-use Rattle.cases.proofs.answer_of.Tie as tie
+use Rattle.cases.proofs.answer_of.Goals as goal
 
-cast-result : tie.Need-overflow-cast-result
-cast-result c = search rules
-
-returns : tie.Need-returns
+pub returns : goal.returns
 returns c = to_z-of_z {w = w64} (record { sfits = let h : c.args.refusal < 2 ^ 63 = omega arith in h })
-
-pub answer-of-spec : {M : Type 1} → statement M
-answer-of-spec = tie.close (tie.spec cast-result returns)

@@ -1,0 +1,29 @@
+-- By the answer: a refusal's number is at most 17 (`agreement-most`), so the cast keeps it. Assumes nothing.
+use borrow.Author.Rules.{rules}
+use Prim.Native.Nat.{◌≤◌}
+use mathlib.Core.Path.{◌≡◌, sym, ap, ◌∙◌, subst}
+use native.Mathlib.Omega.{arith}
+use lib.IntN.{ℤ, pos, nat_abs}
+use mir.Syntax.{w64}
+use mir.Facts.{to_z-of_z}
+use Rattle.distances.specs.Distances.{agreement_number}
+use Rattle.distances.specs.DistanceLaws.{agreement_most}
+use Rattle.distances.proofs.answer.number.Goals as goal
+
+pub overflow_cast-result : goal.overflow_cast-result
+overflow_cast-result c =
+    let number_is : pos c.refusal_number.result ≡ agreement_number c.args.a = ap pos c.refusal_number.ensures ∙ ap agreement_number (sym c.in-Refused.is) in
+    let h : c.refusal_number.result ≤ 17 = subst (λ (z : ℤ). nat_abs z ≤ 17) (sym number_is) (agreement_most c.args.a) in
+    record { sfits = omega arith }
+
+pub returns-in-Agrees : goal.returns-in-Agrees
+returns-in-Agrees c = ap agreement_number (sym c.in-Agrees.is)
+
+pub returns-in-Disagrees : goal.returns-in-Disagrees
+returns-in-Disagrees c = ap agreement_number (sym c.in-Disagrees.is)
+
+pub returns-in-Refused : goal.returns-in-Refused
+returns-in-Refused c =
+    let number_is : pos c.refusal_number.result ≡ agreement_number c.args.a = ap pos c.refusal_number.ensures ∙ ap agreement_number (sym c.in-Refused.is) in
+    let h : c.refusal_number.result ≤ 17 = subst (λ (z : ℤ). nat_abs z ≤ 17) (sym number_is) (agreement_most c.args.a) in
+    to_z-of_z {w = w64} (record { sfits = omega arith }) ∙ number_is
