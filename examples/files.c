@@ -2,8 +2,8 @@
  * the night file after a transfer that lost some of it, and what is salvaged. All that a program needs is include/dombrelat.h; docs/FILES.md has the words of an entry. At the repository's
  * root:
  *
- *     rt staticlib dombrelat
- *     gcc -std=c99 -Wall -Wextra -Iinclude examples/files.c target/staticlib/libdombrelat.a -o target/files && target/files
+ *     (cd crates/dombrelat && rt lib) && mkdir -p target
+ *     gcc -std=c99 -Wall -Wextra -Iinclude examples/files.c crates/dombrelat/out/libdombrelat.a -o target/files && target/files
  *
  * It treats an array of int64_t as the bytes of words, which holds on a little-endian machine. */
 #include "dombrelat.h"

@@ -1,8 +1,8 @@
 /* A small levelling network with a GNSS baseline and a national mark, from the station list to the printed sheet and two taped distances held against it. All that a program needs
  * is include/dombrelat.h. At the repository's root:
  *
- *     rt staticlib dombrelat
- *     gcc -std=c99 -Wall -Wextra -Iinclude examples/host.c target/staticlib/libdombrelat.a -o target/host && target/host
+ *     (cd crates/dombrelat && rt lib) && mkdir -p target
+ *     gcc -std=c99 -Wall -Wextra -Iinclude examples/host.c crates/dombrelat/out/libdombrelat.a -o target/host && target/host
  *
  * It treats an array of int64_t as the bytes of words, which holds on a little-endian machine. */
 #include "dombrelat.h"

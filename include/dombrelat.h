@@ -23,8 +23,8 @@
  *     switch (DOMBRELAT_REFUSAL(result)) {
  *     case DOMBRELAT_UNTIED: printf("unknown %d\n", (int)DOMBRELAT_NUMBER(result)); break; ...
  *
- * To link: `rt staticlib dombrelat` writes target/staticlib/libdombrelat.a, for x86-64 Linux; `cc -Iinclude host.c target/staticlib/libdombrelat.a`. examples/host.c is a whole program,
- * examples/files.c another, with files.
+ * To link: `(cd crates/dombrelat && rt lib)` writes crates/dombrelat/out/libdombrelat.a, for x86-64-v2 Linux; `cc -Iinclude host.c crates/dombrelat/out/libdombrelat.a`. examples/host.c is
+ * a whole program, examples/files.c another, with files.
  */
 #ifndef DOMBRELAT_H
 #define DOMBRELAT_H

@@ -1,4 +1,4 @@
-"""How bin/adjust builds the program: progress on standard error, interruptions, failures. In most tests a script stands in for `rt`; it prints what `rt check` prints.
+"""How bin/adjust builds the program: progress on standard error, interruptions, failures. In most tests a script stands in for `rt`; it prints what `rt run` prints.
 Each test gives what is wrong, or None."""
 import os
 import re
@@ -9,21 +9,26 @@ import subprocess
 import tempfile
 import time
 
-from program import LIMIT, PROGRAM, ROOT, WRAPPER
+from program import LIMIT, WRAPPER
 from wrapper import called, shown, tree, write_script
 
 START = re.compile(rb'adjust: building the program: (\d+) parts, [^\n]*proved before it is compiled[^\n]*minutes[^\n]*\n')
-LINE = re.compile(rb'adjust: (\d+) of (\d+): (\w+) proved \(([^\n]*)\); \d+ min \d+ s so far\n')
-PROGRAM_MADE = "mkdir -p target/bin; printf '#!/bin/sh\\necho REFUSED 1\\n' > target/bin/adjust; chmod +x target/bin/adjust\n"
-ONE, TWO, ADJUST = 'echo "fn one::f: proved"; echo "rt: one proved (12 s)"\n', 'echo "rt: two proved (unchanged since it was last proved)"\n', 'echo "rt: adjust proved (3 s)"; echo "rt: ok, 3 crates proved"\n'
-WANT = [(b'1', b'3', b'one', b'12 s'), (b'2', b'3', b'two', b'unchanged since it was last proved'), (b'3', b'3', b'adjust', b'3 s')]
+LINE = re.compile(rb'adjust: (\d+) of at most (\d+): (\w+) proved; \d+ min \d+ s so far\n')
+PROGRAM_MADE = "mkdir -p crates/adjust/out; printf '#!/bin/sh\\necho REFUSED 1\\n' > crates/adjust/out/adjust; chmod +x crates/adjust/out/adjust\n"
+ONE, TWO, ADJUST = ('echo "fn %s::f: proved"; echo "library low: modules loaded=1 checked=0"; echo "crate %s: modules loaded=0 checked=33"; echo "logic=proved functions=1"\n' % (name, name)
+                    for name in ('one', 'two', 'adjust'))
+WANT = [(b'1', b'3', b'one'), (b'2', b'3', b'two'), (b'3', b'3', b'adjust')]
+# a library of one function, and a program over it, both quickly proved
+TINY = {'crates.txt': 'one:\nadjust: one io\n',
+        'crates/one/src/lib.rt': '// A library.\n#![tactic(auto)]\n\nghost use Rattle.std.specs.Prelude.{◌≡◌};\n\npub fn same(x: u64) -> u64\n    ensures { result ≡ x }\n{\n    x\n}\n',
+        'crates/adjust/src/main.rt': '// A program.\n#![tactic(auto)]\n\nfn main() {\n    io::write_all(1, b"REFUSED ");\n    io::print_decimal(1, one::same(1));\n    io::write_all(1, b"\\n");\n}\n'}
 # A prover that rt waits for in the background: like all that a shell starts so, it does not hear a Ctrl-C.
 HANGS = '(trap "" INT; exec sleep 600) & echo $! > prover; wait\n'
 
 
 def with_rt(folder, script):
-    """The environment in which the script is `rt`; it notes each call in the file `calls`."""
-    write_script(os.path.join(folder, 'tools', 'rt'), 'echo "$@" >> calls\n' + script)
+    """The environment in which the script is `rt`; it notes each call, and the folder that it comes from, in the file `calls`, and goes on at the top."""
+    write_script(os.path.join(folder, 'tools', 'rt'), 'from=$(basename "$PWD"); cd "$(dirname "$0")/.." || exit 1\necho "$from: $*" >> calls\n' + script)
     return {**os.environ, 'PATH': os.path.join(folder, 'tools') + ':' + os.environ['PATH']}
 
 
@@ -64,7 +69,7 @@ def progress():
             return 'lines of progress %r, of them %r while rt was at work' % (LINE.findall(errors), early)
         with open(os.path.join(folder, 'target', 'adjust-build.log'), 'rb') as file:
             log = file.read()
-        if calls_in(folder) != ['check adjust'] or not log.startswith(b'fn one::f: proved\n') or log.count(b'\n') != 5:
+        if calls_in(folder) != ['adjust: run'] or not log.startswith(b'fn one::f: proved\n') or log.count(b'\n') != 12:
             return 'rt was called with %r, and the log has %r' % (calls_in(folder), log)
         again = called([], b'', folder, path, with_rt(folder, 'exit 1\n'))
     return None if again == (0, b'REFUSED 1\n', b'') else 'built, and then %s' % shown(again)
@@ -117,7 +122,7 @@ def interrupted():
 
 def failed():
     """A build that fails: status 1 and where to look, also at the next call: a program that failed its run is not run."""
-    for script in (ONE + 'echo "rt: two NOT PROVED (exit 1, 2 s)"; exit 1\n', ONE + PROGRAM_MADE + 'exit 1\n', ONE + TWO + ADJUST):
+    for script in (ONE + 'echo "rt: the library two did not build, so nothing above it was checked"; exit 1\n', ONE + PROGRAM_MADE + 'exit 1\n', ONE + TWO + ADJUST):
         with tree() as (folder, path):
             environment = with_rt(folder, script)
             for count in (1, 2):
@@ -128,33 +133,24 @@ def failed():
 
 
 def as_rt_prints():
-    """The lines of the real rt are those that are looked for: on proofs that are there, a line for each crate that the program stands on."""
-    needs = {}
-    with open(os.path.join(ROOT, 'crates.txt')) as file:
-        for line in file:
-            name, colon, others = line.split('#')[0].partition(':')
-            if colon:
-                needs[name.strip()] = others.split()
-    parts, todo = set(), ['adjust']
-    while todo:
-        name = todo.pop()
-        if name in needs and name not in parts:
-            parts.add(name)
-            todo += needs[name]
+    """The lines of the real rt are those that are looked for: at a first build a line for each crate, after a change of the program alone one for that."""
     with tempfile.TemporaryDirectory() as folder:
-        os.makedirs(os.path.join(folder, 'target', 'bin'))
-        for name in ('crates', 'crates.txt', 'target/rlib'):
-            os.symlink(os.path.join(ROOT, name), os.path.join(folder, name))
-        shutil.copytree(os.path.join(ROOT, 'target', 'stamp'), os.path.join(folder, 'target', 'stamp'))
-        program = shutil.copy(PROGRAM, os.path.join(folder, 'target', 'bin'))
-        os.utime(program, (0, 0))
+        for name, text in TINY.items():
+            os.makedirs(os.path.dirname(os.path.join(folder, name)), exist_ok=True)
+            with open(os.path.join(folder, name), 'w', encoding='utf-8') as file:
+                file.write(text)
+        os.mkdir(os.path.join(folder, '.git'))         # the top of a repository
         os.mkdir(os.path.join(folder, 'bin'))
-        status, out, errors = called([], b'', folder, shutil.copy(WRAPPER, os.path.join(folder, 'bin')))
-    got = LINE.findall(errors)
-    count = b'%d' % len(parts)
-    if (status, out) != (0, b'REFUSED 1\n') or errors.count(b'\n') != 1 + len(parts) or {name.decode() for _, _, name, _ in got} != parts:
-        return shown((status, out, errors))
-    return None if [(k, n) for k, n, _, _ in got] == [(b'%d' % (k + 1), count) for k in range(len(parts))] else 'numbered %r' % got
+        path = shutil.copy(WRAPPER, os.path.join(folder, 'bin'))
+        for want in ([(b'1', b'2', b'one'), (b'2', b'2', b'adjust')], [(b'1', b'2', b'adjust')]):
+            status, out, errors = called([], b'', folder, path)
+            if (status, out) != (0, b'REFUSED 1\n') or not START.match(errors) or errors.count(b'\n') != 1 + len(want) or LINE.findall(errors) != want:
+                return shown((status, out, errors))
+            if called([], b'', folder, path) != (0, b'REFUSED 1\n', b''):
+                return 'built, and then %s' % shown(called([], b'', folder, path))
+            with open(os.path.join(folder, 'crates/adjust/src/main.rt'), 'a', encoding='utf-8') as file:
+                file.write('// changed\n')
+    return None
 
 
 TESTS = [progress, interrupted, failed, as_rt_prints]

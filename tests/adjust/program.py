@@ -5,8 +5,15 @@ import sys
 
 HERE = os.path.dirname(os.path.abspath(__file__))
 ROOT = os.path.dirname(os.path.dirname(HERE))
-PROGRAM = os.path.join(ROOT, 'target', 'bin', 'adjust')
-WHOLE = os.path.join(ROOT, 'target', 'bin', 'test_whole_texts')
+
+
+def built(crate):
+    """Where `rt ci` and `rt run` leave a program."""
+    return os.path.join('crates', crate, 'out', crate)
+
+
+PROGRAM = os.path.join(ROOT, built('adjust'))
+WHOLE = os.path.join(ROOT, built('test_whole_texts'))
 LONGEST = 8192      # bytes of a text that WHOLE takes
 WRAPPER = os.path.join(ROOT, 'bin', 'adjust')
 sys.path.insert(0, os.path.join(HERE, '..', 'reference'))

@@ -8,7 +8,7 @@ import subprocess
 import tempfile
 
 import inputs
-from program import LIMIT, ROOT, WRAPPER
+from program import LIMIT, ROOT, WRAPPER, built
 
 DATA = b'S 1 K 0 0 100000\nS 2 V 0 0 101000\nU\nH 1 1 2 1000 100\nX 0\nM 10737418\n'
 WANT = b'LINE 3 REFUSED 8\nSHEET 1 RECORDS 1 UNKNOWNS\n1 0 0 100000 0 0 0\n2 0 0 101000 0 0 10737418\n1 0 LOOSE\nGLOBAL 0 0 NONE\n'
@@ -43,7 +43,7 @@ def tree(program=None):
             os.makedirs(os.path.join(folder, 'crates', name, 'src'))
             open(os.path.join(folder, 'crates', name, 'src', 'lib.rt'), 'w').close()
         if program is not None:
-            write_script(os.path.join(folder, 'target', 'bin', 'adjust'), program)
+            write_script(os.path.join(folder, built('adjust')), program)
         yield folder, path
 
 
@@ -108,7 +108,7 @@ def without_toolchain():
         if got[0] != 1 or got[1] or b'(rt)' not in got[2] or got[2].count(b'\n') != 1:
             return shown(got)
         # the tools above are all that it uses: with a program it runs
-        write_script(os.path.join(folder, 'target', 'bin', 'adjust'), 'echo REFUSED 1\n')
+        write_script(os.path.join(folder, built('adjust')), 'echo REFUSED 1\n')
         got = called([], DATA, folder, path, {'PATH': tools})
     return None if got == (0, b'REFUSED 1\n', b'') else shown(got)
 

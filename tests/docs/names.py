@@ -18,7 +18,7 @@ def text_of(path):
 
 def stands(name, texts):
     """as a whole word: the neighbours are no letters of a name"""
-    return any(re.search(r'(?<![\w′·-])' + re.escape(name) + r'(?![\w′·-])', text) for text in texts)
+    return any(re.search(r"(?<![\w'-])" + re.escape(name) + r"(?![\w'-])", text) for text in texts)
 
 
 def row_faults(line, links):

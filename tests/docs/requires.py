@@ -6,7 +6,7 @@ import re
 import sys
 
 FUNCTION = re.compile(r'pub (?:const )?(extern "C" )?fn (\w+)')
-SOUND = re.compile(r'⌜ sound \w+ ≡ true ⌝')
+SOUND = re.compile(r'sound \w+ ≡ true')
 HEADING = '## Public functions that ask more than a sound book'
 
 
@@ -33,7 +33,7 @@ def asked():
         with open(path, encoding='utf-8') as file:
             text = re.sub(r'//[^\n]*', '', file.read())
         for match in FUNCTION.finditer(text):
-            clauses = re.findall(r'requires\s*\w*\s*\{(.*?)\}\n', header_of(text, match.end()), re.S)
+            clauses = re.findall(r'requires\*?\s*\w*\s*\{(.*?)\}\n', header_of(text, match.end()), re.S)
             if match.group(1) and clauses:
                 exported.append(match.group(2))
             if any(not SOUND.fullmatch(clause.strip()) for clause in clauses):

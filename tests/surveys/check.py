@@ -1,4 +1,4 @@
-"""The output of the program `test_surveys` (crates/test_surveys/stdout, which `rt check` holds to what it writes) against the exact solver and the documents' tables.
+"""The output of the program `test_surveys` (crates/test_surveys/stdout, which `rt ci` holds to what it writes) against the exact solver and the documents' tables.
 
 Each line has three parts: what is compared with, the program's numbers, the differences. Checked: the first parts are those of the exact solver, or of document 002; the third parts are
 the second less the first; corrections are within one unit of the exact ones, coordinates and residuals as far as that goes; what document 002 prints is met within 0.05 mm in coordinates
