@@ -1,0 +1,17 @@
+-- The loop counts the entries of the places passed. Assumes nothing.
+use Prim.Native.Nat.{ℕ, ◌+◌, ◌-◌, ◌≤◌}
+use mathlib.Core.Path.{◌≡◌, sym, ap, ap₂, ◌∙◌}
+use native.Mathlib.Omega.{arith}
+use lib.ListN.{length}
+use Rattle.network.specs.declared.Record.{Record}
+use Rattle.layout.specs.Bytes.{book_of}
+use Rattle.book_files.specs.Writing.{record_entries, entries_below}
+use Rattle.book_files.specs.WritingLaws.{none_below, length_more, entries_few, entries-one}
+use borrow.Author.Rules.{rules}
+use Rattle.book_files.proofs.writing.count_entries.Given as goal
+
+abbrev pub invariant-loop-p : goal.invariant-loop-p
+invariant-loop-p l = (l.p ≤ 256) × (l.n ≡ length (entries_below (book_of l.book).places l.p))
+
+abbrev pub decreases-loop-p : goal.decreases-loop-p
+decreases-loop-p l = 256 - l.p

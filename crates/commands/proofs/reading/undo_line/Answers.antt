@@ -1,0 +1,10 @@
+-- U alone undoes (`undo-none`); with more fields it is unreadable (`undo-some`). Assumes nothing.
+use Rattle.commands.specs.CommandLaws.{undo_none, undo_some}
+use borrow.Author.Rules.{rules}
+use Rattle.commands.proofs.reading.undo_line.Goals as goal
+
+pub returns-then-line-end : goal.returns-then-line-end
+returns-then-line-end c = undo_none _ _ c.field_end-end.ensures c.if-line-end.true
+
+pub returns : goal.returns
+returns c = undo_some _ _ c.field_end-end.ensures c.if-line-end.false

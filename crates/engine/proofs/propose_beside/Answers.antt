@@ -1,0 +1,25 @@
+-- What is copied to x and m is what was accepted. Assumes nothing.
+use Rattle.std.proofs.Common.{ℕ, true, List, length, take, ℤ, ap, ◌∙◌, ap₂, mul-le-mul, arith, rules}
+use native.Mathlib.Nat.{sub-zero}
+use borrow.Author.Tests.{not-false}
+use Rattle.layout.specs.Bytes.{book_of}
+use Rattle.layout.specs.CodecLaws.{fits-room}
+use Rattle.checks.specs.Checks.{checked}
+use Rattle.engine.proofs.propose_beside.Goals as goal
+
+pub candidate-requires : goal.candidate-requires
+candidate-requires c =
+    let room = fits-room _ c.requires.s_value in
+    let g = c.requires.n_le_most_unknowns in
+    record { book_bytes_in_bounds = omega arith; most_unknowns_in_bounds = omega (arith, g) }
+
+pub slice_bounds-copy-end-2 : goal.slice_bounds-copy-end-2
+slice_bounds-copy-end-2 c = omega (arith, c.requires.n_le_most_unknowns.2, mul-le-mul c.requires.n_le_most_unknowns.0 c.requires.n_le_most_unknowns.0)
+
+pub returns : goal.returns
+returns c =
+    let f = c.candidate.new in
+    ap₂ (λ (p q : List ℤ). checked (book_of c.args.s.now) p q true)
+    (c.copy.ensures ∙ ap (λ (i : ℕ). take i f.x) (sub-zero c.args.n))
+    (c.copy-2.ensures ∙ ap (λ (j : ℕ). take j f.m) (sub-zero (length c.args.m.now) ∙ c.requires.n_le_most_unknowns.2))
+    ∙ c.is_accepted.ensures c.if-not-is_accepted.false
