@@ -1,4 +1,4 @@
--- The answer on a book's own N and u: it looks at them below n alone, so the lists that the book keeps give it too.
+-- The answer on a book's own N and u, and the tests, which look at them below n alone (proofs/SameAnswer.antt has what follows for the answer).
 use Rattle.std.specs.Prelude.{ℕ, ◌*◌, ◌^◌, ◌<◌, ◌≤◌, ◌≡◌, Bool, List, ℤ, ◌-ℤ◌, ◌*ℤ◌}
 use Rattle.std.proofs.Math.Path.{ap}
 use Rattle.std.proofs.Common.{ap₂, arith}
@@ -26,7 +26,7 @@ answer net places x m room = judge net places (entry_n net.stations places) (ent
 -- ════ the tests look at N and u below n alone
 module _ (n : ℕ) (N N' M : ℕ → ℕ → ℤ) (u u' x : ℕ → ℤ)
     (same : (i j : ℕ) → i < n → j < n → N i j ≡ N' i j) (side : (i : ℕ) → i < n → u i ≡ u' i) where
-  defect-same : defect_small n N M ≡ defect_small n N' M
+  pub defect-same : defect_small n N M ≡ defect_small n N' M
   unfolding defect_small
   defect-same =
       all_same n _ _ (λ i l. ap (λ (k : ℕ). leb k (2 ^ 26))
@@ -35,35 +35,23 @@ module _ (n : ℕ) (N N' M : ℕ → ℕ → ℤ) (u u' x : ℕ → ℤ)
   row_same : (i : ℕ) → i < n → normal_residual n N u x i ≡ normal_residual n N' u' x i
   row_same i l = ap₂ ◌-ℤ◌ (side i l) (sum-ext n (λ j h. ap (λ (z : ℤ). z *ℤ x j) (same i j l h)))
 
-  residual-same : residual_small n N u x ≡ residual_small n N' u' x
+  pub residual-same : residual_small n N u x ≡ residual_small n N' u' x
   unfolding residual_small
   residual-same = all_same n _ _ (λ i l. ap (λ (z : ℤ). leb (nat_abs z) (2 ^ 23)) (row_same i l))
 
-  refinement-same : refinement_small n N M u x ≡ refinement_small n N' M u' x
+  pub refinement-same : refinement_small n N M u x ≡ refinement_small n N' M u' x
   unfolding refinement_small
   refinement-same =
       all_same n _ _ (λ i l. ap (λ (z : ℤ). leb (nat_abs z) (15 * 2 ^ 26)) (sum-ext n (λ k q. ap (λ (z : ℤ). M i k *ℤ z) (row_same k q))))
-
--- the answer looks at N and u below n alone
-pub judge-same : (net : Network) (places : List Place) (N N' : ℕ → ℕ → ℤ) (u u' : ℕ → ℤ)
-    → ((i j : ℕ) → i < unknown_count net.stations → j < unknown_count net.stations → N i j ≡ N' i j) → ((i : ℕ) → i < unknown_count net.stations → u i ≡ u' i)
-    → (x m : List ℤ) (room : Bool) → judge net places N u x m room ≡ judge net places N' u' x m room
-unfolding judge judge_numbers
-judge-same net places N N' u u' same side x m room =
-    rw (
-      defect-same (unknown_count net.stations) N N' (by_rows (unknown_count net.stations) m) u u' (at x) same side,
-      residual-same (unknown_count net.stations) N N' (by_rows (unknown_count net.stations) m) u u' (at x) same side,
-      refinement-same (unknown_count net.stations) N N' (by_rows (unknown_count net.stations) m) u u' (at x) same side,
-    )
 
 module _ (net : Network) (places : List Place) (g : ByRules net places) where
   few : unknown_count net.stations ≤ most_unknowns
   few = (sound-stations net g.network).few
 
-  N-is : (i j : ℕ) → i < unknown_count net.stations → j < unknown_count net.stations → by_rows most_unknowns (matrix_of net.stations places) i j ≡ entry_n net.stations places i j
+  pub N-is : (i j : ℕ) → i < unknown_count net.stations → j < unknown_count net.stations → by_rows most_unknowns (matrix_of net.stations places) i j ≡ entry_n net.stations places i j
   N-is i j h k = let f = few in matrix_at net.stations places i j (omega arith) (omega arith)
 
-  u-is : (i : ℕ) → i < unknown_count net.stations → at (right_of net.stations places) i ≡ entry_u net.stations places i
+  pub u-is : (i : ℕ) → i < unknown_count net.stations → at (right_of net.stations places) i ≡ entry_u net.stations places i
   u-is i h = let f = few in right_at_lem net.stations places i (omega arith)
 
   -- what `accept` asks holds of every sound book
@@ -78,9 +66,3 @@ module _ (net : Network) (places : List Place) (g : ByRules net places) where
         matrix = matrix_within net places g;
         absolute = right_within net places g;
       }
-
-  -- the lists that the book keeps give the same answer
-  pub kept-answer : (x m : List ℤ) (room : Bool)
-      → judge net places (by_rows most_unknowns (matrix_of net.stations places)) (at (right_of net.stations places)) x m room ≡ answer net places x m room
-  unfolding answer
-  kept-answer x m room = judge-same net places _ _ _ _ N-is u-is x m room

@@ -19,7 +19,7 @@ use Rattle.book.specs.declared.Call.TheVariants.{Edit}
 use Rattle.book.specs.Sound.{SoundParts}
 use Rattle.layout.specs.WordSizes.{L, record_small}
 use Rattle.files.specs.Entries.{zeros_from, kind_right, right_words, EntryFits}
-use Rattle.files.specs.FileLaws.{AllFit}
+use Rattle.files.proofs.FileLaws.{AllFit}
 use Rattle.book_files.specs.Writing.{record_entry, carried, book_entries, all_carried}
 use Rattle.book_files.specs.WritingLaws.{each_below}
 use Rattle.book_files.specs.Entering.{record_words_in, call_in}

@@ -27,7 +27,7 @@ use Rattle.layout.specs.Bytes.{book_of, put_book, bytes_fit}
 use Rattle.lent_edits.specs.LentEdits.{Applies}
 use Rattle.files.specs.BytesLaws.{put_append}
 use Rattle.files.specs.Files.{reads, entries_of}
-use Rattle.files.specs.FileLaws.{length-entries, entry_at}
+use Rattle.files.proofs.FileLaws.{length-entries, entry_at}
 use Rattle.files.specs.declared.FileRefusal.{FileRefusal}
 use Rattle.files.specs.declared.FileRefusal.TheVariants.{NoRoom, Unreadable}
 use Rattle.book_files.specs.declared.Entered.TheVariants.{Done, Refused}

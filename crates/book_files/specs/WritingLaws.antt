@@ -14,7 +14,7 @@ use Rattle.network.specs.declared.Place.{Place}
 use Rattle.network.specs.declared.Record.{Record}
 use Rattle.files.specs.Entries.{entry_words}
 use Rattle.files.specs.Files.{file_words, file_of}
-use Rattle.files.specs.FileLaws.{AllLong, write_append, file_one, put_file}
+use Rattle.files.proofs.FileLaws.{AllLong, write_append, file_one, put_file}
 use Rattle.files.specs.declared.FileRefusal.{FileRefusal}
 use Rattle.files.specs.declared.FileRefusal.TheVariants.{NoRoom, NotCarried}
 use Rattle.book.specs.declared.Book.{Book}

@@ -2,5 +2,4 @@ pub mod Table
 pub mod Cases
 pub mod Brief
 pub mod Worked
-pub mod CasesHold
 pub mod Script

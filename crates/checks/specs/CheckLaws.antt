@@ -13,7 +13,8 @@ use Rattle.normals.specs.Formulas.{matrix_of, right_of}
 use Rattle.acceptance.specs.Tests.{at, by_rows, lengths_fit}
 use Rattle.acceptance.specs.JudgeLaws.{BookInRange, lengths_of, corrections_small_lem, inverse-small}
 use Rattle.acceptance.specs.Judge.{judge}
-use Rattle.acceptance.specs.Exactly.{answer, book_in_range, kept-answer}
+use Rattle.acceptance.specs.Exactly.{answer, book_in_range}
+use Rattle.acceptance.proofs.SameAnswer.{kept-answer}
 use Rattle.acceptance.specs.InTurn.{computed, accepted-tests}
 use Rattle.acceptance.specs.declared.Answer.{Answer}
 use Rattle.acceptance.specs.declared.Answer.TheVariants.{Accepted, Refused}

@@ -16,7 +16,7 @@ use Rattle.layout.specs.Bytes.{book_of, bytes_fit}
 use Rattle.layout.specs.CodecLaws.{fits-sound}
 use Rattle.files.specs.Files.{file_of, reads, entries_of}
 use Rattle.files.specs.declared.FileRefusal.TheVariants.{NoRoom, NotCarried}
-use Rattle.files.specs.FileLaws.{AllFit, fit_long, length_file, file_front, written-reads, written-entries}
+use Rattle.files.proofs.FileLaws.{AllFit, fit_long, length_file, file_front, written-reads, written-entries}
 use Rattle.book_files.specs.Writing.{book_entries, all_carried, write_answer, file_left}
 use Rattle.book_files.specs.WritingLaws.{entries_few}
 use Rattle.book_files.specs.Entering.{call_in, calls_in, enter_answer}

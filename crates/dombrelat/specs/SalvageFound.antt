@@ -12,7 +12,7 @@ use Rattle.words.specs.Words.{Bytes}
 use Rattle.words.specs.Runs.{words_at, put_words}
 use Rattle.files.specs.Files.{reads, entries_of}
 use Rattle.salvage.specs.Salvage.{kept_starts, kept_entries, skipped_runs, kept_pairs, pair_words, fresh_file, salvage_counts, room_for, salvage_answer, fresh_left, skipped_left, kept_left}
-use Rattle.salvage.specs.SalvageLaws.{room-each, room-enough, length-kept, fresh_reads, fresh_entries, fresh_front, fresh-beyond, pairs_back, pairs_beyond, length-kept_pairs}
+use Rattle.salvage.proofs.SalvageLaws.{room-each, room-enough, length-kept, fresh_reads, fresh_entries, fresh_front, fresh-beyond, pairs_back, pairs_beyond, length-kept_pairs}
 use Rattle.salvage.specs.declared.Salvaged.TheVariants.{Counts}
 use Rattle.dombrelat.specs.SalvageCall.{SalvageReturned, salvage_call}
 

@@ -3,3 +3,6 @@ pub mod Loops
 pub mod Tests
 pub mod Ways
 pub mod Trailers
+pub mod FileLaws
+pub mod ForceLaws
+pub mod InForce

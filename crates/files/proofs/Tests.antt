@@ -3,7 +3,7 @@ use Rattle.std.proofs.Common.{◌≡◌, ℕ, ◌/◌, ◌%◌, ◌^◌, ◌<◌
 use Rattle.words.specs.Signed.{eq_z}
 use Rattle.files.specs.Entries.{zeros_from, kind_right}
 use Rattle.files.specs.Files.{linked_to, reads}
-use Rattle.files.specs.FileLaws.{reads_linked}
+use Rattle.files.proofs.FileLaws.{reads_linked}
 
 -- two tests, each known
 pub both : {a b c d : Bool} → a ≡ c → b ≡ d → a && b ≡ c && d

@@ -4,8 +4,5 @@ pub mod BytesLaws
 pub mod Entries
 pub mod EntryLaws
 pub mod Files
-pub mod FileLaws
 pub mod Force
-pub mod ForceLaws
 pub mod Examples
-pub mod InForce

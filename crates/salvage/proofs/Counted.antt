@@ -10,8 +10,8 @@ use lib.ListN.{length, length-append}
 use Rattle.words.specs.Bools.{and_both, and_no_right}
 use Rattle.files.specs.Files.{right_at}
 use Rattle.salvage.specs.Salvage.{kept_at, kept_from, kept_starts, run_between, runs_between, skipped_runs, salvage_counts}
-use Rattle.salvage.specs.ScanLaws.{scan-keep, scan-skip, scan_end}
-use Rattle.salvage.specs.SalvageLaws.{kept_few, runs_few}
+use Rattle.salvage.proofs.ScanLaws.{scan-keep, scan-skip, scan_end}
+use Rattle.salvage.proofs.SalvageLaws.{kept_few, runs_few}
 
 -- ---- one step
 module _ (f : List ℕ) (at : ℕ) where

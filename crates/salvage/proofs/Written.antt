@@ -15,8 +15,8 @@ use Rattle.files.specs.Entries.{entry_words}
 use Rattle.files.specs.EntryLaws.{length_entry}
 use Rattle.files.specs.Files.{right_at, file_words}
 use Rattle.salvage.specs.Salvage.{kept_from, kept_starts, entries_at, kept_entries, run_between, runs_between, skipped_runs, kept_pairs, pair_words, salvage_counts, room_for}
-use Rattle.salvage.specs.ScanLaws.{scan_end}
-use Rattle.salvage.specs.SalvageLaws.{length_pairs, room-each}
+use Rattle.salvage.proofs.ScanLaws.{scan_end}
+use Rattle.salvage.proofs.SalvageLaws.{length_pairs, room-each}
 use Rattle.salvage.proofs.Counted.{keeps, skips, runs_keep, runs_end, CountedTo, counted_none, counted_keep, counted_skip}
 
 -- ---- words of pairs

@@ -1,5 +1,2 @@
 -- What a salvage keeps, skips, answers and writes (Salvage), and the laws of it.
 pub mod Salvage
-pub mod ScanLaws
-pub mod Tiling
-pub mod SalvageLaws

@@ -20,7 +20,7 @@ use Rattle.residuals.specs.Components.{corrections_of, adjusted_station_in, adju
 use Rattle.residuals.specs.Observations.{verdict_in, verdicts_over, verdicts_in}
 
 -- ════ lines one after the other
-length-lines : (k : ℕ) (f : ℕ → List ℤ) → length (concat_below k f) ≡ sum_n k (λ i. length (f i))
+pub length-lines : (k : ℕ) (f : ℕ → List ℤ) → length (concat_below k f) ≡ sum_n k (λ i. length (f i))
 unfolding concat_below sum_n
 length-lines zero f = refl
 length-lines (suc k) f = length-append (concat_below k f) (f k) ∙ ap (λ (n : ℕ). n + length (f k)) (length-lines k f)
@@ -91,7 +91,7 @@ module _ (coordinate corrections : List ℤ) (numbers : List ℕ) (unknowns m : 
   unfoldable pub station_lines_words_in : ℕ → List ℤ
   station_lines_words_in k = concat_below k (station_line_words_in coordinate corrections numbers unknowns m n)
 
-  record_line_in : List Place → ℕ → List ℤ
+  unfoldable pub record_line_in : List Place → ℕ → List ℤ
   record_line_in places p = record_line_words_in numbers unknowns m n p (record_at places p) (residuals_in coordinate corrections (record_at places p))
 
   unfoldable pub record_lines_words_in : List Place → ℕ → List ℤ
@@ -121,18 +121,6 @@ module _ (coordinate corrections : List ℤ) (numbers : List ℕ) (unknowns m : 
     unfolding record_lines_words_in record_line_in
     record_words-more k = concat_below-+1 k (record_line_in places)
 
-    pub record_words-length : (k : ℕ) → length (record_lines_words_in places k) ≡ sum_n k (λ p. line_length (record_at places p))
-    unfolding record_lines_words_in record_line_in
-    record_words-length k =
-        length-lines k (record_line_in places)
-        ∙ sum_n-ext k (λ p h. record_length_lem numbers unknowns m n p (record_at places p) (residuals_in coordinate corrections (record_at places p)))
-
-    -- room for all leaves room for the next
-    pub record_words-room : (from at long k : ℕ) → from + sum_n 256 (λ p. line_length (record_at places p)) ≤ long → at ≡ from + length (record_lines_words_in places k) → k < 256
-        → at + line_length (record_at places k) ≤ long
-    record_words-room from at long k h e l =
-        omega (arith, record_words-length k, sum_n-suc k (λ p. line_length (record_at places p)), sum_n-first (suc k) 256 (λ p. line_length (record_at places p)) l)
-
 -- ════ over the tables of a station list they are the sheet's
 module _ (stations : List Station) (x m : List ℤ) where
   station_in_lem : (s : ℕ) → s < 32
@@ -154,7 +142,7 @@ module _ (stations : List Station) (x m : List ℤ) where
   unfolding verdict_in verdict_at residual_variance
   verdict_in_lem r f t a h = rw (difference_in_lem stations m r f t a h)
 
-  record_in_lem : (p : ℕ) (r : Record) → from_of r < 32 → to_of r < 32
+  pub record_in_lem : (p : ℕ) (r : Record) → from_of r < 32 → to_of r < 32
       → record_line_words_in (index_table stations) (unknown_table stations) m (unknown_count stations) p r (residuals_in (coordinates stations) (corrections_of stations x) r)
       ≡ record_line_words stations x m p r
   unfolding record_line_words_in line_of seven_words three_words verdicts_in verdicts_over record_line_words line_words acts acts_of
@@ -180,7 +168,7 @@ module _ (stations : List Station) (x m : List ℤ) where
   station-lines zero = refl
   station-lines (suc k) = ap (λ (l : List ℤ). l ++ station_line_words stations x m k) (station-lines k)
 
-  record_lines : (places : List Place) (k : ℕ) → record_lines_words stations x m places k ≡ concat_below k (λ p. record_line_words stations x m p (record_at places p))
+  pub record_lines : (places : List Place) (k : ℕ) → record_lines_words stations x m places k ≡ concat_below k (λ p. record_line_words stations x m p (record_at places p))
   unfolding record_lines_words concat_below
   record_lines places zero = refl
   record_lines places (suc k) = ap (λ (l : List ℤ). l ++ record_line_words stations x m k (record_at places k)) (record_lines places k)
@@ -189,9 +177,3 @@ module _ (stations : List Station) (x m : List ℤ) where
       → station_lines_words_in (coordinates stations) (corrections_of stations x) (index_table stations) (unknown_table stations) m (unknown_count stations) k ≡ station_lines_words stations x m k
   unfolding station_lines_words_in
   stations_in k h = concat_below-ext k _ (station_line_words stations x m) (λ s l. station_in_lem s (omega arith)) ∙ sym (station-lines k)
-
-  pub records_in : (places : List Place) → ((p : ℕ) → p < 256 → (from_of (record_at places p) < 32) × (to_of (record_at places p) < 32))
-      → record_lines_words_in (coordinates stations) (corrections_of stations x) (index_table stations) (unknown_table stations) m (unknown_count stations) places 256 ≡ record_lines_words stations x m places 256
-  unfolding record_lines_words_in record_line_in
-  records_in places h =
-      concat_below-ext 256 _ (λ p. record_line_words stations x m p (record_at places p)) (λ p l. record_in_lem p (record_at places p) (h p l).0 (h p l).1) ∙ sym (record_lines places 256)

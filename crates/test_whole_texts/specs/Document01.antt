@@ -32,7 +32,7 @@ use Rattle.checks.specs.Checks.{checked, has_room, on_acceptance, sheet_after}
 use Rattle.cases.specs.Table.{station_list, level, table}
 use Rattle.cases.specs.Cases.{rows_of, case_book, x_of, m_of, filled_places, enough, CaseHolds, first_case}
 use Rattle.cases.specs.Brief.{brief_follows}
-use Rattle.cases.specs.CasesHold.{cases_hold}
+use Rattle.cases.proofs.CasesHold.{cases_hold}
 use Rattle.text.specs.Before.{before}
 use Rattle.text.specs.Numbers.{all_digits, is_decimal, value_after, signed_of, number_in, decimal_in, decimal}
 use Rattle.text.specs.Fields.{fields_of, rest_fields, letter_of, numbers_in, at_most}

@@ -8,7 +8,7 @@ use mir.Syntax.{w64}
 use mir.Facts.{to_z-of_z}
 use lib.IntN.{ℤ}
 use Rattle.cases.specs.Cases.{case_at}
-use Rattle.cases.specs.CasesHold.{cases_hold}
+use Rattle.cases.proofs.CasesHold.{cases_hold}
 use Rattle.cases.specs.Script.{call_starts, call_counts, xs, ms, table-length, rows_are, x_is, m-is, few_calls}
 use Rattle.cases.proofs.Runs.{ran}
 use Rattle.cases.proofs.run_case.Goals as goal

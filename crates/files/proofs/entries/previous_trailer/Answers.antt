@@ -1,7 +1,7 @@
 -- `previous_trailer`, of the first entry and of any other. Assumes nothing.
 use Rattle.std.proofs.Common.{sym, ap, ◌∙◌, arith, to_z-of_z, w64}
 use Rattle.files.specs.Entries.{previous_trailer}
-use Rattle.files.specs.FileLaws.{previous_at}
+use Rattle.files.proofs.FileLaws.{previous_at}
 use borrow.Author.Rules.{sfits_of}
 use Rattle.files.proofs.entries.previous_trailer.Goals as goal
 

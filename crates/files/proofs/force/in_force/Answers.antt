@@ -1,7 +1,7 @@
 -- `in_force` shows what `find` found. Assumes nothing.
 use Rattle.std.proofs.Common.{◌≡◌, ap, ◌∙◌, to_z-of_z, w64}
 use Rattle.files.specs.Force.{in_force}
-use Rattle.files.specs.ForceLaws.{found_inside}
+use Rattle.files.proofs.ForceLaws.{found_inside}
 use Rattle.files.proofs.force.in_force.Goals as goal
 
 pub part-requires : goal.part-requires

@@ -1,7 +1,7 @@
 -- One run, or none. Assumes nothing.
 use mathlib.Core.Path.{sym, ap}
 use lib.ListN.{length}
-use Rattle.salvage.specs.ScanLaws.{run_one, run_none}
+use Rattle.salvage.proofs.ScanLaws.{run_one, run_none}
 use Rattle.salvage.proofs.scanning.run_count.Goals as goal
 
 pub returns-then-a-b : goal.returns-then-a-b

@@ -2,7 +2,7 @@
 use mathlib.Core.Path.{sym, ◌∙◌}
 use native.Mathlib.Omega.{arith}
 use lib.ListN.{length}
-use Rattle.salvage.specs.SalvageLaws.{run_few}
+use Rattle.salvage.proofs.SalvageLaws.{run_few}
 use Rattle.salvage.proofs.Counted.{counted_none, counted_few, counted_keep, counted_skip, counted_all}
 use Rattle.salvage.proofs.scanning.salvage_counts.Goals as goal
 

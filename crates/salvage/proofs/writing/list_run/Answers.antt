@@ -7,7 +7,7 @@ use native.Mathlib.Omega.{arith}
 use lib.ListN.{length}
 use Rattle.words.specs.Runs.{put_words}
 use Rattle.salvage.specs.Salvage.{pair_words}
-use Rattle.salvage.specs.ScanLaws.{run_one, run_none}
+use Rattle.salvage.proofs.ScanLaws.{run_one, run_none}
 use Rattle.salvage.proofs.writing.list_run.Goals as goal
 
 pub list_pair-requires : goal.list_pair-requires

@@ -16,21 +16,21 @@ use Rattle.residuals.specs.Ranges.{some_unknowns, lookup, sound-at, closes_at}
 use Rattle.residuals.specs.Weights.{record_quotients}
 use Rattle.sheet.specs.Sheet.{line_length}
 use Rattle.sheet.specs.Totals.{residuals_within}
-use Rattle.sheet.specs.Lines.{line_of, record_line_words_in, record_length_lem, record_lines_words_in, record_words-none, record_words-more, record_words-room, records_in, Put, put_none, put_more}
+use Rattle.sheet.specs.Lines.{line_of, record_line_words_in, record_length_lem, record_lines_words_in, record_words-none, record_words-more, Put, put_none, put_more}
+use Rattle.sheet.proofs.RecordLines.{record_words-room, records_in}
 use Rattle.sheet.proofs.sheet.put_records.Goals as goal
 
 pub corrections_of-correction-requires : goal.corrections_of-correction-requires
 corrections_of-correction-requires c = (some_unknowns c.requires.1.moved, c.requires.1.moved.corrections)
 
 pub loop-p-init : goal.loop-p-init
-loop-p-init c =
-    (
-      omega arith,
-      refl,
-      subst (λ (w : List ℤ). Put c.args.sheet.now c.args.from w c.args.sheet.now c.args.from)
-          (sym (record_words-none c.coordinates_of-coordinate.result c.corrections_of-correction.result c.numbers_of-number.result c.unknowns_of-unknown.result c.args.m.now c.number_of-n.result (places_in c.args.places.now)))
-          (put_none c.args.sheet.now c.args.from),
-    )
+loop-p-init c = (
+  omega arith,
+  refl,
+  subst (λ (w : List ℤ). Put c.args.sheet.now c.args.from w c.args.sheet.now c.args.from)
+      (sym (record_words-none c.coordinates_of-coordinate.result c.corrections_of-correction.result c.numbers_of-number.result c.unknowns_of-unknown.result c.args.m.now c.number_of-n.result (places_in c.args.places.now)))
+      (put_none c.args.sheet.now c.args.from),
+)
 
 pub record_at-r-requires : goal.record_at-r-requires
 record_at-r-requires c = (c.requires.0, c.loop-p-test.true)

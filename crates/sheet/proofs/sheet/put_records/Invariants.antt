@@ -16,7 +16,8 @@ use Rattle.residuals.specs.Ranges.{some_unknowns, lookup, sound-at, closes_at}
 use Rattle.residuals.specs.Weights.{record_quotients}
 use Rattle.sheet.specs.Sheet.{line_length}
 use Rattle.sheet.specs.Totals.{residuals_within}
-use Rattle.sheet.specs.Lines.{line_of, record_line_words_in, record_length_lem, record_lines_words_in, record_words-none, record_words-more, record_words-room, records_in, Put, put_none, put_more}
+use Rattle.sheet.specs.Lines.{line_of, record_line_words_in, record_length_lem, record_lines_words_in, record_words-none, record_words-more, Put, put_none, put_more}
+use Rattle.sheet.proofs.RecordLines.{record_words-room, records_in}
 use Rattle.sheet.proofs.sheet.put_records.Given as goal
 
 abbrev pub invariant-loop-p : goal.invariant-loop-p

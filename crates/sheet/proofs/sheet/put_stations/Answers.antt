@@ -16,19 +16,17 @@ pub corrections_of-correction-requires : goal.corrections_of-correction-requires
 corrections_of-correction-requires c = (some_unknowns c.requires.0, c.requires.0.corrections)
 
 pub loop-s-init : goal.loop-s-init
-loop-s-init c =
-    (
-      omega arith,
-      refl,
-      subst (λ (w : List ℤ). Put c.args.sheet.now c.args.from w c.args.sheet.now c.args.from)
-          (sym (station_words-none c.coordinates_of-coordinate.result c.corrections_of-correction.result c.numbers_of-number.result c.unknowns_of-unknown.result c.args.m.now c.number_of-n.result))
-          (put_none c.args.sheet.now c.args.from),
-    )
+loop-s-init c = (
+  omega arith,
+  refl,
+  subst (λ (w : List ℤ). Put c.args.sheet.now c.args.from w c.args.sheet.now c.args.from)
+      (sym (station_words-none c.coordinates_of-coordinate.result c.corrections_of-correction.result c.numbers_of-number.result c.unknowns_of-unknown.result c.args.m.now c.number_of-n.result))
+      (put_none c.args.sheet.now c.args.from),
+)
 
 pub adjusted_station-x-requires : goal.adjusted_station-x-requires
 adjusted_station-x-requires c =
-    let few : c.loop-s.s < 32 = omega (arith, c.loop-s-test.true, network_few c.args.net c.requires.0.network) in
-    (
+    let few : c.loop-s.s < 32 = omega (arith, c.loop-s-test.true, network_few c.args.net c.requires.0.network) in (
       few,
       rw c.coordinates_of-coordinate.ensures (sound-stations c.args.net c.requires.0.network).provisional,
       rw c.corrections_of-correction.ensures (corrections_within c.requires.0),

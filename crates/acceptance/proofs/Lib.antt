@@ -1,0 +1,2 @@
+-- Theorems on the answer that rest on the definitions of specs/.
+pub mod SameAnswer

@@ -1,0 +1,10 @@
+-- Three texts one after the other; the room is their lengths together. Assumes nothing.
+use Rattle.printing.specs.Messages.{refused_unknown_text}
+use Rattle.text.specs.Writing.{◌then◌}
+use native.Mathlib.Omega.{arith}
+use borrow.Author.Rules.{rules}
+use Rattle.printing.proofs.messages.write_refused_unknown.Goals as goal
+
+pub returns : goal.returns
+unfolding refused_unknown_text
+returns c = record { written = c.write_text-a.ensures then c.write_natural-b.ensures.written then c.write_byte.ensures; upper_bound = omega (arith, c.write_text-a.ensures.past, c.write_natural-b.ensures.upper_bound, c.write_byte.ensures.past) }

@@ -1,0 +1,17 @@
+-- The loop has written the fields of the words passed (`fields-more`), each in 22 bytes at most. Assumes nothing.
+use mathlib.Core.Path.{ap, ◌≡◌, refl}
+use Rattle.printing.specs.SheetTextLaws.{by_bits, fields-start, fields-more}
+use Rattle.text.specs.Writing.{written_as, ◌then◌, Written}
+use Rattle.text.specs.Numbers.{decimal}
+use borrow.Author.Rules.{sfits_of, rules}
+use native.Mathlib.Omega.{arith}
+use Rattle.printing.specs.SheetText.{fields}
+use lib.ListN.{length}
+use Prim.Native.Nat.{◌≤◌, ◌-◌, ◌+◌, ◌*◌}
+use Rattle.printing.proofs.sheet_text.write_fields.Given as goal
+
+abbrev pub invariant-loop-i : goal.invariant-loop-i
+invariant-loop-i l = (l.i ≤ l.n) × (length l.out ≡ length l.initial.out) × (l.p ≤ l.at + l.i * 22) × Written l.initial.out l.at (fields l.w l.o l.i) l.p l.out
+
+abbrev pub decreases-loop-i : goal.decreases-loop-i
+decreases-loop-i l = l.n - l.i

@@ -1,0 +1,16 @@
+-- The loop has written the lines of the stations passed (`stations-more`). Assumes nothing.
+use Rattle.printing.specs.SheetTextLaws.{stations-start, stations-more}
+use Rattle.text.specs.Writing.{written_as, Written, ◌then◌}
+use Rattle.printing.specs.SheetText.{station_texts}
+use lib.ListN.{length}
+use native.Mathlib.Omega.{arith}
+use Prim.Native.Nat.{◌≤◌, ◌-◌, ◌+◌, ◌*◌}
+use mathlib.Core.Path.{◌≡◌, refl, ap}
+use borrow.Author.Rules.{rules}
+use Rattle.printing.proofs.sheet_text.write_stations.Given as goal
+
+abbrev pub invariant-loop-i : goal.invariant-loop-i
+invariant-loop-i l = (l.i ≤ l.n) × (length l.out ≡ length l.initial.out) × (l.p ≤ l.at + l.i * 154) × Written l.initial.out l.at (station_texts l.w l.i) l.p l.out
+
+abbrev pub decreases-loop-i : goal.decreases-loop-i
+decreases-loop-i l = l.n - l.i
