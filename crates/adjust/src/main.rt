@@ -14,6 +14,7 @@ ghost use Rattle.adjust.specs.Program.{chunk_room, out_room, read_failed, read_g
 
 use adjustment::Taken;
 use night_print::{Progress, Stepped};
+use std::io::{Read, Stdin};
 
 // The most bytes that a read gives, and room for what their lines print, or for the end.
 const CHUNK_ROOM: usize = 768;
@@ -32,8 +33,17 @@ pub enum Finish {
     Unwritten,
 }
 
+// Reads the next chunk to its front: how many bytes came, 0 at the end of the input, −1 where the read failed.
+fn read_chunk(input: &mut Stdin, chunk: &mut [u8]) -> isize {
+    match input.read(chunk) {
+        Ok(n) => n as isize,
+        Err(_) => -1,
+    }
+}
+
 // Reads the next chunk and takes its lines: the front of `chunk` is what read gave, `answer` what it answered, and the front of `out` is to be written next.
 fn turn(
+    input: &mut Stdin,
     taken: Taken,
     answer: &mut isize,
     line: &mut [u8],
@@ -49,7 +59,7 @@ fn turn(
     ensures steps { Steps (run_of taken.state (book_of book.old) list.old x.old m.old) (holds line.old taken.len taken.over) (read_failed answer.new) (read_gave answer.new chunk.new) out.old result.progress (run_of result.taken.state (book_of book.new) list.new x.new m.new) (holds line.new result.taken.len result.taken.over) result.printed out.new }
     ensures continues { Continues taken (read_gave answer.new chunk.new) result.progress result.taken result.printed book.new list.new x.new m.new out.new }
 {
-    let got = libc::read(0, chunk);
+    let got = read_chunk(input, chunk);
     *answer = got;
     let n = io::count(got, chunk);
     let failed = got < 0;
@@ -58,6 +68,7 @@ fn turn(
 
 // Takes chunk after chunk, and writes what each prints before the next is read. An input of more reads than lines can be numbered counts as one that could not be read to its end.
 fn run(
+    input: &mut Stdin,
     line: &mut [u8],
     book: &mut [u8],
     list: &mut [i64],
@@ -73,7 +84,7 @@ fn run(
     let mut answer: isize = 0;
     let mut reads: usize = 0;
     while reads < MOST_READS {
-        let s = turn(taken, &mut answer, line, book, list, x, m, chunk, out);
+        let s = turn(input, taken, &mut answer, line, book, list, x, m, chunk, out);
         let printed = s.printed;
         let progress = s.progress;
         if !io::write_all(1, &out[0..printed]) {
@@ -119,7 +130,8 @@ fn tell(finish: Finish) {
     }
 }
 
-fn main() {
+fn main(rt: HostRuntime) {
+    let mut input = rt.stdin();
     let mut line = night_print::line_room();
     let mut book = night_print::book_room();
     let mut list = night_print::list_room();
@@ -128,6 +140,7 @@ fn main() {
     let mut chunk = chunk_room();
     let mut out = out_room();
     let finish = run(
+        &mut input,
         &mut line, &mut book, &mut list, &mut x, &mut m, &mut chunk, &mut out,
     );
     tell(finish);

@@ -1,0 +1,20 @@
+-- 25 before all others, and else what `enter_file` answers and leaves. Assumes nothing.
+use mathlib.Core.Path.{sym, ◌∙◌}
+use mir.Syntax.{w64}
+use mir.Facts.{to_z-of_z}
+use borrow.Author.Tests.{not-true, not-false}
+use Rattle.dombrelat.proofs.Filings.{enter_unfit, enter_fit}
+use borrow.Author.Rules.{rules, sfits_of}
+use Rattle.dombrelat.proofs.filing.dombrelat_enter_file.Goals as goal
+
+pub returns-then-not-holds_book : goal.returns-then-not-holds_book
+returns-then-not-holds_book c = enter_unfit _ _ _ (sym c.holds_book.ensures ∙ c.if-not-holds_book.true)
+
+pub enter_file-e-requires : goal.enter_file-e-requires
+enter_file-e-requires c = sym c.holds_book.ensures ∙ c.if-not-holds_book.false
+
+pub returns : goal.returns
+returns c =
+    let w = c.entered_word in
+    enter_fit _ _ _ (sym c.holds_book.ensures ∙ c.if-not-holds_book.false) c.enter_file-e.ensures.0 (to_z-of_z {w = w64} {z = w.result} (sfits_of w.type_inv) ∙ w.ensures)
+    c.enter_file-e.ensures.1 c.enter_file-e.ensures.2

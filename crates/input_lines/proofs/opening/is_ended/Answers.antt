@@ -1,0 +1,16 @@
+-- By the phase. Assumes nothing.
+use borrow.Author.Rules.{rules}
+use Rattle.input_lines.specs.States.{ended_phase}
+use Rattle.input_lines.proofs.opening.is_ended.Goals as goal
+
+pub returns-in-Unopened : goal.returns-in-Unopened
+unfolding ended_phase
+returns-in-Unopened c = rw c.in-Unopened.is
+
+pub returns-in-Opened : goal.returns-in-Opened
+unfolding ended_phase
+returns-in-Opened c = rw c.in-Opened.is
+
+pub returns-in-Ended : goal.returns-in-Ended
+unfolding ended_phase
+returns-in-Ended c = rw c.in-Ended.is

@@ -1,0 +1,16 @@
+-- By the phase. Assumes nothing.
+use borrow.Author.Rules.{rules}
+use Rattle.input_lines.specs.States.{opened_phase}
+use Rattle.input_lines.proofs.opening.is_opened.Goals as goal
+
+pub returns-in-Unopened : goal.returns-in-Unopened
+unfolding opened_phase
+returns-in-Unopened c = rw c.in-Unopened.is
+
+pub returns-in-Opened : goal.returns-in-Opened
+unfolding opened_phase
+returns-in-Opened c = rw c.in-Opened.is
+
+pub returns-in-Ended : goal.returns-in-Ended
+unfolding opened_phase
+returns-in-Ended c = rw c.in-Ended.is

@@ -1,0 +1,6 @@
+-- All but the phase stays, and that is the one after the refusal. Assumes nothing.
+use borrow.Author.Rules.{rules}
+use Rattle.input_lines.proofs.opening.opened.Goals as goal
+
+pub returns : goal.returns
+returns c = rw c.phase_at-phase.ensures
