@@ -115,7 +115,7 @@ module _ (s file : List ℕ) (k : ℕ) (a : (write_call s file).answer ≡ pos (
 -- ════ the file entered
 calls_of_lem : (f : List ℕ) (es : List (List ℤ)) → entries_of f ≡ es → calls_in f ≡ map call_in es
 unfolding calls_in
-calls_of_lem f es e = ap (map call_in) e
+calls_of_lem f rows e = ap (map call_in) e
 
 -- answers as numbers, and as words
 words_said : {S C : Type 0} (next : S → C → S) (says : S → C → ℕ) (s : S) (cs : List C) (i : ℕ) → get_or (answers next (λ x c. pos (says x c)) s cs) i (pos 0) ≡ pos (get_or (answers next says s cs) i 0)

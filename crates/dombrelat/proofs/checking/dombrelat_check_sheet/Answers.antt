@@ -10,7 +10,11 @@ use borrow.Author.Rules.{rules, sfits_of}
 use Rattle.dombrelat.proofs.checking.dombrelat_check_sheet.Goals as goal
 
 pub returns-then-not-holds_book : goal.returns-then-not-holds_book
-returns-then-not-holds_book c = sheet_unfit _ _ _ _ (sym c.holds_book.ensures ∙ c.if-not-holds_book.true)
+returns-then-not-holds_book c =
+    record {
+      value = (sheet_unfit _ _ _ _ (sym c.holds_book.ensures ∙ c.if-not-holds_book.true)).0;
+      out_after = (sheet_unfit _ _ _ _ (sym c.holds_book.ensures ∙ c.if-not-holds_book.true)).1;
+    }
 
 pub check_sheet_lent-a-requires : goal.check_sheet_lent-a-requires
 check_sheet_lent-a-requires c =

@@ -12,7 +12,6 @@ use Rattle.dombrelat.proofs.proposing.dombrelat_propose.Goals as goal
 
 pub returns-then-not-holds_book : goal.returns-then-not-holds_book
 returns-then-not-holds_book c =
-    let fit : bytes_fit c.args.book.now ≡ true = sym c.holds_book.ensures ∙ c.if-not-holds_book.false in
     record { unfit = λ e. (refl, refl, refl); fit = λ e. clash e (sym c.holds_book.ensures ∙ c.if-not-holds_book.true) }
 
 pub propose_lent-requires : goal.propose_lent-requires

@@ -13,7 +13,11 @@ use borrow.Author.Rules.{rules, sfits_of}
 use Rattle.dombrelat.proofs.reading.dombrelat_stations.Goals as goal
 
 pub returns-then-not-holds_book : goal.returns-then-not-holds_book
-returns-then-not-holds_book c = both _ _ _ _ (stations_unfit _ _ (sym c.holds_book.ensures ∙ c.if-not-holds_book.true)) (refl, refl)
+returns-then-not-holds_book c =
+    record {
+      value = (both _ _ _ _ (stations_unfit _ _ (sym c.holds_book.ensures ∙ c.if-not-holds_book.true)) (refl, refl)).0;
+      list_after = (both _ _ _ _ (stations_unfit _ _ (sym c.holds_book.ensures ∙ c.if-not-holds_book.true)) (refl, refl)).1;
+    }
 
 pub network_in-net-requires : goal.network_in-net-requires
 network_in-net-requires c =
@@ -47,5 +51,7 @@ pub returns : goal.returns
 returns c =
     let fit : bytes_fit c.args.book.now ≡ true = sym c.holds_book.ensures ∙ c.if-not-holds_book.false in
     let g = c.give in
-    both _ _ _ _ (stations-fit _ _ _ _ fit c.network_in-net.ensures c.stations_at-w.ensures)
-    (to_z-of_z {w = w64} {z = g.result} (sfits_of g.type_inv) ∙ g.ensures.0, g.ensures.1)
+    record {
+      value = (both _ _ _ _ (stations-fit _ _ _ _ fit c.network_in-net.ensures c.stations_at-w.ensures) (to_z-of_z {w = w64} {z = g.result} (sfits_of g.type_inv) ∙ g.ensures.0, g.ensures.1)).0;
+      list_after = (both _ _ _ _ (stations-fit _ _ _ _ fit c.network_in-net.ensures c.stations_at-w.ensures) (to_z-of_z {w = w64} {z = g.result} (sfits_of g.type_inv) ∙ g.ensures.0, g.ensures.1)).1;
+    }

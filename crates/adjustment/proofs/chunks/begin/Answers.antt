@@ -3,20 +3,16 @@ use mathlib.Core.Path.{◌≡◌, refl}
 use mathlib.Core.Bool.{true, false}
 use native.Mathlib.Omega.{arith}
 use Rattle.input_lines.specs.States.{phase_of, given_of, opened_phase, given_length}
-use Rattle.adjustment.proofs.chunks.begin.Statement.{statement}
-use Rattle.adjustment.proofs.chunks.begin.Tie as tie
+use Rattle.adjustment.proofs.chunks.begin.Goals as goal
 
-returns : tie.Need-returns
+pub returns : goal.returns
 unfolding phase_of given_of opened_phase given_length
 returns c =
     record {
       run = λ b list x m. refl;
       blank = λ line. refl;
-      ready = λ bytes list x m o p q r. record { room_book = o; room_list = p; room_x = q; room-m = r; words = omega arith; corrections = omega arith; matrix = omega arith; read = omega arith; fits = λ h. let z : false ≡ true = h in cc };
+      ready = λ bytes list x m o p q r. record { room_book = o; room_list = p; room_x = q; room-m = r; words = omega arith; corrections = omega arith; matrix = omega arith; read = omega arith; fits = λ h. cc };
       lines = refl;
       short = refl;
       silent = refl;
     }
-
-pub begin-spec : {M : Type 1} → statement M
-begin-spec = tie.close (tie.spec returns)

@@ -1,0 +1,73 @@
+-- The invariant is `Middle`: what is ahead from here is what was ahead from the chunk's start. A line that ends is obeyed, which takes it on (`middle-line`);
+use borrow.Author.Rules.{rules}
+use Prim.Native.Nat.{ℕ, ◌-◌, ◌≤◌}
+use mathlib.Core.Path.{ap, ◌∙◌}
+use native.Mathlib.Omega.{arith}
+use native.Mathlib.Nat.{sub-zero}
+use borrow.Author.Tests.{not-true, not-false}
+use lib.ListN.{length, take}
+use Rattle.text.specs.Lines.{holds}
+use Rattle.text.specs.LineLaws.{fed_fits, fed_on}
+use Rattle.adjustment.specs.ChunkLaws.{Middle, middle_start, middle-line, middle-part, middle_end}
+use Rattle.adjustment.proofs.chunks.take_chunk.Goals as goal
+
+pub loop-at-init : goal.loop-at-init
+loop-at-init c = middle_start c.requires.ready c.requires.line_len.0 c.requires.line_len.1
+
+pub feed-fed-requires : goal.feed-fed-requires
+feed-fed-requires c =
+    let held_fits : c.loop-at.len ≤ length c.loop-at.line = let h = c.loop-at.invariant in omega (arith, h.len_fits, h.line_long) in
+    held_fits
+
+pub shape_of-line-then-not-fed : goal.shape_of-line-then-not-fed
+shape_of-line-then-not-fed c = c.feed-fed.auto.line ∙ c.loop-at.invariant.line_kept
+
+pub shape_of-line : goal.shape_of-line
+shape_of-line c = c.loop-at.invariant.line_kept
+
+pub returns-then-not-fed : goal.returns-then-not-fed
+returns-then-not-fed c =
+    let h = c.loop-at.invariant in
+    let q = middle-part h c.feed-fed.ensures (not-true _ c.if-not-fed.true) in
+    record {
+      takes = rw c.taken_to.ensures q.0;
+      ready_2 = rw c.taken_to.ensures (h.ready, q.1, omega (arith, h.lines, h.at-fits), omega (arith, h.p_fits, h.at-fits));
+    }
+
+pub slice_bounds-obey-end : goal.slice_bounds-obey-end
+slice_bounds-obey-end c =
+    let held_fits : c.loop-at.len ≤ length c.loop-at.line = let h = c.loop-at.invariant in omega (arith, h.len_fits, h.line_long) in
+    let fed-holds : c.feed-fed.result.len ≤ length c.feed-fed.new.line = omega (arith, fed_fits _ _ _ _ _ _ _ held_fits c.feed-fed.ensures, c.feed-fed.auto.line) in
+    fed-holds
+
+pub obey-after-requires : goal.obey-after-requires
+obey-after-requires c =
+    let t = c.loop-at-test.true in
+    let h = c.loop-at.invariant in
+    let p = c.requires.line_len in
+    record { ready = h.ready; lines_lt_most_lines = (omega (arith, h.lines, t, p.2), omega (arith, h.p_fits, h.out-kept, t, p.3)) }
+
+pub loop-at-smaller : goal.loop-at-smaller
+loop-at-smaller c =
+    let held_fits : c.loop-at.len ≤ length c.loop-at.line = let h = c.loop-at.invariant in omega (arith, h.len_fits, h.line_long) in
+    let on = fed_on _ _ _ _ _ _ _ held_fits c.feed-fed.ensures (not-false _ c.if-not-fed.false) in
+    omega (arith, on.0, on.1)
+
+pub loop-at-preserved : goal.loop-at-preserved
+loop-at-preserved c =
+    let o = c.obey-after in
+    let held = c.feed-fed.new.line in
+    let fed = c.feed-fed.result in
+    middle-line c.loop-at.invariant (record { text = take (fed.len - 0) held; over = fed.over }) c.feed-fed.ensures (not-false _ c.if-not-fed.false) c.feed-fed.auto.line
+    (ap (λ (n : ℕ). holds held n fed.over) (sub-zero fed.len))
+    o.ensures.runs_to o.ensures.ready_2.0 o.ensures.ready_2.1
+    o.auto.book o.auto.list o.auto.x o.auto.m o.auto.out
+    c.requires.line_len.3
+
+pub returns : goal.returns
+returns c =
+    let h = c.loop-at.invariant in
+    record {
+      takes = rw c.taken_to-2.ensures (middle_end h c.loop-at-test.false);
+      ready_2 = rw c.taken_to-2.ensures (h.ready, h.len_fits, omega (arith, h.lines, h.at-fits), omega (arith, h.p_fits, h.at-fits));
+    }
