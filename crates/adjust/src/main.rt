@@ -84,7 +84,18 @@ fn run(
     let mut answer: isize = 0;
     let mut reads: usize = 0;
     while reads < MOST_READS {
-        let s = turn(input, taken, &mut answer, line, book, list, x, m, chunk, out);
+        let s = turn(
+            input,
+            taken,
+            &mut answer,
+            line,
+            book,
+            list,
+            x,
+            m,
+            chunk,
+            out,
+        );
         let printed = s.printed;
         let progress = s.progress;
         if !io::write_all(1, &out[0..printed]) {
@@ -140,8 +151,7 @@ fn main(rt: HostRuntime) {
     let mut chunk = chunk_room();
     let mut out = out_room();
     let finish = run(
-        &mut input,
-        &mut line, &mut book, &mut list, &mut x, &mut m, &mut chunk, &mut out,
+        &mut input, &mut line, &mut book, &mut list, &mut x, &mut m, &mut chunk, &mut out,
     );
     tell(finish);
 }
