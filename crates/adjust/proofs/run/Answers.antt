@@ -28,19 +28,19 @@ pub slice_bounds-write_all-end : goal.slice_bounds-write_all-end
 slice_bounds-write_all-end c = c.turn-s.ensures.continues.within
 
 pub shape_of-out-then-not-write_all : goal.shape_of-out-then-not-write_all
-shape_of-out-then-not-write_all c = c.turn-s.auto.answer ∙ c.loop-reads.invariant.0
+shape_of-out-then-not-write_all c = c.turn-s.auto.out ∙ c.loop-reads.invariant.6
 
 pub shape_of-out-in-Finished : goal.shape_of-out-in-Finished
-shape_of-out-in-Finished c = c.turn-s.auto.line ∙ c.loop-reads.invariant.1
+shape_of-out-in-Finished c = c.turn-s.auto.out ∙ c.loop-reads.invariant.6
 
 pub shape_of-out-in-Refused : goal.shape_of-out-in-Refused
-shape_of-out-in-Refused c = c.turn-s.auto.book ∙ c.loop-reads.invariant.2
+shape_of-out-in-Refused c = c.turn-s.auto.out ∙ c.loop-reads.invariant.6
 
 pub shape_of-out-in-Unread : goal.shape_of-out-in-Unread
-shape_of-out-in-Unread c = c.turn-s.auto.list ∙ c.loop-reads.invariant.3
+shape_of-out-in-Unread c = c.turn-s.auto.out ∙ c.loop-reads.invariant.6
 
 pub shape_of-out : goal.shape_of-out
-shape_of-out c = c.turn-s.auto.x ∙ c.loop-reads.invariant.4
+shape_of-out c = c.loop-reads.invariant.6
 
 pub returns-then-not-write_all : goal.returns-then-not-write_all
 returns-then-not-write_all c = ran_unwritten _ _ c.loop-reads.invariant.10
@@ -49,34 +49,34 @@ pub returns-in-Finished : goal.returns-in-Finished
 returns-in-Finished c = ran_printed c.turn-s.ensures.steps c.loop-reads.invariant.10 _ c.in-Finished.is
 
 pub returns-in-Refused : goal.returns-in-Refused
-returns-in-Refused c = ran-refused c.turn-s.new.taken c.turn-s.ensures.steps c.loop-reads.invariant.10 c.in-Refused.is
+returns-in-Refused c = ran-refused c.turn-s.new.answer c.turn-s.ensures.steps c.loop-reads.invariant.10 c.in-Refused.is
 
 pub returns-in-Unread : goal.returns-in-Unread
 returns-in-Unread c = ran_unread _ _ c.loop-reads.invariant.10
 
 pub overflow_add-reads : goal.overflow_add-reads
-overflow_add-reads c = omega (arith, c.loop-reads-test.taken)
+overflow_add-reads c = omega (arith, c.loop-reads-test.true)
 
 pub loop-reads-smaller : goal.loop-reads-smaller
-loop-reads-smaller c = omega (arith, c.loop-reads-test.taken)
+loop-reads-smaller c = omega (arith, c.loop-reads-test.true)
 
 pub loop-reads-preserved : goal.loop-reads-preserved
 loop-reads-preserved c =
     let t = c.turn-s in
     let i = c.loop-reads.invariant in
     let e = c.in-Reading.is in
-    let n = gave_few t.new.taken t.new.m in
+    let n = gave_few t.new.answer t.new.chunk in
     let g = t.ensures.continues.lines e in (
-      t.auto.answer ∙ i.0,
-      t.auto.line ∙ i.1,
-      t.auto.book ∙ i.2,
-      t.auto.list ∙ i.3,
-      t.auto.x ∙ i.4,
-      t.auto.m ∙ i.5,
-      t.auto.chunk ∙ i.6,
+      t.auto.line ∙ i.0,
+      t.auto.book ∙ i.1,
+      t.auto.list ∙ i.2,
+      t.auto.x ∙ i.3,
+      t.auto.m ∙ i.4,
+      t.auto.chunk ∙ i.5,
+      t.auto.out ∙ i.6,
       t.ensures.continues.ready e,
       t.ensures.continues.short e,
-      omega (arith, i.9, n, g, t.auto.m, i.5, c.requires.5),
+      omega (arith, i.9, n, g, t.auto.chunk, i.5, c.requires.5),
       led_on t.ensures.steps i.10 e,
     )
 

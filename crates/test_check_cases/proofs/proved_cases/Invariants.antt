@@ -1,0 +1,12 @@
+-- Each number below 14 is that of a case. Assumes nothing.
+use Prim.Native.Nat.{◌≤◌, ◌-◌}
+use native.Mathlib.Omega.{arith}
+use borrow.Author.Rules.{rules}
+use Rattle.cases.specs.Script.{table-length}
+use Rattle.test_check_cases.proofs.proved_cases.Given as goal
+
+abbrev pub invariant-loop-k : goal.invariant-loop-k
+invariant-loop-k l = l.k ≤ 14
+
+abbrev pub decreases-loop-k : goal.decreases-loop-k
+decreases-loop-k l = 14 - l.k
