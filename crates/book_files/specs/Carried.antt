@@ -1,4 +1,5 @@
 -- The entries of a book that is by the rules and that a file can carry are entries of a file, and each asks to enter its own record again. Assumes nothing.
+use Rattle.files.specs.Statements.{AllFit}
 use Rattle.std.specs.Prelude.{ℕ, suc, ◌+◌, ◌<◌, ◌≤◌, ◌≡◌, refl, true, false, ◌&&◌, List, ltb, get_or, ℤ, pos, nat_abs}
 use Rattle.std.proofs.Common.{sym, ap, ◌∙◌, arith, lt-ltb}
 use Rattle.std.specs.Int.Signed.{le_z}
@@ -19,7 +20,6 @@ use Rattle.book.specs.declared.Call.TheVariants.{Edit}
 use Rattle.book.specs.Sound.{SoundParts}
 use Rattle.layout.specs.WordSizes.{L, record_small}
 use Rattle.files.specs.Entries.{zeros_from, kind_right, right_words, EntryFits}
-use Rattle.files.proofs.FileLaws.{AllFit}
 use Rattle.book_files.specs.Writing.{record_entry, carried, book_entries, all_carried}
 use Rattle.book_files.specs.WritingLaws.{each_below}
 use Rattle.book_files.specs.Entering.{record_words_in, call_in}

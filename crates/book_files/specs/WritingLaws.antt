@@ -1,5 +1,6 @@
 -- Laws of a book written: the entries, their number and length, the loop's step, and that a file can carry them. Assumes nothing.
 use Prim.Native.Nat.{ℕ, zero, suc, ◌+◌, ◌-◌, ◌*◌, ◌/◌, ◌<◌, ◌≤◌}
+use Rattle.files.specs.Statements.{AllLong}
 use Rattle.std.specs.Prelude.{◌≡◌, refl, Bool, cond, List, [], ◌∷◌, ◌++◌, get_or, drop, ℤ}
 use Rattle.std.proofs.Math.Path.{sym}
 use Rattle.std.proofs.Common.{ap, ◌∙◌, le-leb, add-one, length-append}
@@ -14,7 +15,7 @@ use Rattle.network.specs.declared.Place.{Place}
 use Rattle.network.specs.declared.Record.{Record}
 use Rattle.files.specs.Entries.{entry_words}
 use Rattle.files.specs.Files.{file_words, file_of}
-use Rattle.files.proofs.FileLaws.{AllLong, write_append, file_one, put_file}
+use Rattle.files.proofs.FileLaws.{write_append, file_one, put_file}
 use Rattle.files.specs.declared.FileRefusal.{FileRefusal}
 use Rattle.files.specs.declared.FileRefusal.TheVariants.{NoRoom, NotCarried}
 use Rattle.book.specs.declared.Book.{Book}

@@ -1,5 +1,6 @@
 -- What the C call writes of a book, entered by the C call on a new book over the same stations, gives the same records, N and u, and every entry is answered 0. Over books: book_files,
 -- specs/RoundTrip.antt. Assumes nothing.
+use Rattle.files.specs.Statements.{AllFit}
 use Rattle.std.specs.Prelude.{ℕ, zero, suc, ◌+◌, ◌*◌, ◌/◌, ◌<◌, ◌≤◌, ◌≡◌, refl, Bool, true, false, cond, List, [], ◌∷◌, ◌++◌, map, leb, length, get_or, take, drop, ℤ, pos, nat_abs}
 use Rattle.std.proofs.Common.{sym, ap, ◌∙◌, subst, arith, leb-true, le-leb, drop_at, SFits}
 use Rattle.std.proofs.lemmas.List.{length-map}
@@ -16,7 +17,7 @@ use Rattle.layout.specs.Bytes.{book_of, bytes_fit}
 use Rattle.layout.specs.CodecLaws.{fits-sound}
 use Rattle.files.specs.Files.{file_of, reads, entries_of}
 use Rattle.files.specs.declared.FileRefusal.TheVariants.{NoRoom, NotCarried}
-use Rattle.files.proofs.FileLaws.{AllFit, fit_long, length_file, file_front, written-reads, written-entries}
+use Rattle.files.proofs.FileLaws.{fit_long, length_file, file_front, written-reads, written-entries}
 use Rattle.book_files.specs.Writing.{book_entries, all_carried, write_answer, file_left}
 use Rattle.book_files.specs.WritingLaws.{entries_few}
 use Rattle.book_files.specs.Entering.{call_in, calls_in, enter_answer}

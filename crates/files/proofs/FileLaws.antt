@@ -1,5 +1,6 @@
 -- Laws of files. Walking back is the same as every entry being linked (`reads-linked`). What is written reads and gives its entries back (`written-reads`,
 -- `written-entries`), and a file that reads is the one that writing its entries gives (`read-written`): so to read is to be the file of some entries (`reads-some`). Assumes nothing.
+use Rattle.files.specs.Statements.{AllFit, AllLong, Whole}
 use Rattle.std.specs.Prelude.{◌≡◌, ℕ, zero, suc, ◌+◌, ◌-◌, ◌*◌, ◌/◌, ◌%◌, ◌^◌, ◌<◌, ◌≤◌, true, false, cond, ◌&&◌, ◌⊎◌, ◌↔◌, List, [], ◌∷◌, ◌++◌, length, take, drop, ℤ, pos, negsuc, FitsSigned, ◌==◌, ◌≢◌, nat_le, slice_index_or, refl}
 use Rattle.std.proofs.Math.Path.{sym, ap}
 use Rattle.std.proofs.Common.{◌∙◌, subst, inl, inr, append-nil, append_assoc, eqb-true, eq-eqb, ne_eqb, leb-true, le-leb, lt-ltb, le-ltb, length-append, take_at, drop_at}
@@ -159,11 +160,6 @@ linked_read f b e = by (ℕ_discrete (length f) 0)
 pub reads_linked : (f : List ℕ) → length f < 2 ^ 64 → reads f ≡ (length f % 128 == 0) && linked_to f (length f / 128)
 reads_linked f b = same_test _ _ (read_linked f) (linked_read f b)
 
--- a file that reads has whole entries, each linked
-pub record Whole (f : List ℕ) : Type 0 where
-  pub whole : length f ≡ 128 * (length f / 128)
-  pub linked : (i : ℕ) → i < length f / 128 → linked_at f (128 * i) ≡ true
-
 pub reads_whole : (f : List ℕ) → reads f ≡ true → Whole f
 reads_whole f e =
     let g = read_linked f e in
@@ -198,14 +194,6 @@ read_written f b e =
     ∙ bytes_of_words f (16 * n) b (omega (arith, w.whole))
 
 -- ════ what is written
--- entries that a file can carry
-abbrev pub AllFit : List (List ℤ) → Type 0
-AllFit es = (i : ℕ) → i < length es → EntryFits (slice_index_or es i [])
-
--- entries of thirteen words each
-abbrev pub AllLong : List (List ℤ) → Type 0
-AllLong es = (i : ℕ) → i < length es → length (slice_index_or es i []) ≡ 13
-
 pub fit_long : (es : List (List ℤ)) → AllFit es → AllLong es
 fit_long es f i h = (f i h).long
 

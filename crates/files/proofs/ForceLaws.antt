@@ -1,4 +1,5 @@
 -- Laws of the latest entry for a place and of the entry in force. Assumes nothing.
+use Rattle.files.specs.Statements.{Latest}
 use Rattle.std.specs.Prelude.{◌≡◌, ℕ, zero, suc, ◌+◌, ◌*◌, ◌/◌, ◌<◌, ◌≤◌, true, false, cond, ◌&&◌, ◌⊎◌, List, length, ℤ, pos, ◌≢◌, int_le, nat_lt, refl}
 use Rattle.std.proofs.Common.{inl, inr, arith, ltb-true}
 use Rattle.std.proofs.Math.Decide.{ℕ_discrete}
@@ -13,14 +14,6 @@ use Rattle.files.specs.declared.FileRefusal.TheVariants.{BadPlace, Unreadable, N
 use Rattle.files.specs.declared.EntryFound.TheVariants.{InNight, InDay, Refused}
 
 -- ════ the latest entry for a place
--- its number, its place, and that no later one is for the place
-pub record Latest (f : List ℕ) (p : ℤ) (n at : ℕ) : Type 0 where
-  pub number : ℕ
-  pub below : number < n
-  pub start : at ≡ 128 * number
-  pub place : word_at f (at + 8) ≡ p
-  pub last : (i : ℕ) → number < i → i < n → word_at f (128 * i + 8) ≢ p
-
 latest_below : (f : List ℕ) (p : ℤ) (n : ℕ) → 128 * n ≤ length f → latest_entry_to f p n < length f → Latest f p n (latest_entry_to f p n)
 unfolding latest_entry_to
 latest_below f p zero h l = absurd (omega arith)

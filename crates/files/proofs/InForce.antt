@@ -1,4 +1,5 @@
 -- The entry in force, of entries: what the part that is shown holds. Assumes nothing.
+use Rattle.files.specs.Statements.{latest_for, entry_in_force, Shows}
 use Rattle.std.specs.Prelude.{◌≡◌, ℕ, zero, suc, ◌+◌, ◌*◌, ◌/◌, ◌<◌, ◌≤◌, true, false, cond, ◌&&◌, ◌⊎◌, List, [], ◌∷◌, ◌++◌, length, get_or, take, drop, ℤ, pos, int_le, nat_lt, slice_index_or, refl}
 use Rattle.std.proofs.Common.{sym, ap, ◌∙◌, inl, inr, arith, lt-ltb, le-ltb}
 use Rattle.words.specs.Bools.{true_or_false}
@@ -11,17 +12,7 @@ use Rattle.files.specs.Files.{reads, entries_from, entries_of, latest_entry_to, 
 use Rattle.files.proofs.FileLaws.{reads_whole, entries-more}
 use Rattle.files.specs.Force.{force_in, in_force, shown}
 use Rattle.files.specs.declared.FileRefusal.TheVariants.{NoEntry}
-use Rattle.files.specs.declared.EntryFound.{EntryFound}
 use Rattle.files.specs.declared.EntryFound.TheVariants.{InNight, InDay, Refused}
-
--- the latest of entries for a place, else `none`
-unfoldable pub latest_for : List (List ℤ) → ℤ → List ℤ → List ℤ
-latest_for [] p none = none
-latest_for (e ∷ es) p none = latest_for es p (cond (eq_z (slice_index_or e 1 (pos 0)) p) e none)
-
--- "the latest in the night file if it has one, else the latest in the day file"; no words where neither has one
-abbrev pub entry_in_force : List (List ℤ) → List (List ℤ) → ℤ → List ℤ
-entry_in_force night day p = latest_for night p (latest_for day p [])
 
 -- ════ the latest entry of a file
 latest_snoc : (es : List (List ℤ)) (e : List ℤ) (p : ℤ) (none : List ℤ) → latest_for (es ++ (e ∷ [])) p none ≡ cond (eq_z (slice_index_or e 1 (pos 0)) p) e (latest_for es p none)
@@ -56,12 +47,6 @@ latest_entry_lem f p none r = let w = reads_whole f r in latest-to f p none (len
 -- ════ what is shown
 thirteen : (f : List ℕ) (at : ℕ) → words_at (take 128 (drop at f)) 0 13 ≡ words_at f at 13
 thirteen f at = sym (words_take (take 128 (drop at f)) 0 13 3) ∙ ap (take 13) (words_part f at 16) ∙ words_take f at 13 3
-
--- the part shown holds the words of the entry e; or there is no entry, and the call is refused so
-abbrev pub Shows : List ℕ → List ℕ → EntryFound → List ℤ → Type 0
-Shows night day (InNight at) e = words_at (shown (InNight at) night day) 0 13 ≡ e
-Shows night day (InDay at) e = words_at (shown (InDay at) night day) 0 13 ≡ e
-Shows night day (Refused r) e = (r ≡ NoEntry) × (e ≡ [])
 
 module _ (night day : List ℕ) (p : ℤ) (place : int_le (pos 1) p && int_le p (pos 256) ≡ true) (rn : reads night ≡ true) (rd : reads day ≡ true) where
   abbrev entry : List ℤ

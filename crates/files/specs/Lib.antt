@@ -6,3 +6,4 @@ pub mod EntryLaws
 pub mod Files
 pub mod Force
 pub mod Examples
+pub mod Statements

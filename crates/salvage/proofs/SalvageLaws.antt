@@ -1,5 +1,7 @@
 -- Laws of salvage: the fresh file reads and has the kept words (`fresh-reads`, `fresh-entries`), an undamaged file comes out unchanged with no skipped run (`undamaged`,
 -- `undamaged-skipped`), and how much room is always enough (`room-enough`). Assumes nothing.
+use Rattle.salvage.specs.Statements.{starts_from}
+use Rattle.files.specs.Statements.{AllFit}
 use Rattle.std.specs.Prelude.{ℕ, zero, suc, ◌+◌, ◌*◌, ◌/◌, ◌<◌, ◌≤◌, ◌^◌, ◌≡◌, refl, true, ◌&&◌, List, [], ◌∷◌, ◌++◌, leb, length, get_or, take, drop, ℤ, pos}
 use Rattle.std.proofs.Common.{sym, ◌∙◌, arith, le-leb, leb-true, length-append, drop_at, SFits}
 use Rattle.std.proofs.Math.Path.{ap}
@@ -14,7 +16,7 @@ use Rattle.files.specs.EntryLaws.{all_three, linked_right, signed_any, fits-none
 use Rattle.files.specs.Bytes.{bytes_of}
 use Rattle.files.specs.BytesLaws.{bytes_small, length_bytes, run_bytes}
 use Rattle.files.specs.Files.{file_words, file_of, right_at, linked_at, reads, entries_from, entries_of}
-use Rattle.files.proofs.FileLaws.{AllFit, fit_long, linked_next, reads_whole, read_fits, read_written, written-reads, written-entries, length_file, put_file, file_front}
+use Rattle.files.proofs.FileLaws.{fit_long, linked_next, reads_whole, read_fits, read_written, written-reads, written-entries, length_file, put_file, file_front}
 use Rattle.salvage.specs.declared.SalvageCounts.{SalvageCounts}
 use Rattle.salvage.specs.declared.Salvaged.TheVariants.{Counts}
 use Rattle.salvage.specs.Salvage.{kept_at, kept_from, kept_starts, entries_at, kept_entries, fresh_file, run_between, runs_between, skipped_runs, kept_pairs, pair_words, salvage_counts, room_for, fresh_left}
@@ -129,11 +131,6 @@ length-kept_pairs new [] = refl
 length-kept_pairs new (k ∷ ks) = ap suc (length-kept_pairs (new + 128) ks)
 
 -- ════ an undamaged file
--- n starts, end to end from byte `at` on
-unfoldable pub starts_from : ℕ → ℕ → List ℕ
-starts_from at zero = []
-starts_from at (suc n) = at ∷ starts_from (at + 128) n
-
 linked_kept : (f : List ℕ) (at : ℕ) → at + 128 ≤ length f → linked_at f at ≡ true → kept_at f at ≡ true
 unfolding kept_at linked_at right_at
 linked_kept f at h g = and_both (leb (at + 128) (length f)) (right_at f at) (le-leb _ _ h) (linked_right at (words_at f at 16) (length_words f at 16) g)

@@ -1,4 +1,5 @@
 -- Laws of the scan: a step that keeps, a step that skips, and its end; what it keeps lies end to end or apart; the run between two kept entries. Assumes nothing.
+use Rattle.salvage.specs.Statements.{Apart}
 use Rattle.std.specs.Prelude.{ℕ, zero, suc, ◌+◌, ◌-◌, ◌*◌, ◌<◌, ◌≤◌, ◌≡◌, refl, ◌⊎◌, true, false, cond, List, [], ◌∷◌, leb, length, get_or}
 use Rattle.std.proofs.Common.{sym, ◌∙◌, inl, inr, arith, leb-true, lt-ltb, le-ltb}
 use Rattle.std.proofs.Math.Path.{ap}
@@ -58,11 +59,6 @@ module _ (f : List ℕ) (at : ℕ) where
       go (no h) = let n : length f ≡ suc (length f - 1) = omega arith in step (length f - 1) n ∙ rw e
 
 -- ════ what is kept
--- starts of entries that lie apart or end to end, from byte `from` to byte `end`
-abbrev pub Apart : ℕ → List ℕ → ℕ → Type 0
-Apart from [] end = from ≤ end
-Apart from (k ∷ ks) end = (from ≤ k) × Apart (k + 128) ks end
-
 scan-apart : (f : List ℕ) (k from at : ℕ) → from ≤ at → from ≤ length f → Apart from (scan f k at) (length f)
 unfolding scan
 scan-apart f zero from at h l = l

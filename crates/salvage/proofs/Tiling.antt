@@ -1,39 +1,15 @@
 -- "Kept and skipped bytes together tile the input" (`tiles`), the skipped runs are longest (`skipped-longest`), and both lists are by rising start (`skipped-parted`; `kept-apart` of
 -- ScanLaws). Assumes nothing.
-use Rattle.std.specs.Prelude.{ℕ, zero, suc, ◌+◌, ◌-◌, ◌<◌, ◌≤◌, ◌≡◌, cond, ◌&&◌, List, [], ◌∷◌, ◌++◌, leb, ltb, length, get_or}
+use Rattle.salvage.specs.Statements.{Apart, times_within, times_kept, times_skipped, Parted, Longest}
+use Rattle.std.specs.Prelude.{ℕ, zero, suc, ◌+◌, ◌-◌, ◌<◌, ◌≤◌, ◌≡◌, List, [], ◌∷◌, ◌++◌, leb, ltb, length, get_or}
 use Rattle.std.proofs.Common.{sym, subst, append-nil, arith}
 use Rattle.std.proofs.Math.Decide.{dec_lt}
 use borrow.Author.Tests.{lt-ltb, le-ltb, le-leb, lt-leb}
 use Rattle.words.specs.Bools.{and_no_right}
 use Rattle.salvage.specs.Salvage.{kept_starts, run_between, runs_between, skipped_runs}
-use Rattle.salvage.proofs.ScanLaws.{Apart, kept-apart, apart-room, run_one, run_none}
+use Rattle.salvage.proofs.ScanLaws.{kept-apart, apart-room, run_one, run_none}
 
 -- ════ the statements
--- 1 where byte j is one of those from a to before b, else 0
-unfoldable pub times_within : ℕ → ℕ → ℕ → ℕ
-times_within a b j = cond (leb a j && ltb j b) 1 0
-
--- how often byte j lies in an entry that starts at one of ks
-unfoldable pub times_kept : ℕ → List ℕ → ℕ
-times_kept j [] = 0
-times_kept j (k ∷ ks) = times_within k (k + 128) j + times_kept j ks
-
--- how often byte j lies in one of these runs
-unfoldable pub times_skipped : ℕ → List (ℕ × ℕ) → ℕ
-times_skipped j [] = 0
-times_skipped j (r ∷ rs) = times_within r.0 (r.0 + r.1) j + times_skipped j rs
-
--- by rising start from byte `from` on: none is empty, and between two of them there is a byte
-abbrev pub Parted : ℕ → List (ℕ × ℕ) → Type 0
-Parted from [] = Unit {0}
-Parted from (r ∷ rs) = (from ≤ r.0) × (0 < r.1) × Parted (suc (r.0 + r.1)) rs
-
--- a run of f that goes on neither way: the byte before it and the byte behind it, where there are such, are kept
-pub record Longest (f : List ℕ) (r : ℕ × ℕ) : Type 0 where
-  pub some : 0 < r.1
-  pub before : 0 < r.0 → times_kept (r.0 - 1) (kept_starts f) ≡ 1
-  pub behind : r.0 + r.1 < length f → times_kept (r.0 + r.1) (kept_starts f) ≡ 1
-
 -- ════ tiling
 module _ (a b j : ℕ) where
   within_yes : a ≤ j → j < b → times_within a b j ≡ 1

@@ -5,10 +5,10 @@ use Rattle.std.proofs.Math.Path.{refl, sym, ap}
 use Rattle.std.proofs.Common.{ap₂, ◌∙◌, lit<, length-append}
 use mathlib.Core.List.{List, [], ◌∷◌, ◌++◌}
 use native.Mathlib.Omega.{arith}
-use Rattle.integers.specs.Sums.{sum_n, sum_n-suc, sum_n-ext, sum_n-first}
+use Rattle.integers.specs.Sums.{sum_n}
 use Rattle.lists.specs.Pasted.{pasted, pasted-none, pasted_then}
 use Rattle.words.specs.Concat.{concat_below, concat_below-none, concat_below-+1, length-concat_below, concat_below-ext}
-use Rattle.network.specs.Stations.{unknown_count, coordinate, coordinates, unknown_table, index_table}
+use Rattle.network.specs.Stations.{unknown_count, coordinates, unknown_table, index_table}
 use Rattle.network.specs.Records.{acts, from_of, to_of, record_at, observations, acts_of, is_empty}
 use Rattle.network.specs.RecordLaws.{by_observations}
 use Rattle.network.specs.declared.Station.{Station}

@@ -1,6 +1,6 @@
 -- Counts of the records, T and D: what the code's loops keep. Assumes nothing.
 use Rattle.std.specs.Prelude.{ℕ, zero, suc, ◌+◌, ◌*◌, ◌<◌, ◌≤◌, ◌^◌, ◌≡◌, refl, Bool, true, false, cond, ◌&&◌, ◌||◌, List, eqb, get_or, length, ℤ, pos, nat_abs, ◌+ℤ◌, ◌-ℤ◌, ◌*ℤ◌}
-use Rattle.std.proofs.Common.{sym, ap, ap₂, ◌∙◌, arith, le_trans, lit≤, SFits, of_z, to_z}
+use Rattle.std.proofs.Common.{sym, ap, ap₂, ◌∙◌, arith, le_trans, lit≤, SFits}
 use Rattle.std.specs.Int.{w64}
 use Rattle.integers.specs.Bounds.{bounds, absle}
 use Rattle.integers.specs.Sums.{sum, sum_zero, sum-+1, sum-ext, sum_n, sum_n_zero, sum_n-+1, sum_n-ext, sum_n-const, abs-sum-const, abs-sum-sum-const}

@@ -1,12 +1,10 @@
 -- `row_near` has the sum of the first j sizes at each turn, at most the limit. Assumes nothing.
-use Prim.Native.Nat.{ℕ, ◌≤◌, ◌-◌, ◌+◌}
-use mathlib.Core.Path.{◌≡◌, sym}
-use native.Mathlib.Omega.{arith}
+use Prim.Native.Nat.{◌≤◌, ◌-◌}
+use mathlib.Core.Path.{◌≡◌}
 use lib.IntN.{nat_abs}
-use Rattle.integers.specs.Sums.{sum_n, sum_n_zero}
+use Rattle.integers.specs.Sums.{sum_n}
 use Rattle.integers.specs.Inverses.{defect}
 use Rattle.acceptance.specs.Tests.{by_rows}
-use Rattle.acceptance.specs.Loops.{total-more, total_over, total-under}
 use Rattle.acceptance.proofs.inverse.row_near.Given as goal
 
 abbrev pub invariant-loop-j : goal.invariant-loop-j

@@ -1,15 +1,13 @@
 -- `rows_near` stops at the first row that fails; all before it pass. Assumes nothing.
-use Prim.Native.Nat.{ℕ, ◌≤◌, ◌-◌, ◌*◌, ◌^◌}
+use Prim.Native.Nat.{ℕ, ◌^◌}
 use mathlib.Core.Path.{◌≡◌, sym, ◌∙◌}
 use mathlib.Core.Bool.{Bool, true, false}
 use native.Mathlib.Nat.{zero-mul}
 use native.Mathlib.Omega.{arith}
-use borrow.Author.Rules.{rules}
-use borrow.Author.Tests.{not-true, not-false}
 use lib.Dec.{leb}
 use lib.IntN.{nat_abs}
 use Rattle.integers.specs.Sums.{sum_n}
-use Rattle.lists.specs.All.{all_below, all_none, all_more, all_fails, all_done}
+use Rattle.lists.specs.All.{all_none, all_more, all_fails, all_done}
 use Rattle.integers.specs.Inverses.{defect}
 use Rattle.acceptance.specs.Tests.{by_rows, defect_small}
 use Rattle.acceptance.specs.Loops.{row_next_lem, row_end}

@@ -3,8 +3,6 @@ use Prim.Native.Nat.{ℕ, ◌+◌}
 use mathlib.Core.Path.{◌≡◌, sym, ap, ◌∙◌}
 use mathlib.Core.Bool.{Bool, true, false}
 use native.Mathlib.Omega.{arith}
-use borrow.Author.Rules.{rules}
-use borrow.Author.Tests.{not-true, not-false}
 use Rattle.network.specs.Stations.{unknown_count}
 use Rattle.network.specs.Places.{places_in}
 use Rattle.network.specs.StationLaws.{number_small}

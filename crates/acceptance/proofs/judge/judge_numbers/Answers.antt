@@ -1,8 +1,6 @@
 -- `judge_numbers` answers with the first test that fails; each test asks what those before it told. Assumes nothing.
 use mathlib.Core.Path.{◌≡◌, sym, ◌∙◌}
 use mathlib.Core.Bool.{Bool, true, false}
-use borrow.Author.Rules.{rules}
-use borrow.Author.Tests.{not-true, not-false}
 use Rattle.acceptance.specs.Tests.{at, by_rows, corrections_small, inverse_small, defect_small, residual_small, refinement_small}
 use Rattle.acceptance.specs.Judge.{judge_numbers}
 use Rattle.acceptance.specs.JudgeLaws.{corrections_small_lem, inverse-small, residual-is, refinement-is, residual-sizes}

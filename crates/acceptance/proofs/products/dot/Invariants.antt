@@ -1,13 +1,8 @@
 -- `dot` has the sum of the first k products at each turn. Assumes nothing.
-use Prim.Native.Nat.{ℕ, ◌≤◌, ◌<◌, ◌-◌, ◌+◌, ◌*◌}
-use mathlib.Core.Path.{◌≡◌, sym, ◌∙◌}
-use native.Mathlib.Omega.{arith}
-use lib.IntN.{ℤ, ◌*ℤ◌}
-use mir.Syntax.{w64}
-use mir.Val.{to_z}
-use Rattle.integers.specs.Sums.{sum as Sum, sum_zero}
-use Rattle.integers.specs.Products.{Turn, turn}
-use Rattle.acceptance.specs.Loops.{factors}
+use Prim.Native.Nat.{◌≤◌, ◌-◌, ◌+◌, ◌*◌}
+use mathlib.Core.Path.{◌≡◌}
+use lib.IntN.{◌*ℤ◌}
+use Rattle.integers.specs.Sums.{sum as Sum}
 use Rattle.acceptance.specs.Tests.{at}
 use Rattle.acceptance.proofs.products.dot.Given as goal
 

@@ -1,11 +1,11 @@
 -- `normal_residual` has the first i entries of u − Nx at each turn. Assumes nothing.
-use Prim.Native.Nat.{◌≤◌, ◌-◌, ◌*◌, ◌^◌}
+use Prim.Native.Nat.{◌≤◌, ◌*◌, ◌^◌}
 use mathlib.Core.Path.{refl, ap, ◌∙◌}
 use native.Mathlib.Omega.{arith}
 use borrow.Author.Rules.{rules}
 use lib.IntN.{ℤ, pos, nat_abs, ◌-ℤ◌}
-use Rattle.lists.specs.Filling.{Mapped, starts, goes_on}
-use Rattle.acceptance.specs.Tests.{at, by_rows, normal_residual}
+use Rattle.lists.specs.Filling.{starts, goes_on}
+use Rattle.acceptance.specs.Tests.{at}
 use Rattle.acceptance.specs.Loops.{normal-factors, vector_dot, dot_small, Difference, difference}
 use Rattle.acceptance.proofs.refinement.normal_residual.Goals as goal
 

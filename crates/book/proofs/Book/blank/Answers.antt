@@ -1,6 +1,5 @@
 -- N and u are what `Normals::blank` ensures; the other parts stand as the definition has them. Assumes nothing.
 use mathlib.Core.Path.{ap}
-use borrow.Author.Rules.{rules}
 use lib.ListN.{replicate}
 use Rattle.network.specs.Records.{vacant}
 use Rattle.normals.specs.Blank.{blank_normals}

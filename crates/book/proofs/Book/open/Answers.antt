@@ -1,6 +1,5 @@
 -- By whether the list opens: `opening-done`, or `opening-refused` over the network of an empty list. Assumes nothing.
 use mathlib.Core.Path.{sym, ap, ◌∙◌}
-use borrow.Author.Rules.{rules}
 use Rattle.book.specs.declared.Book.{Book}
 use Rattle.book.specs.Book.{opened_book}
 use Rattle.book.proofs.Done.{opening_done, opening-refused}

@@ -1,6 +1,5 @@
 -- `Book::put`: in a sound book the shares may be exchanged, and N and u are then those of the places with the record.
 use mathlib.Core.Path.{◌≡◌, ap, ◌∙◌}
-use borrow.Author.Rules.{rules}
 use lib.ListN.{length, set}
 use Rattle.integers.specs.Tables.{length-tabulate}
 use Rattle.network.specs.Records.{record_at}

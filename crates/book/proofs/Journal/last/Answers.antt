@@ -1,5 +1,4 @@
 -- The slot read is the one that `slot_before` ensures, and it is below the size; the rest is congruence (`cc`). Assumes nothing.
-use borrow.Author.Rules.{rules}
 use Rattle.book.proofs.Journal.last.Goals as goal
 
 pub returns : goal.returns

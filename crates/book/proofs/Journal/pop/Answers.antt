@@ -1,5 +1,4 @@
 -- The slot blanked is the one that `slot_before` ensures; there is an edit, so one less fits. The rest is congruence (`cc`). Assumes nothing.
-use borrow.Author.Rules.{rules}
 use Rattle.book.proofs.Journal.pop.Goals as goal
 
 pub returns : goal.returns

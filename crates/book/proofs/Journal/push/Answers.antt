@@ -1,5 +1,4 @@
 -- The slot written is below the size; the counters are what `slot_after` and `one_more` ensure. The rest is congruence (`cc`). Assumes nothing.
-use borrow.Author.Rules.{rules}
 use Rattle.book.proofs.Journal.push.Goals as goal
 
 pub returns : goal.returns

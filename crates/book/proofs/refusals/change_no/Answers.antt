@@ -1,6 +1,5 @@
 -- By the change: of an enter what `record_no` ensures, of a strike what `empty_no` ensures. Assumes nothing.
 use Rattle.book.specs.Numbers.{change_no_of}
-use borrow.Author.Rules.{rules}
 use Rattle.book.proofs.refusals.change_no.Goals as goal
 
 pub returns-in-Enter : goal.returns-in-Enter

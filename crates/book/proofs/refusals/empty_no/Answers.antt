@@ -1,6 +1,5 @@
 -- By what `is_empty` told of the record: each branch is a case of the definition. Assumes nothing.
 use mathlib.Core.Path.{sym, ◌∙◌}
-use borrow.Author.Rules.{rules}
 use Rattle.book.specs.Calls.{empty_no}
 use Rattle.book.proofs.refusals.empty_no.Goals as goal
 

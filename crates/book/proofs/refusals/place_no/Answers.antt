@@ -1,7 +1,6 @@
 -- The place is read back from its bits, so the test is that of the definition; each branch is `place_is`. Assumes nothing.
 use mathlib.Core.Path.{◌≡◌, sym, ap, ◌∙◌}
 use mathlib.Core.Bool.{true, false}
-use borrow.Author.Rules.{rules}
 use mir.Syntax.{w64}
 use mir.Facts.{to_z-of_z}
 use Rattle.network.specs.Rules.{in_list}

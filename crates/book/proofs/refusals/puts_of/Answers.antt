@@ -1,7 +1,6 @@
 -- By the change: each arm is a case of the definition. Assumes nothing.
 use mathlib.Core.Path.{sym, ap}
 use Rattle.book.specs.Calls.{puts}
-use borrow.Author.Rules.{rules}
 use Rattle.book.proofs.refusals.puts_of.Goals as goal
 
 pub returns-in-Enter : goal.returns-in-Enter

@@ -1,6 +1,5 @@
 -- By the row: a call is answered by `answered`, a row that names none as `nameless-answered` says. Assumes nothing.
 use Rattle.book.proofs.RowCases.{nameless_answered}
-use borrow.Author.Rules.{rules}
 use Rattle.book.proofs.rows.answer.Goals as goal
 
 pub returns-in-Names : goal.returns-in-Names

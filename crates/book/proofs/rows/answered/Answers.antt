@@ -6,7 +6,6 @@ use mir.Syntax.{w64}
 use mir.Facts.{to_z-of_z}
 use Rattle.book.specs.SoundLaws.{refusal-small}
 use Rattle.book.proofs.RowCases.{call_answered}
-use borrow.Author.Rules.{rules}
 use Rattle.book.proofs.rows.answered.Goals as goal
 
 pub overflow_cast-answer : goal.overflow_cast-answer

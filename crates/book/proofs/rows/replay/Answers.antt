@@ -2,7 +2,6 @@
 use Prim.Native.Nat.{◌/◌, min}
 use mathlib.Core.Path.{◌≡◌}
 use native.Mathlib.Omega.{arith}
-use borrow.Author.Rules.{rules}
 use lib.ListN.{length}
 use Rattle.book.specs.Rows.{row_length}
 use Rattle.book.proofs.Replays.{opened-sound, replay_refused, replay_done}

@@ -6,7 +6,7 @@ use lib.IntN.{ℤ}
 use Rattle.words.specs.Signed.{index_in}
 use Rattle.book.specs.Rows.{row_calls}
 use Rattle.book.proofs.RowCases.{same_row}
-use borrow.Author.Rules.{rules, sfits_of}
+use borrow.Author.Rules.{sfits_of}
 use Rattle.book.proofs.rows.row_in.Goals as goal
 
 pub returns : goal.returns

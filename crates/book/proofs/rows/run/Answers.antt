@@ -1,18 +1,15 @@
 -- The loop's invariant: the book is that after the first k rows, and the first k answers are those to them.
-use Prim.Native.Nat.{ℕ, ◌-◌, ◌<◌, ◌≤◌}
+use Prim.Native.Nat.{ℕ, ◌<◌, ◌≤◌}
 use mathlib.Core.Path.{◌≡◌, refl, ap, ◌∙◌, subst}
-use mathlib.Core.Bool.{true}
-use mathlib.Core.List.{List}
 use native.Mathlib.Omega.{arith}
 use borrow.Author.Rules.{rules}
 use mir.Syntax.{w64}
 use mir.Facts.{to_z-of_z}
-use lib.IntN.{ℤ, pos}
-use lib.ListN.{length, take, get_or}
+use lib.IntN.{pos}
+use lib.ListN.{length}
 use Rattle.lists.specs.Filling.{Mapped, starts, goes_on}
-use Rattle.book.specs.declared.Book.{Book}
 use Rattle.book.specs.Run.{final, answers, final_zero, length-answers}
-use Rattle.book.specs.Book.{book_says, book_next, sound}
+use Rattle.book.specs.Book.{book_says, book_next}
 use Rattle.book.specs.Rows.{rows_in, row_next, row_says}
 use Rattle.book.specs.ReplayLaws.{turn-says, turn-next, length-rows, all_rows, filled, unfilled}
 use Rattle.book.proofs.rows.run.Invariants.{said}

@@ -2,7 +2,6 @@
 use mathlib.Core.Path.{ap, ◌∙◌}
 use mathlib.Core.Bool.{Bool}
 use mathlib.Core.List.{List}
-use borrow.Author.Rules.{rules}
 use Rattle.network.specs.Places.{places_in}
 use Rattle.book.specs.Journal.{reversals}
 use Rattle.book.specs.Empties.{undoable_by}

@@ -1,13 +1,11 @@
 -- `empties_in` fills the table from the front: `Mapped` is the invariant. Assumes nothing.
-use Prim.Native.Nat.{◌≤◌, ◌-◌}
 use mathlib.Core.Path.{ap, ◌∙◌}
 use mathlib.Core.Bool.{false}
 use native.Mathlib.Omega.{arith}
 use borrow.Author.Rules.{rules}
-use Rattle.lists.specs.Filling.{Mapped, starts, goes_on, finish}
-use Rattle.network.specs.Records.{record_at, is_empty}
+use Rattle.lists.specs.Filling.{starts, goes_on, finish}
+use Rattle.network.specs.Records.{is_empty}
 use Rattle.network.specs.declared.Record.{Record}
-use Rattle.network.specs.Places.{places_in}
 use Rattle.book.proofs.soundness.empties_in.Goals as goal
 
 pub loop-p-init : goal.loop-p-init

@@ -1,5 +1,4 @@
 -- The definition, with what `is_empty` ensures in it. Assumes nothing.
-use borrow.Author.Rules.{rules}
 use Rattle.book.specs.Journal.{is_free}
 use Rattle.book.proofs.soundness.is_free.Goals as goal
 

@@ -3,7 +3,6 @@ use mathlib.Core.Path.{◌≡◌, sym, ap, ◌∙◌}
 use mathlib.Core.List.{List}
 use lib.ListN.{length}
 use borrow.Author.Rules.{rules}
-use borrow.Author.Tests.{not-true, not-false}
 use Rattle.network.specs.declared.Place.{Place}
 use Rattle.normals.specs.Formulas.{normals_of}
 use Rattle.normals.specs.Same.{same_normals}

@@ -1,5 +1,4 @@
 -- By the two tests of the counters: the first that fails settles it, else what `slots_fit` ensures. Assumes nothing.
-use borrow.Author.Rules.{rules}
 use borrow.Author.Tests.{lt-ltb, le-ltb, le-leb, lt-leb}
 use Rattle.book.specs.Journal.{journal_fits}
 use Rattle.book.proofs.soundness.journal_fits.Goals as goal

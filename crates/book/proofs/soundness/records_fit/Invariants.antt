@@ -1,13 +1,9 @@
 -- `records_fit`, place by place. The loop's invariant: the records passed are by the rules. Assumes nothing.
 use Prim.Native.Nat.{◌-◌, ◌≤◌}
-use mathlib.Core.Path.{◌≡◌, sym, ap, ◌∙◌}
-use Rattle.network.specs.declared.Record.{Record}
+use mathlib.Core.Path.{◌≡◌}
 use Rattle.network.specs.Places.{places_in}
 use mathlib.Core.Bool.{true}
-use native.Mathlib.Omega.{arith}
-use borrow.Author.Rules.{rules}
-use borrow.Author.Tests.{not-true, not-false}
-use Rattle.lists.specs.All.{all_below, all_none, all_more, all_done, all_fails}
+use Rattle.lists.specs.All.{all_below}
 use Rattle.network.specs.Records.{record_at}
 use Rattle.network.specs.Rules.{record_fits}
 use Rattle.book.proofs.soundness.records_fit.Given as goal

@@ -1,5 +1,4 @@
 -- `restores` joins what its two callees answer. Assumes nothing.
-use borrow.Author.Rules.{rules}
 use Rattle.book.proofs.soundness.restores.Goals as goal
 
 pub returns : goal.returns

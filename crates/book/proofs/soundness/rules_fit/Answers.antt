@@ -2,8 +2,6 @@
 use mathlib.Core.Path.{◌≡◌, sym, ◌∙◌}
 use mathlib.Core.Bool.{true}
 use mathlib.Core.List.{List}
-use borrow.Author.Rules.{rules}
-use borrow.Author.Tests.{not-true, not-false}
 use Rattle.network.specs.Stations.{network_fits}
 use Rattle.network.specs.Places.{places_in}
 use Rattle.network.specs.declared.Place.{Place}

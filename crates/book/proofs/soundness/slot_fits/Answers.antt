@@ -1,5 +1,4 @@
 -- `slot_fits`, by the age of the slot. Assumes nothing.
-use borrow.Author.Rules.{rules}
 use borrow.Author.Tests.{lt-ltb, le-ltb}
 use Rattle.book.proofs.soundness.slot_fits.Goals as goal
 

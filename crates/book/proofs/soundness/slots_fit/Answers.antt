@@ -1,16 +1,9 @@
 -- The loop's invariant: the slots passed pass the test (`all_below`). The first that fails settles it (`all-fails`); after the last, `all_done`. Assumes nothing.
-use Prim.Native.Nat.{ℕ, ◌-◌, ◌≤◌}
-use mathlib.Core.Path.{◌≡◌, sym, ◌∙◌}
-use mathlib.Core.Bool.{Bool, true, ◌||◌}
-use mathlib.Core.List.{List}
+use mathlib.Core.Path.{sym, ◌∙◌}
 use native.Mathlib.Omega.{arith}
 use borrow.Author.Rules.{rules}
-use borrow.Author.Tests.{not-true, not-false}
-use lib.Dec.{ltb}
-use lib.ListN.{get_or}
-use Rattle.lists.specs.All.{all_below, all_none, all_more, all_done, all_fails}
-use Rattle.book.specs.declared.Reversal.{Reversal}
-use Rattle.book.specs.Journal.{journal_size, age, free, is_free}
+use Rattle.lists.specs.All.{all_none, all_more, all_done, all_fails}
+use Rattle.book.specs.Journal.{journal_size}
 use Rattle.book.proofs.soundness.slots_fit.Invariants.{test}
 use Rattle.book.proofs.soundness.slots_fit.Goals as goal
 

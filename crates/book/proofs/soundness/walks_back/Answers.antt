@@ -3,9 +3,8 @@ use Prim.Native.Nat.{ℕ, ◌-◌, ◌<◌}
 use mathlib.Core.Path.{◌≡◌, refl, sym, ap, ◌∙◌}
 use native.Mathlib.Omega.{arith}
 use borrow.Author.Rules.{rules}
-use borrow.Author.Tests.{not-true, not-false}
-use lib.ListN.{length, get_or, set, length-set}
-use Rattle.book.specs.Journal.{journal_size, slot_before, free, entries_before}
+use lib.ListN.{get_or, set, length-set}
+use Rattle.book.specs.Journal.{slot_before, free, entries_before}
 use Rattle.book.specs.Empties.{undoable_by}
 use Rattle.book.proofs.Undoing.{undo_beyond, undo_fails, undo_goes_on, undo_ends}
 use Rattle.book.proofs.soundness.walks_back.Goals as goal

@@ -1,13 +1,9 @@
 -- `walks_back`, the latest reversal first. The loop's invariant: what is left, over the places that are empty by now, can be undone just where all could from the start. Assumes nothing.
-use Prim.Native.Nat.{ℕ, ◌-◌, ◌<◌}
-use mathlib.Core.Path.{◌≡◌, refl, sym, ap, ◌∙◌}
-use native.Mathlib.Omega.{arith}
-use borrow.Author.Rules.{rules}
-use borrow.Author.Tests.{not-true, not-false}
-use lib.ListN.{length, get_or, set, length-set}
-use Rattle.book.specs.Journal.{journal_size, slot_before, free, entries_before}
+use Prim.Native.Nat.{◌<◌}
+use mathlib.Core.Path.{◌≡◌}
+use lib.ListN.{length}
+use Rattle.book.specs.Journal.{journal_size, entries_before}
 use Rattle.book.specs.Empties.{undoable_by}
-use Rattle.book.proofs.Undoing.{undo_beyond, undo_fails, undo_goes_on, undo_ends}
 use Rattle.book.proofs.soundness.walks_back.Given as goal
 
 abbrev pub invariant-loop-left : goal.invariant-loop-left

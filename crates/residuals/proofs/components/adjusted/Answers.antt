@@ -1,5 +1,4 @@
 -- Both numbers are small, so their sum fits. Assumes nothing.
-use borrow.Author.Rules.{rules}
 use mathlib.Core.List.{[], ◌∷◌}
 use lib.ListN.{get_or}
 use lib.IntN.{pos}

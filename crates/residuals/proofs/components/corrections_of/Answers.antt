@@ -3,12 +3,12 @@ use borrow.Author.Rules.{rules}
 use native.Mathlib.Omega.{arith}
 use mathlib.Core.Path.{◌∙◌}
 use mathlib.Core.List.{[], ◌∷◌}
-use Prim.Native.Nat.{ℕ, ◌-◌, ◌≤◌, ◌<◌}
+use Prim.Native.Nat.{ℕ, ◌≤◌, ◌<◌}
 use lib.ListN.{length, get_or}
-use lib.IntN.{pos, nat_abs, ◌*ℤ◌}
+use lib.IntN.{pos, nat_abs}
 use Rattle.integers.specs.Code.{fit, code_bounds, ringm, code_shapes}
 use Rattle.integers.specs.Tables.{get_d_tabulate, tabulate-ext}
-use Rattle.lists.specs.Filling.{Mapped, starts, goes_on, finish}
+use Rattle.lists.specs.Filling.{starts, goes_on, finish}
 use Rattle.network.specs.Stations.{unknown, unknown_index}
 use Rattle.network.specs.StationLaws.{unknown-bit}
 use Rattle.residuals.specs.Residuals.{correction}

@@ -1,18 +1,8 @@
 -- The loop has filled the corrections of the components passed; each is the unknown's bit times the number at its index of x. Assumes nothing.
-use borrow.Author.Rules.{rules}
-use native.Mathlib.Omega.{arith}
-use mathlib.Core.Path.{◌∙◌}
-use mathlib.Core.List.{[], ◌∷◌}
-use Prim.Native.Nat.{ℕ, ◌-◌, ◌≤◌, ◌<◌}
-use lib.ListN.{length, get_or}
-use lib.IntN.{pos, nat_abs, ◌*ℤ◌}
-use Rattle.integers.specs.Code.{fit, code_bounds, ringm, code_shapes}
-use Rattle.integers.specs.Tables.{get_d_tabulate, tabulate-ext}
-use Rattle.lists.specs.Filling.{Mapped, starts, goes_on, finish}
-use Rattle.network.specs.Stations.{unknown, unknown_index}
-use Rattle.network.specs.StationLaws.{unknown-bit}
-use Rattle.residuals.specs.Residuals.{correction}
-use Rattle.residuals.specs.Components.{unknown_index_below, correction_in}
+use Prim.Native.Nat.{◌-◌, ◌≤◌}
+use lib.ListN.{get_or}
+use lib.IntN.{pos, ◌*ℤ◌}
+use Rattle.lists.specs.Filling.{Mapped}
 use Rattle.residuals.proofs.components.corrections_of.Given as goal
 
 abbrev pub invariant-loop-q : goal.invariant-loop-q

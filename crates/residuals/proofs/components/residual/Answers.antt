@@ -1,5 +1,4 @@
 -- The numbers are small, so no step leaves 64 bits and the machine's difference is the one asked for. Assumes nothing.
-use borrow.Author.Rules.{rules}
 use Prim.Native.Nat.{◌+◌, ◌*◌}
 use mathlib.Core.List.{[], ◌∷◌}
 use lib.ListN.{get_or}

@@ -1,5 +1,4 @@
 -- Each residual is what its call of `residual` ensures, over the record's misclosures, ends and joins; its size reads it back from its bits (`component`). Assumes nothing.
-use borrow.Author.Rules.{rules}
 use native.Mathlib.Omega.{arith}
 use Prim.Native.Nat.{ℕ, ◌+◌, ◌*◌, ◌≤◌}
 use mathlib.Core.Path.{◌≡◌, ap, ◌∙◌}

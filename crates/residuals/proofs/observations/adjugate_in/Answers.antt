@@ -1,6 +1,5 @@
 -- By the number of components that the record observes: `single-divided` where there is no weight or one, `matrix-divided` for a matrix. Assumes nothing.
 use native.Mathlib.Omega.{arith}
-use borrow.Author.Rules.{rules}
 use Prim.Native.Nat.{ℕ, zero, suc}
 use mathlib.Core.Path.{◌≡◌, refl, sym, ap, ◌∙◌, subst}
 use lib.Dec.{lit<, lit≤}

@@ -1,5 +1,4 @@
 -- Each number of the observation is read back from its bits; the entry and the determinant by the sizes that the quotient gives. Assumes nothing.
-use borrow.Author.Rules.{rules}
 use native.Mathlib.Omega.{arith}
 use Prim.Native.Nat.{ℕ, ◌+◌, ◌*◌}
 use mathlib.Core.Path.{◌≡◌, ap, ◌∙◌}

@@ -1,5 +1,5 @@
 -- By the shape of the record: none, all three, or U alone; each word is what `verdict_at` ensures of the record's observation. Assumes nothing.
-use borrow.Author.Rules.{rules, sfits_of}
+use borrow.Author.Rules.{sfits_of}
 use mathlib.Core.Path.{refl, sym, ap₂, ◌∙◌}
 use mathlib.Core.List.{◌∷◌}
 use mir.Syntax.{w64}

@@ -1,5 +1,4 @@
 -- The index is inside M (`index-inside`), and the product of two bits and an entry is small. Assumes nothing.
-use borrow.Author.Rules.{rules}
 use native.Mathlib.Omega.{arith}
 use Prim.Native.Nat.{◌+◌, ◌*◌}
 use mathlib.Core.List.{[], ◌∷◌}

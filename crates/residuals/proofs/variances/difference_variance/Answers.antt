@@ -1,5 +1,4 @@
 -- Each covariance is at most 2^34, so the sum fits; the identity of stored numbers is `total`. Assumes nothing.
-use borrow.Author.Rules.{rules}
 use Prim.Native.Nat.{ℕ, ◌≤◌, ◌^◌}
 use mathlib.Core.Path.{◌≡◌, ◌∙◌}
 use mathlib.Core.List.{List, [], ◌∷◌}

@@ -1,5 +1,5 @@
 -- Each variance is what its call of `covariance` ensures, read back from the array. Assumes nothing.
-use borrow.Author.Rules.{rules, sfits_of}
+use borrow.Author.Rules.{sfits_of}
 use mathlib.Core.Path.{refl, ap₂, ◌∙◌}
 use mathlib.Core.List.{◌∷◌}
 use mir.Syntax.{w64}

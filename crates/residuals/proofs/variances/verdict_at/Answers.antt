@@ -1,5 +1,5 @@
 -- The two variances are at most 2^34 and 2^36, so their difference fits and is what the local test asks for. Assumes nothing.
-use borrow.Author.Rules.{rules, sfits_of}
+use borrow.Author.Rules.{sfits_of}
 use native.Mathlib.Omega.{arith}
 use Prim.Native.Nat.{◌≤◌, ◌^◌}
 use mathlib.Core.Path.{◌≡◌, ap, ◌∙◌}

@@ -1,5 +1,4 @@
 -- The index of d in the table gives the limits; each branch is `global-none` or a case of `global-inside`. Assumes nothing.
-use borrow.Author.Rules.{rules}
 use native.Mathlib.Omega.{arith}
 use mathlib.Core.Path.{◌≡◌, sym, ap, ◌∙◌}
 use mathlib.Core.Bool.{Bool, true, false}
@@ -22,6 +21,7 @@ use Rattle.residuals.proofs.verdicts.global_verdict.Goals as goal
 -- 1000 times a limit, as the code has it
 scaled : (z : ℤ) → nat_abs z ≤ 46979 → stored (pos 1000 *ℤ stored z) ≡ pos 1000 *ℤ z
 scaled z h = ringm (z ∷ []) (search code_shapes depth 20) tt
+
 module _ (t d : ℤ) (k : ℕ) (pair : Limits) (ft : SFits w64 t) (e : k ≡ index_in d 30) (h : k < 30) (p : pair ≡ get_or chi_square k (limits 0 0)) where
   small-lower : nat_abs pair.lower ≤ 46979
   small-lower = rw p (lower-size k h)

@@ -1,5 +1,4 @@
 -- The constant table is the definition's, entry by entry. Assumes nothing.
-use borrow.Author.Rules.{rules}
 use mathlib.Core.Path.{refl}
 use Rattle.residuals.specs.Verdicts.{chi_square}
 use Rattle.residuals.proofs.verdicts.limits_at.Goals as goal

@@ -1,5 +1,4 @@
 -- The products fit by the sizes of v and q; each branch is a law of `localVerdict`. Assumes nothing.
-use borrow.Author.Rules.{rules}
 use mathlib.Core.Path.{◌≡◌, sym, ◌∙◌}
 use mathlib.Core.List.{[], ◌∷◌}
 use Prim.Native.Nat.{◌≤◌, ◌^◌}

@@ -1,5 +1,4 @@
 -- By the verdict. Assumes nothing.
-use borrow.Author.Rules.{rules}
 use Rattle.residuals.specs.Verdicts.{verdict_word}
 use Rattle.residuals.proofs.verdicts.verdict_word.Goals as goal
 

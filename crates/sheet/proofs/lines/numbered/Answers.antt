@@ -1,5 +1,4 @@
 -- The number is small, so the cast keeps it. Assumes nothing.
-use borrow.Author.Rules.{rules}
 use native.Mathlib.Omega.{arith}
 use Prim.Native.Nat.{◌+◌, ◌≤◌}
 use lib.IntN.{pos, nat_abs}

@@ -1,5 +1,4 @@
 -- By how many components the record observes: none, one or three; the line is stored by `put_line`. Assumes nothing.
-use borrow.Author.Rules.{rules}
 use native.Mathlib.Omega.{arith}
 use mathlib.Core.Path.{◌≡◌, sym, ap, ◌∙◌}
 use lib.ListN.{length}

@@ -1,5 +1,4 @@
 -- Both counts are small, so the casts keep them. Assumes nothing.
-use borrow.Author.Rules.{rules}
 use mathlib.Core.Path.{refl, ap₂}
 use mathlib.Core.List.{◌∷◌}
 use lib.IntN.{pos}

@@ -1,5 +1,5 @@
 -- The words are read back from their bits; the third is what the two calls ensure. Assumes nothing.
-use borrow.Author.Rules.{rules, sfits_of}
+use borrow.Author.Rules.{sfits_of}
 use mathlib.Core.Path.{refl, ap, ap₂, ◌∙◌}
 use mathlib.Core.List.{◌∷◌}
 use mir.Syntax.{w64}

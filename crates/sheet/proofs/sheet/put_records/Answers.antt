@@ -1,7 +1,6 @@
 -- The loop has stored the lines of the places passed (`Put`), over the tables of components; at the end they are the sheet's (`records-in`). Assumes nothing.
-use borrow.Author.Rules.{rules}
 use native.Mathlib.Omega.{arith}
-use Prim.Native.Nat.{ℕ, ◌+◌, ◌-◌, ◌≤◌, ◌<◌}
+use Prim.Native.Nat.{ℕ, ◌+◌, ◌≤◌, ◌<◌}
 use mathlib.Core.Path.{◌≡◌, refl, sym, ap, ◌∙◌, subst}
 use mathlib.Core.List.{List}
 use lib.ListN.{length}
@@ -16,7 +15,7 @@ use Rattle.residuals.specs.Ranges.{some_unknowns, lookup, sound-at, closes_at}
 use Rattle.residuals.specs.Weights.{record_quotients}
 use Rattle.sheet.specs.Sheet.{line_length}
 use Rattle.sheet.specs.Totals.{residuals_within}
-use Rattle.sheet.specs.Lines.{line_of, record_line_words_in, record_length_lem, record_lines_words_in, record_words-none, record_words-more, Put, put_none, put_more}
+use Rattle.sheet.specs.Lines.{line_of, record_line_words_in, record_length_lem, record_words-none, record_words-more, Put, put_none, put_more}
 use Rattle.sheet.proofs.RecordLines.{record_words-room, records_in}
 use Rattle.sheet.proofs.sheet.put_records.Goals as goal
 

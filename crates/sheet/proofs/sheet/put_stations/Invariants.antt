@@ -1,15 +1,8 @@
 -- The loop has stored the lines of the stations passed (`Put`), over the tables of components; at the end they are the sheet's (`stations-in`). Assumes nothing.
-use borrow.Author.Rules.{rules}
-use native.Mathlib.Omega.{arith}
-use Prim.Native.Nat.{ℕ, ◌+◌, ◌*◌, ◌-◌, ◌≤◌, ◌<◌}
-use mathlib.Core.Path.{◌≡◌, refl, sym, ap, ap₂, ◌∙◌, subst}
-use mathlib.Core.List.{List}
+use Prim.Native.Nat.{◌-◌, ◌≤◌}
+use mathlib.Core.Path.{◌≡◌}
 use lib.ListN.{length}
-use lib.IntN.{ℤ}
-use Rattle.lists.specs.Pasted.{pasted}
-use Rattle.network.specs.RuleLaws.{sound-stations, network_few}
-use Rattle.residuals.specs.Ranges.{some_unknowns, corrections_within, lookup}
-use Rattle.sheet.specs.Lines.{seven_words, station_line_words_in, station-length, station_lines_words_in, station_words-none, station_words-more, station_words-length, stations_in, Put, put_none, put_more}
+use Rattle.sheet.specs.Lines.{station_lines_words_in, Put}
 use Rattle.sheet.proofs.sheet.put_stations.Given as goal
 
 abbrev pub invariant-loop-s : goal.invariant-loop-s

@@ -1,12 +1,11 @@
 -- The loop counts the records and words of the places passed (`Counted`). Assumes nothing.
 use borrow.Author.Rules.{rules}
 use native.Mathlib.Omega.{arith}
-use Prim.Native.Nat.{◌-◌, ◌≤◌}
 use mathlib.Core.Path.{◌≡◌, ap, ◌∙◌}
 use Rattle.network.specs.Places.{places_in}
 use Rattle.residuals.specs.Residuals.{is_record}
 use Rattle.sheet.specs.Sheet.{line_length}
-use Rattle.sheet.specs.Totals.{record_one, words_few, Counted, none_counted, counted_more, counted_few, counted_all}
+use Rattle.sheet.specs.Totals.{record_one, words_few, none_counted, counted_more, counted_few, counted_all}
 use Rattle.sheet.proofs.totals.counts_of.Goals as goal
 
 pub loop-p-init : goal.loop-p-init

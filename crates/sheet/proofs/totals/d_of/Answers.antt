@@ -1,7 +1,7 @@
 -- The loop adds what each record observes in the adjustment; the sum is small, so it fits. Assumes nothing.
 use borrow.Author.Rules.{rules, sfits_of}
 use native.Mathlib.Omega.{arith}
-use Prim.Native.Nat.{ℕ, ◌+◌, ◌-◌, ◌≤◌}
+use Prim.Native.Nat.{ℕ, ◌+◌, ◌≤◌}
 use mathlib.Core.Path.{◌≡◌, refl, sym, ap, ap₂, ◌∙◌}
 use mathlib.Core.List.{List}
 use lib.IntN.{ℤ}

@@ -1,20 +1,10 @@
 -- The loop adds what each record observes in the adjustment; the sum is small, so it fits. Assumes nothing.
-use borrow.Author.Rules.{rules, sfits_of}
-use native.Mathlib.Omega.{arith}
-use Prim.Native.Nat.{ℕ, ◌+◌, ◌-◌, ◌≤◌}
-use mathlib.Core.Path.{◌≡◌, refl, sym, ap, ap₂, ◌∙◌}
-use mathlib.Core.List.{List}
-use lib.IntN.{ℤ}
-use mir.Syntax.{w64}
-use mir.ValLaws.{to_z-of_z}
-use Rattle.integers.specs.Sums.{sum_n, sum_n_zero, sum_n-+1, sum_n-const}
-use Rattle.network.specs.StationLaws.{number_small}
+use Prim.Native.Nat.{◌-◌, ◌≤◌}
+use mathlib.Core.Path.{◌≡◌}
+use Rattle.integers.specs.Sums.{sum_n}
 use Rattle.network.specs.Records.{record_at}
 use Rattle.network.specs.Places.{places_in}
-use Rattle.network.specs.declared.Place.{Place}
-use Rattle.network.specs.declared.Record.{Record}
-use Rattle.normals.specs.ByRules.{record_sound}
-use Rattle.sheet.specs.Totals.{share_din, share_d_few, freedom, D_in}
+use Rattle.sheet.specs.Totals.{share_din}
 use Rattle.sheet.proofs.totals.d_of.Given as goal
 
 abbrev pub invariant-loop-p : goal.invariant-loop-p

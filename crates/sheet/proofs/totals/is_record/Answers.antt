@@ -1,5 +1,4 @@
 -- `is_record`, by whether the record is empty. Assumes nothing.
-use borrow.Author.Rules.{rules}
 use mathlib.Core.Path.{sym, ◌∙◌}
 use Rattle.residuals.specs.Residuals.{is_record}
 use Rattle.sheet.proofs.totals.is_record.Goals as goal

@@ -1,5 +1,4 @@
 -- By whether the record is in the adjustment. Assumes nothing.
-use borrow.Author.Rules.{rules}
 use mathlib.Core.Path.{sym, ap, ◌∙◌}
 use mathlib.Core.Bool.{Bool, cond}
 use Rattle.network.specs.Records.{observations}

@@ -1,5 +1,5 @@
 -- Where the record is in the adjustment, the weighted squares of its residuals; else 0. Assumes nothing.
-use borrow.Author.Rules.{rules, sfits_of}
+use borrow.Author.Rules.{sfits_of}
 use mathlib.Core.Path.{sym, ap, ◌∙◌}
 use mathlib.Core.Bool.{Bool, cond}
 use lib.IntN.{pos}

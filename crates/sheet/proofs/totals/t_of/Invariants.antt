@@ -1,13 +1,7 @@
 -- The loop adds the shares of the places passed (`Summed`); each is small, so the sum fits. Assumes nothing.
-use borrow.Author.Rules.{rules}
-use native.Mathlib.Omega.{arith}
-use Prim.Native.Nat.{ℕ, ◌-◌, ◌≤◌, ◌<◌}
-use mathlib.Core.Path.{◌≡◌, ap, ◌∙◌}
-use Rattle.network.specs.Records.{record_at}
+use Prim.Native.Nat.{◌-◌, ◌≤◌}
 use Rattle.network.specs.Places.{places_in}
-use Rattle.network.specs.declared.Record.{Record}
-use Rattle.residuals.specs.Ranges.{some_unknowns}
-use Rattle.sheet.specs.Totals.{share_tin, Weighed, weighed_at, Summed, summed-none, summed, summed-fits, summed-more, T_in}
+use Rattle.sheet.specs.Totals.{Summed}
 use Rattle.sheet.proofs.totals.t_of.Given as goal
 
 abbrev pub invariant-loop-p : goal.invariant-loop-p
