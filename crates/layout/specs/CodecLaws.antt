@@ -1,6 +1,6 @@
 -- The two laws of the layout: the bytes of a sound book read back as that book and pass what 25 tests; and bytes that pass are those that writing the book
 -- in them gives. Bytes beyond a book stay. Assumes nothing.
-use Rattle.std.specs.Prelude.{ℕ, ◌-◌, ◌<◌, ◌≤◌, ◌≡◌, true, ◌&&◌, leb, length, ℤ, pos}
+use Rattle.std.specs.Prelude.{ℕ, ◌<◌, ◌≤◌, ◌≡◌, true, ◌&&◌, leb, length, ℤ, pos}
 use Rattle.std.proofs.Math.Path.{sym}
 use Rattle.std.proofs.Common.{ap, ◌∙◌, subst, inr, arith, le-leb, leb-true, ext_get_or}
 use mathlib.Core.List.{List}

@@ -1,6 +1,6 @@
 -- Counts of the records, T and D: what the code's loops keep. Assumes nothing.
 use Rattle.std.specs.Prelude.{ℕ, zero, suc, ◌+◌, ◌*◌, ◌<◌, ◌≤◌, ◌^◌, ◌≡◌, refl, Bool, true, false, cond, ◌&&◌, ◌||◌, List, eqb, get_or, length, ℤ, pos, nat_abs, ◌+ℤ◌, ◌-ℤ◌, ◌*ℤ◌}
-use Rattle.std.proofs.Common.{sym, ap, ap₂, ◌∙◌, arith, le_trans, lit≤, SFits}
+use Rattle.std.proofs.Common.{sym, ap, ap₂, ◌∙◌, arith, le_trans, lit≤, SFits, of_z, to_z}
 use Rattle.std.specs.Int.{w64}
 use Rattle.integers.specs.Bounds.{bounds, absle}
 use Rattle.integers.specs.Sums.{sum, sum_zero, sum-+1, sum-ext, sum_n, sum_n_zero, sum_n-+1, sum_n-ext, sum_n-const, abs-sum-const, abs-sum-sum-const}
@@ -207,32 +207,32 @@ pub T_in : {net : Network} {places : List Place} {x : List ℤ} → Solved net p
 unfolding T
 T_in g = sum-ext 256 (λ p h. share_in g p h)
 
--- what the loop has added of the first n places, as it is stored
-pub record Summed (unknowns coordinate corrections : List ℤ) (places : List Place) (t : ℤ) (n : ℕ) : Type 0 where
-  pub held : t ≡ stored (sum n (λ p. share_tin unknowns coordinate corrections (record_at places p)))
+-- the bits of what the loop has added of the first n places
+pub record Summed (unknowns coordinate corrections : List ℤ) (places : List Place) (t n : ℕ) : Type 0 where
+  pub bits : t ≡ of_z w64 (sum n (λ p. share_tin unknowns coordinate corrections (record_at places p)))
 
-pub summed-none : (unknowns coordinate corrections : List ℤ) (places : List Place) → Summed unknowns coordinate corrections places (pos 0) 0
-summed-none unknowns coordinate corrections places = record { held = ap stored (sym (sum_zero (λ p. share_tin unknowns coordinate corrections (record_at places p)))) }
+pub summed-none : (unknowns coordinate corrections : List ℤ) (places : List Place) → Summed unknowns coordinate corrections places 0 0
+summed-none unknowns coordinate corrections places = record { bits = ap (of_z w64) (sym (sum_zero (λ p. share_tin unknowns coordinate corrections (record_at places p)))) }
 
-module _ {unknowns coordinate corrections : List ℤ} (places : List Place) (g : (p : ℕ) → p < 256 → Weighed coordinate corrections (record_at places p)) {t : ℤ} {n : ℕ}
+module _ {unknowns coordinate corrections : List ℤ} (places : List Place) (g : (p : ℕ) → p < 256 → Weighed coordinate corrections (record_at places p)) {t n : ℕ}
     (b : Summed unknowns coordinate corrections places t n) where
   -- the sum as it is read back
-  pub summed : n ≤ 256 → t ≡ sum n (λ p. share_tin unknowns coordinate corrections (record_at places p))
-  summed h = b.held ∙ back (sum n (λ p. share_tin unknowns coordinate corrections (record_at places p))) (shares_size unknowns places g n h) tt
+  pub summed : n ≤ 256 → to_z w64 t ≡ sum n (λ p. share_tin unknowns coordinate corrections (record_at places p))
+  summed h = ap (to_z w64) b.bits ∙ back (sum n (λ p. share_tin unknowns coordinate corrections (record_at places p))) (shares_size unknowns places g n h) tt
 
   -- a turn
   turn : {s : ℤ} → n < 256 → s ≡ share_tin unknowns coordinate corrections (record_at places n)
-      → t +ℤ stored s ≡ sum (n + 1) (λ p. share_tin unknowns coordinate corrections (record_at places p))
+      → to_z w64 t +ℤ stored s ≡ sum (n + 1) (λ p. share_tin unknowns coordinate corrections (record_at places p))
   turn h e =
       ap₂ ◌+ℤ◌ (summed (omega arith)) (ap stored e ∙ back (share_tin unknowns coordinate corrections (record_at places n)) (share_size unknowns (g n h)) tt)
       ∙ sym (sum-+1 n (λ p. share_tin unknowns coordinate corrections (record_at places p)))
 
-  pub summed-fits : {s : ℤ} → n < 256 → s ≡ share_tin unknowns coordinate corrections (record_at places n) → SFits w64 (t +ℤ stored s)
+  pub summed-fits : {s : ℤ} → n < 256 → s ≡ share_tin unknowns coordinate corrections (record_at places n) → SFits w64 (to_z w64 t +ℤ stored s)
   summed-fits h e = rw (turn h e) (fits_by (sum (n + 1) (λ p. share_tin unknowns coordinate corrections (record_at places p))) (shares_size unknowns places g (n + 1) (omega arith)) tt)
 
   pub summed-more : {s : ℤ} → n < 256 → s ≡ share_tin unknowns coordinate corrections (record_at places n)
-      → Summed unknowns coordinate corrections places (stored (t +ℤ stored s)) (n + 1)
-  summed-more h e = record { held = ap stored (turn h e) }
+      → Summed unknowns coordinate corrections places (of_z w64 (to_z w64 t +ℤ stored s)) (n + 1)
+  summed-more h e = record { bits = ap (of_z w64) (turn h e) }
 
 -- weighted squares from the lists of residuals and weights
 pub squares_of : (coordinate corrections : List ℤ) (r : Record)

@@ -1,5 +1,4 @@
 -- Field by field what `replay` ensures, less what that says of the book, which is not returned. Assumes nothing.
-use borrow.Author.Rules.{rules}
 use Rattle.bench_kernels.proofs.bench_replay.Goals as goal
 
 pub returns : goal.returns

@@ -1,7 +1,6 @@
 -- The bytes that the book writes hold it, so the answer on them is the answer on the book.
 use mathlib.Core.Path.{ap, ◌∙◌}
 use mathlib.Core.Bool.{true}
-use borrow.Author.Rules.{rules}
 use Rattle.book.specs.declared.Book.{Book}
 use Rattle.checks.specs.Checks.{checked}
 use Rattle.checks.proofs.check.Goals as goal

@@ -1,5 +1,4 @@
 -- Stations and places are read once, and `judge_in` asks of them what the two reads gave.
-use borrow.Author.Rules.{rules}
 use Rattle.layout.specs.CodecLaws.{fits-room}
 use Rattle.checks.proofs.check_in.Goals as goal
 

@@ -1,6 +1,5 @@
 -- The bytes that the book writes hold it, so the answer and the sheet on them are those on the book.
 use mathlib.Core.Path.{ap, ◌∙◌}
-use borrow.Author.Rules.{rules}
 use Rattle.book.specs.declared.Book.{Book}
 use Rattle.checks.specs.Checks.{checked, has_room, sheet_after}
 use Rattle.checks.proofs.check_sheet.Goals as goal

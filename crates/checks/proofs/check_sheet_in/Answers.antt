@@ -47,8 +47,11 @@ returns-in-Accepted c =
     let tests : (a : Answer) → c.judge_in-answer.result ≡ a
     → answer lentBook.network lentBook.places c.args.x.now c.args.m.now (has_room lentBook c.args.sheet.now) ≡ a = λ a e. sym (checked-is lentBook (fits-tested _ c.requires) c.args.x.now c.args.m.now (has_room lentBook c.args.sheet.now)) ∙ sym answered ∙ e in
     let a = c.args in
-    record { answer = sym (sym answered ∙ c.in-Accepted.is); words = (rw (c.network_in-net.ensures, c.places_in-places.ensures) at c.write_sheet.ensures)
-          ∙ after-accepted lentBook (fits-tested _ c.requires) a.x.now a.m.now a.sheet.now (tests _ c.in-Accepted.is) }
+    record {
+      answer = sym (sym answered ∙ c.in-Accepted.is);
+      words = (rw (c.network_in-net.ensures, c.places_in-places.ensures) at c.write_sheet.ensures)
+          ∙ after-accepted lentBook (fits-tested _ c.requires) a.x.now a.m.now a.sheet.now (tests _ c.in-Accepted.is);
+    }
 
 pub returns-in-Refused : goal.returns-in-Refused
 returns-in-Refused c =

@@ -1,6 +1,5 @@
 -- The parts read from the bytes are those of the book that they hold, so `accept` judges that book on its own N and u (`judge-is`), and 9 never comes (`checked-is`).
 use mathlib.Core.Path.{sym, ◌∙◌}
-use borrow.Author.Rules.{rules}
 use Rattle.layout.specs.Bytes.{book_of}
 use Rattle.layout.specs.CodecLaws.{fits-room, fits-tested, fits-sound}
 use Rattle.checks.specs.CheckLaws.{sound-in_range, judge-is, checked-is}

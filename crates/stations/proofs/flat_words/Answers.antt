@@ -1,5 +1,5 @@
 -- The station that is read and put is the next one of the list (`flat_step`). Assumes nothing.
-use Rattle.std.proofs.Common.{◌≡◌, ◌≤◌, ◌<◌, length, refl}
+use Rattle.std.proofs.Common.{◌<◌, length, refl}
 use native.Mathlib.Omega.{arith}
 use Rattle.network.specs.StationWords.{flat}
 use Rattle.stations.specs.FlatLaws.{flat_step, read_most, read_within}

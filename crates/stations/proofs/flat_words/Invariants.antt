@@ -1,5 +1,5 @@
 -- The invariant: the numbers of the first i stations stand first. Assumes nothing.
-use Rattle.std.proofs.Common.{◌≡◌, ◌-◌, ◌*◌, ◌≤◌, length, take}
+use Rattle.std.proofs.Common.{◌≡◌, ◌-◌, ◌*◌, ◌≤◌, take}
 use Rattle.network.specs.StationWords.{flat}
 use Rattle.stations.proofs.flat_words.Given as goal
 

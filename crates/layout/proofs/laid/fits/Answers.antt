@@ -1,7 +1,6 @@
 -- `fits` judges bytes: the layout, then the book's rules on the parts that were read, which are those of the book that the bytes hold, then N and u. Assumes nothing.
 use mathlib.Core.Path.{◌≡◌, sym, ◌∙◌}
 use borrow.Author.Rules.{rules}
-use borrow.Author.Tests.{not-true, not-false}
 use Rattle.normals.specs.Formulas.{normals_of}
 use Rattle.normals.specs.Same.{same_normals}
 use Rattle.book.specs.declared.Book.{Book}

@@ -1,6 +1,5 @@
 -- `holds_book` judges bytes of any length. Assumes nothing.
 use Rattle.layout.proofs.Whole.{judged_short}
-use borrow.Author.Rules.{rules}
 use Rattle.layout.proofs.laid.holds_book.Goals as goal
 
 pub returns-then-s-lt-BOOK_BYTES : goal.returns-then-s-lt-BOOK_BYTES

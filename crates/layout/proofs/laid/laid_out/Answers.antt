@@ -11,7 +11,7 @@ use Rattle.words.specs.RunLaws.{length_words, words_fit}
 use Rattle.layout.specs.Laid.{parts_laid, laid_parts}
 use Rattle.layout.specs.Bytes.{words_of}
 use Rattle.layout.specs.Layout.{layout_number, book_length}
-use borrow.Author.Rules.{rules, sfits_of}
+use borrow.Author.Rules.{sfits_of}
 use Rattle.layout.proofs.laid.laid_out.Goals as goal
 
 pub returns : goal.returns

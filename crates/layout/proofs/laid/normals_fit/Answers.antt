@@ -6,7 +6,6 @@ use mathlib.Core.List.{List}
 use native.Mathlib.Omega.{arith}
 use lib.ListN.{length, take, drop}
 use lib.IntN.{ℤ}
-use borrow.Author.Rules.{rules}
 use Rattle.integers.specs.Tables.{length-tabulate}
 use Rattle.words.specs.Runs.{words_at}
 use Rattle.lists.specs.Same.{same_entries}

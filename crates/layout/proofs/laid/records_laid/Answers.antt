@@ -1,10 +1,9 @@
 -- `records_laid` tests the words of n records. The loop's invariant: those passed are laid out. Assumes nothing.
-use Prim.Native.Nat.{ℕ, ◌+◌, ◌*◌, ◌-◌, ◌≤◌}
-use mathlib.Core.Path.{◌≡◌, sym, ◌∙◌}
-use mathlib.Core.Bool.{Bool, true}
+use Prim.Native.Nat.{ℕ, ◌+◌, ◌*◌, ◌≤◌}
+use mathlib.Core.Path.{sym, ◌∙◌}
+use mathlib.Core.Bool.{Bool}
 use native.Mathlib.Omega.{arith}
-use borrow.Author.Tests.{not-true, not-false}
-use Rattle.lists.specs.All.{all_below, all_none, all_more, all_done, all_fails}
+use Rattle.lists.specs.All.{all_none, all_more, all_done, all_fails}
 use Rattle.network.specs.RecordWords.{record_length}
 use Rattle.layout.specs.Laid.{record_laid}
 use Rattle.layout.specs.Bytes.{words_of}

@@ -1,15 +1,10 @@
 -- `records_laid` tests the words of n records. The loop's invariant: those passed are laid out. Assumes nothing.
-use Prim.Native.Nat.{ℕ, ◌+◌, ◌*◌, ◌-◌, ◌≤◌}
-use mathlib.Core.Path.{◌≡◌, sym, ◌∙◌}
-use mathlib.Core.Bool.{Bool, true}
-use native.Mathlib.Omega.{arith}
-use borrow.Author.Tests.{not-true, not-false}
-use Rattle.lists.specs.All.{all_below, all_none, all_more, all_done, all_fails}
-use Rattle.network.specs.RecordWords.{record_length}
+use Prim.Native.Nat.{◌+◌, ◌*◌, ◌-◌, ◌≤◌}
+use mathlib.Core.Path.{◌≡◌}
+use mathlib.Core.Bool.{true}
+use Rattle.lists.specs.All.{all_below}
 use Rattle.layout.specs.Laid.{record_laid}
 use Rattle.layout.specs.Bytes.{words_of}
-use Rattle.layout.specs.Layout.{book_length}
-use borrow.Author.Rules.{rules}
 use Rattle.layout.proofs.laid.records_laid.Given as goal
 
 abbrev pub invariant-loop-p : goal.invariant-loop-p

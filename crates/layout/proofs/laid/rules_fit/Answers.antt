@@ -1,6 +1,5 @@
 -- `rules_fit` reads the journal, and the book's rules judge it with the network and the places. Assumes nothing.
 use mathlib.Core.Path.{ap, ◌∙◌}
-use borrow.Author.Rules.{rules}
 use Rattle.network.specs.Places.{places_in}
 use Rattle.book.specs.RulesFit.{rules_fit}
 use Rattle.layout.proofs.laid.rules_fit.Goals as goal

@@ -1,14 +1,11 @@
 -- `add_ends` adds the terms of u to the words of bytes. The loop's invariant: those of the ends passed are added. Assumes nothing.
 use borrow.Author.Rules.{rules}
-use Prim.Native.Nat.{ℕ, ◌+◌, ◌-◌, ◌≤◌}
+use Prim.Native.Nat.{ℕ, ◌+◌}
 use mathlib.Core.Path.{◌≡◌, refl, sym, ap, ap₂, ◌∙◌}
 use native.Mathlib.Nat.{le_trans}
 use native.Mathlib.Omega.{arith}
 use lib.Dec.{lit≤}
-use lib.ListN.{length}
 use lib.IntN.{ℤ, ◌+ℤ◌, ◌*ℤ◌}
-use mir.Syntax.{w64}
-use mir.Val.{to_z}
 use Rattle.integers.specs.Code.{fit, code_bounds}
 use Rattle.integers.specs.Sums.{sum-+1, sum_zero, δ}
 use Rattle.integers.specs.Tables.{plus}

@@ -1,5 +1,4 @@
 -- `add_to_word` reads a word, and writes it with v more: both are small enough that the sum fits. Assumes nothing.
-use borrow.Author.Rules.{rules}
 use Prim.Native.Nat.{◌*◌, ◌≤◌, ◌^◌}
 use mathlib.Core.Path.{ap, ◌∙◌}
 use lib.IntN.{ℤ, nat_abs, ◌+ℤ◌}

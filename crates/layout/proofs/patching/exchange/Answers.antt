@@ -5,7 +5,6 @@ use native.Mathlib.Omega.{arith}
 use lib.Dec.{lit≤}
 use lib.ListN.{length}
 use lib.IntN.{pos, negsuc}
-use borrow.Author.Rules.{rules}
 use Rattle.integers.specs.Tables.{plus}
 use Rattle.words.specs.Words.{Bytes}
 use Rattle.words.specs.Runs.{put_words}

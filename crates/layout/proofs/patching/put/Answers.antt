@@ -9,7 +9,6 @@ use Rattle.layout.specs.Bytes.{book_of}
 use Rattle.layout.specs.CodecLaws.{read_sized, fits-room}
 use Rattle.layout.specs.BookPatches.{put_edit}
 use Rattle.layout.specs.Layout.{book_bytes}
-use borrow.Author.Rules.{rules}
 use Rattle.layout.proofs.patching.put.Goals as goal
 
 pub put_record-requires : goal.put_record-requires

@@ -4,7 +4,6 @@ use mathlib.Core.List.{List}
 use lib.IntN.{ℤ}
 use Rattle.network.specs.RecordWords.{record_in}
 use Rattle.layout.proofs.Parts.{record_is}
-use borrow.Author.Rules.{rules}
 use Rattle.layout.proofs.reading.entry_in.Goals as goal
 
 pub returns : goal.returns

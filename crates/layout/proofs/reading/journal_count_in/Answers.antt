@@ -1,6 +1,5 @@
 -- `journal_count_in` reads a counter of the journal. Assumes nothing.
 use Rattle.layout.specs.Layout.{book_in}
-use borrow.Author.Rules.{rules}
 use Rattle.layout.proofs.reading.journal_count_in.Goals as goal
 
 pub returns : goal.returns

@@ -1,13 +1,9 @@
 -- `journal_in` reads the journal's counters, and its slots one by one. The loop's invariant: the slots passed are read, and the counters stay. Assumes nothing.
 use Prim.Native.Nat.{◌+◌, ◌*◌, ◌-◌, ◌≤◌}
-use mathlib.Core.Path.{◌≡◌, refl, ◌∙◌}
-use native.Mathlib.Omega.{arith}
-use borrow.Author.Rules.{rules}
-use Rattle.words.specs.RunLaws.{length_words}
-use Rattle.lists.specs.Filling.{Mapped, starts, goes_on, finish}
+use mathlib.Core.Path.{◌≡◌}
+use Rattle.lists.specs.Filling.{Mapped}
 use Rattle.book.specs.Journal.{journal_size, free}
-use Rattle.layout.specs.Layout.{book_in, reversal_in, reversal_length, entries_start, book_length}
-use Rattle.layout.specs.Laid.{reversal_in_lem}
+use Rattle.layout.specs.Layout.{reversal_in, reversal_length, entries_start}
 use Rattle.layout.specs.Bytes.{words_of}
 use Rattle.layout.proofs.reading.journal_in.Given as goal
 

@@ -3,7 +3,6 @@ use mathlib.Core.Path.{sym, ◌∙◌}
 use native.Mathlib.Omega.{arith}
 use Rattle.layout.specs.Layout.{book_in, matrix_start, book_length}
 use Rattle.layout.specs.RunPatches.{part_at}
-use borrow.Author.Rules.{rules}
 use Rattle.layout.proofs.reading.matrix_in.Goals as goal
 
 pub returns : goal.returns

@@ -6,7 +6,6 @@ use Rattle.integers.specs.Tables.{tabulate}
 use Rattle.network.specs.Stations.{station_in, network_of}
 use Rattle.network.specs.declared.Network.{Network}
 use Rattle.layout.specs.Layout.{book_in}
-use borrow.Author.Rules.{rules}
 use Rattle.layout.proofs.reading.network_in.Goals as goal
 
 pub returns : goal.returns

@@ -1,6 +1,5 @@
 -- `next_in` reads a counter of the journal. Assumes nothing.
 use Rattle.layout.specs.Layout.{book_in}
-use borrow.Author.Rules.{rules}
 use Rattle.layout.proofs.reading.next_in.Goals as goal
 
 pub returns : goal.returns

@@ -4,7 +4,6 @@ use native.Mathlib.Omega.{arith}
 use Rattle.network.specs.Places.{places_length, places_in}
 use Rattle.layout.specs.Layout.{book_in, places_start, book_length}
 use Rattle.layout.specs.RunPatches.{part_at}
-use borrow.Author.Rules.{rules}
 use Rattle.layout.proofs.reading.places_in.Goals as goal
 
 pub returns : goal.returns

@@ -4,7 +4,6 @@ use Rattle.book.specs.PlaceLaws.{record_beyond}
 use Rattle.layout.specs.Bytes.{words_of, book_of}
 use Rattle.layout.specs.BookWords.{record_in_lem}
 use Rattle.layout.specs.CodecLaws.{read_sized}
-use borrow.Author.Rules.{rules}
 use Rattle.layout.proofs.reading.record_in.Goals as goal
 
 pub returns-then-p-lt256 : goal.returns-then-p-lt256

@@ -4,7 +4,6 @@ use Rattle.words.specs.RunLaws.{length_words}
 use Rattle.layout.specs.Bytes.{words_of}
 use Rattle.layout.specs.Laid.{reversal_in_lem}
 use Rattle.layout.specs.Layout.{book_length}
-use borrow.Author.Rules.{rules}
 use Rattle.layout.proofs.reading.slot_in.Goals as goal
 
 pub returns : goal.returns

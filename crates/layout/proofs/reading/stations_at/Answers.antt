@@ -3,7 +3,6 @@ use mathlib.Core.Path.{sym, ◌∙◌}
 use native.Mathlib.Omega.{arith}
 use Rattle.layout.specs.RunPatches.{part_at}
 use Rattle.layout.specs.Layout.{book_length, stations_start}
-use borrow.Author.Rules.{rules}
 use Rattle.layout.proofs.reading.stations_at.Goals as goal
 
 pub returns : goal.returns

@@ -5,7 +5,7 @@ use mathlib.Core.List.{[], ◌∷◌}
 use mir.Syntax.{w64}
 use mir.Facts.{to_z-of_z}
 use Rattle.words.specs.Runs.{put_words}
-use borrow.Author.Rules.{rules, sfits_of}
+use borrow.Author.Rules.{sfits_of}
 use Rattle.layout.specs.Layout.{counts_start}
 use Rattle.layout.proofs.writing.put_counts.Goals as goal
 

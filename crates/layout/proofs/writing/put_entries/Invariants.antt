@@ -1,15 +1,11 @@
 -- `put_entries` puts the journal's slots. The loop's invariant: those passed stand in their order. Assumes nothing.
 use Prim.Native.Nat.{◌-◌, ◌≤◌, ◌*◌}
-use mathlib.Core.Path.{◌≡◌, refl, ◌∙◌}
-use native.Mathlib.Omega.{arith}
+use mathlib.Core.Path.{◌≡◌}
 use lib.ListN.{length, get_or}
 use Rattle.words.specs.Runs.{put_words}
 use Rattle.words.specs.Concat.{concat_below}
 use Rattle.book.specs.Journal.{journal_size, free}
-use Rattle.layout.specs.Layout.{reversal_words, entries_start, reversal_length}
-use Rattle.layout.specs.BookWords.{length_reversal}
-use Rattle.layout.proofs.Parts.{parts_none, parts_more}
-use borrow.Author.Rules.{rules}
+use Rattle.layout.specs.Layout.{reversal_words, entries_start}
 use Rattle.layout.proofs.writing.put_entries.Given as goal
 
 abbrev pub invariant-loop-k : goal.invariant-loop-k

@@ -3,7 +3,6 @@ use Prim.Native.Nat.{ℕ, ◌*◌}
 use mathlib.Core.Path.{ap, ◌∙◌}
 use mathlib.Core.List.{List}
 use Rattle.words.specs.Runs.{put_words}
-use borrow.Author.Rules.{rules}
 use Rattle.layout.specs.Layout.{right_start}
 use Rattle.layout.proofs.writing.put_normals.Goals as goal
 

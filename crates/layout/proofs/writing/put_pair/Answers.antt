@@ -7,7 +7,6 @@ use mir.Val.{to_z, of_z}
 use mir.Facts.{to_z-of_z}
 use Rattle.words.specs.Words.{put_word}
 use Rattle.words.specs.Runs.{put_words}
-use borrow.Author.Rules.{rules}
 use Rattle.layout.proofs.writing.put_pair.Goals as goal
 
 pub returns : goal.returns

@@ -1,15 +1,11 @@
 -- `put_places` puts the places. The loop's invariant: those passed stand in their order. Assumes nothing.
 use Prim.Native.Nat.{◌-◌, ◌≤◌, ◌*◌}
-use mathlib.Core.Path.{◌≡◌, refl, ◌∙◌}
-use native.Mathlib.Omega.{arith}
+use mathlib.Core.Path.{◌≡◌}
 use lib.ListN.{length}
 use Rattle.words.specs.Runs.{put_words}
 use Rattle.words.specs.Concat.{concat_below}
 use Rattle.network.specs.Records.{record_at}
-use Rattle.network.specs.RecordWords.{record_words, record_length}
-use Rattle.network.specs.RecordWordLaws.{length_record}
-use Rattle.layout.proofs.Parts.{parts_none, parts_more}
-use borrow.Author.Rules.{rules}
+use Rattle.network.specs.RecordWords.{record_words}
 use Rattle.layout.specs.Layout.{places_start}
 use Rattle.layout.proofs.writing.put_places.Given as goal
 

@@ -2,7 +2,6 @@
 use Prim.Native.Nat.{◌*◌}
 use mathlib.Core.Path.{ap, ◌∙◌}
 use Rattle.words.specs.Runs.{put_words}
-use borrow.Author.Rules.{rules}
 use Rattle.layout.proofs.writing.put_record.Goals as goal
 
 pub returns : goal.returns

@@ -9,7 +9,7 @@ use Rattle.words.specs.Words.{put_word}
 use Rattle.words.specs.Runs.{put_words}
 use Rattle.network.specs.RecordWords.{record_words}
 use Rattle.layout.specs.Layout.{reversal_words}
-use borrow.Author.Rules.{rules, sfits_of}
+use borrow.Author.Rules.{sfits_of}
 use Rattle.layout.proofs.writing.put_reversal.Goals as goal
 
 pub returns : goal.returns

@@ -1,10 +1,9 @@
 -- `put_stations` puts the station list. The loop's invariant: the stations passed stand in their order. Assumes nothing.
-use Prim.Native.Nat.{◌+◌, ◌*◌, ◌-◌, ◌≤◌}
+use Prim.Native.Nat.{◌+◌, ◌*◌}
 use mathlib.Core.Path.{◌≡◌, refl, ap, ◌∙◌}
 use native.Mathlib.Omega.{arith}
 use lib.ListN.{length}
 use Rattle.words.specs.Runs.{put_words}
-use Rattle.words.specs.Concat.{concat_below}
 use Rattle.layout.specs.Layout.{station_part, stations_start}
 use Rattle.layout.specs.BookWords.{length-station}
 use Rattle.layout.proofs.Parts.{parts_none, parts_more}
@@ -21,13 +20,12 @@ write_words-requires c =
 
 pub loop-k-preserved : goal.loop-k-preserved
 unfolding station_part
-loop-k-preserved c =
-    (
-      parts_more c.args.s.now c.loop-k.s _ (8 * stations_start) 4 c.loop-k.k _ (station_part c.args.net) (length-station c.args.net) (omega arith) c.loop-k.invariant.0
-          (c.write_words.ensures ∙ ap (put_words c.loop-k.s (8 * (stations_start + c.loop-k.k * 4))) c.station_part-v.ensures),
-      c.write_words.auto.s ∙ c.loop-k.invariant.1,
-      omega arith,
-    )
+loop-k-preserved c = (
+  parts_more c.args.s.now c.loop-k.s _ (8 * stations_start) 4 c.loop-k.k _ (station_part c.args.net) (length-station c.args.net) (omega arith) c.loop-k.invariant.0
+      (c.write_words.ensures ∙ ap (put_words c.loop-k.s (8 * (stations_start + c.loop-k.k * 4))) c.station_part-v.ensures),
+  c.write_words.auto.s ∙ c.loop-k.invariant.1,
+  omega arith,
+)
 
 pub returns : goal.returns
 returns c = let e : c.loop-k.k ≡ 32 = omega arith in rw e at c.loop-k.invariant.0

@@ -1,14 +1,10 @@
 -- `put_stations` puts the station list. The loop's invariant: the stations passed stand in their order. Assumes nothing.
-use Prim.Native.Nat.{◌+◌, ◌*◌, ◌-◌, ◌≤◌}
-use mathlib.Core.Path.{◌≡◌, refl, ap, ◌∙◌}
-use native.Mathlib.Omega.{arith}
+use Prim.Native.Nat.{◌*◌, ◌-◌, ◌≤◌}
+use mathlib.Core.Path.{◌≡◌}
 use lib.ListN.{length}
 use Rattle.words.specs.Runs.{put_words}
 use Rattle.words.specs.Concat.{concat_below}
 use Rattle.layout.specs.Layout.{station_part, stations_start}
-use Rattle.layout.specs.BookWords.{length-station}
-use Rattle.layout.proofs.Parts.{parts_none, parts_more}
-use borrow.Author.Rules.{rules}
 use Rattle.layout.proofs.writing.put_stations.Given as goal
 
 abbrev pub invariant-loop-k : goal.invariant-loop-k

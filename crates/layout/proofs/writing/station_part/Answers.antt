@@ -1,6 +1,5 @@
 -- `station_part` gives a station's words, or 0. Assumes nothing.
 use borrow.Author.Tests.{lt-ltb, le-ltb}
-use borrow.Author.Rules.{rules}
 use Rattle.layout.proofs.writing.station_part.Goals as goal
 
 pub returns-then-k-count : goal.returns-then-k-count

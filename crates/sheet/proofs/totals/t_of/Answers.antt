@@ -3,6 +3,8 @@ use borrow.Author.Rules.{rules}
 use native.Mathlib.Omega.{arith}
 use Prim.Native.Nat.{ℕ, ◌<◌}
 use mathlib.Core.Path.{◌≡◌, ap, ◌∙◌}
+use mir.Syntax.{w64}
+use mir.ValLaws.{of_z-to_z, of_z_fits}
 use Rattle.network.specs.Records.{record_at}
 use Rattle.network.specs.Places.{places_in}
 use Rattle.network.specs.declared.Record.{Record}
@@ -32,7 +34,8 @@ overflow_add-t c =
     let share : c.share_of_t-t.result
     ≡ share_tin c.unknowns_of-unknown.result c.coordinates_of-coordinate.result c.corrections_of-correction.result
     (record_at (places_in c.args.places.now) c.loop-p.p) = c.share_of_t-t.ensures ∙ ap (λ (r : Record). share_tin c.unknowns_of-unknown.result c.coordinates_of-coordinate.result c.corrections_of-correction.result r) c.record_at-r.ensures in
-    summed-fits (places_in c.args.places.now) weighed c.loop-p.invariant.1 c.loop-p-test.true share
+    let held = rw (of_z-to_z w64 c.loop-p.t-bits c.loop-p.auto.t-fits) at c.loop-p.invariant.1 in
+    summed-fits (places_in c.args.places.now) weighed held c.loop-p-test.true share
 
 pub loop-p-preserved : goal.loop-p-preserved
 loop-p-preserved c =
@@ -41,12 +44,15 @@ loop-p-preserved c =
     let share : c.share_of_t-t.result
     ≡ share_tin c.unknowns_of-unknown.result c.coordinates_of-coordinate.result c.corrections_of-correction.result
     (record_at (places_in c.args.places.now) c.loop-p.p) = c.share_of_t-t.ensures ∙ ap (λ (r : Record). share_tin c.unknowns_of-unknown.result c.coordinates_of-coordinate.result c.corrections_of-correction.result r) c.record_at-r.ensures in
-    (search rules, summed-more (places_in c.args.places.now) weighed c.loop-p.invariant.1 c.loop-p-test.true share)
+    let held = rw (of_z-to_z w64 c.loop-p.t-bits c.loop-p.auto.t-fits) at c.loop-p.invariant.1 in
+    let fit = summed-fits (places_in c.args.places.now) weighed held c.loop-p-test.true share in
+    (search rules, rw (of_z-to_z w64 _ (of_z_fits w64 _ fit)) (summed-more (places_in c.args.places.now) weighed held c.loop-p-test.true share))
 
 pub returns : goal.returns
 returns c =
     let weighed : (p : ℕ) → p < 256
     → Weighed c.coordinates_of-coordinate.result c.corrections_of-correction.result (record_at (places_in c.args.places.now) p) = λ p h. rw (c.coordinates_of-coordinate.ensures, c.corrections_of-correction.ensures) (weighed_at c.requires.1 p h) in
     let e : c.loop-p.p ≡ 256 = omega arith in
-    summed (places_in c.args.places.now) weighed (rw e at c.loop-p.invariant.1) (omega arith)
+    let held = rw (of_z-to_z w64 c.loop-p.t-bits c.loop-p.auto.t-fits) at c.loop-p.invariant.1 in
+    summed (places_in c.args.places.now) weighed (rw e at held) (omega arith)
     ∙ rw (c.unknowns_of-unknown.ensures, c.coordinates_of-coordinate.ensures, c.corrections_of-correction.ensures) (T_in c.requires.1)

@@ -1,5 +1,4 @@
 -- At most 32 stations are read (`read-most`), so the part lent is inside the array, and `Book::open` ensures the rest. Assumes nothing.
-use borrow.Author.Rules.{rules}
 use native.Mathlib.Omega.{arith}
 use native.Mathlib.Nat.{sub-zero}
 use Rattle.stations.specs.FlatLaws.{read_most}
