@@ -1,7 +1,6 @@
 -- The number is small, so the cast keeps it. Assumes nothing.
 use Prim.Native.Nat.{◌<◌, ◌^◌}
 use native.Mathlib.Omega.{arith}
-use borrow.Author.Rules.{rules}
 use mir.Syntax.{w64}
 use mir.Facts.{to_z-of_z}
 use Rattle.cases.proofs.answer_of.Goals as goal

@@ -10,7 +10,6 @@ use Rattle.book.specs.declared.Call.{Call}
 use Rattle.book.specs.declared.Call.TheVariants.{Edit}
 use Rattle.cases.specs.Script.{calls, call_at}
 use Rattle.cases.proofs.Calls.{above}
-use borrow.Author.Rules.{rules}
 use Rattle.cases.proofs.call_at.Goals as goal
 
 entered : (p : ℤ) (c : Call) (r r' : Record) → c ≡ Edit p (Enter r) → r ≡ r' → c ≡ Edit p (Enter r')

@@ -1,5 +1,4 @@
 -- `level`: the difference is stored in 64 bits and read again. Assumes nothing.
-use borrow.Author.Rules.{rules}
 use mathlib.Core.Path.{◌∙◌}
 use mir.Syntax.{w64}
 use mir.Facts.{to_z-of_z}

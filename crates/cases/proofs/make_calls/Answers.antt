@@ -1,19 +1,18 @@
 -- The loop's invariant: the book is that after the first i rows, and the first i answers are those to them.
-use Prim.Native.Nat.{ℕ, ◌+◌, ◌-◌, ◌<◌, ◌≤◌}
+use Prim.Native.Nat.{ℕ, ◌+◌, ◌<◌, ◌≤◌}
 use mathlib.Core.Path.{◌≡◌, refl, sym, ap, ap₂, ◌∙◌, subst}
-use mathlib.Core.Bool.{true}
 use mathlib.Core.List.{◌++◌}
 use native.Mathlib.Omega.{arith}
 use borrow.Author.Rules.{rules}
 use mir.Syntax.{w64}
 use mir.Facts.{to_z-of_z}
 use lib.IntN.{pos}
-use lib.ListN.{length, take, drop, get_or, take-append-drop}
+use lib.ListN.{length, drop, get_or, take-append-drop}
 use lib.Seq.{take_all}
 use Rattle.integers.specs.Tables.{length-tabulate, get_d_tabulate}
 use Rattle.lists.specs.Filling.{Mapped, starts, goes_on}
 use Rattle.book.specs.Run.{final_zero, answers, length-answers}
-use Rattle.book.specs.Book.{book_next, book_says, sound}
+use Rattle.book.specs.Book.{book_next, book_says}
 use Rattle.book.specs.Rows.{row_next, row_says}
 use Rattle.book.specs.declared.Row.TheVariants.{Names, Nameless}
 use Rattle.book.specs.SoundLaws.{refusal-small}

@@ -1,5 +1,4 @@
 -- The station list opens. Assumes nothing.
-use borrow.Author.Rules.{rules}
 use Rattle.cases.specs.Table.{station_list}
 use Rattle.cases.specs.Worked.{list_opens}
 use Rattle.cases.proofs.Calls.{opened_book_lem}

@@ -2,7 +2,6 @@
 use Rattle.commands.specs.CommandLaws.{after_none, after-some}
 use Rattle.commands.specs.Commands.{entered}
 use mathlib.Core.Path.{ap, ◌∙◌}
-use borrow.Author.Rules.{rules}
 use Rattle.commands.proofs.reading.after_r.Goals as goal
 
 pub returns-then-line-end : goal.returns-then-line-end

@@ -2,7 +2,6 @@
 use mathlib.Core.Path.{refl, ◌∙◌}
 use native.Mathlib.Nat.{le_refl}
 use lib.Dec.{lit≤}
-use borrow.Author.Rules.{rules}
 use Rattle.commands.specs.CommandLaws.{exactly-none, exactly_other, exactly_all, exactly_front, zeros, heights_lacking}
 use Rattle.commands.specs.Commands.{with_heights, without_heights}
 use Rattle.commands.proofs.reading.baseline_line.Goals as goal

@@ -1,7 +1,6 @@
 -- By the letter, as `entry_of` goes through them. Assumes nothing.
 use Rattle.commands.specs.CommandLaws.{it_is, it_is_not}
 use Rattle.commands.specs.Commands.{letter_H, letter_B, letter_P, entry_of}
-use borrow.Author.Rules.{rules}
 use Rattle.commands.proofs.reading.entry_at.Goals as goal
 
 pub returns-then-letter-eq72 : goal.returns-then-letter-eq72

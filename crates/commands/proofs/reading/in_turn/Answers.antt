@@ -5,7 +5,6 @@ use mir.Syntax.{w64}
 use lib.Signed.{lt_z}
 use lib.IntN.{ℤ, pos, nat_abs}
 use mathlib.Core.Path.{◌≡◌, sym, ap, ◌∙◌}
-use borrow.Author.Rules.{rules}
 use Rattle.commands.proofs.reading.in_turn.Goals as goal
 
 pub returns-then-is_negative : goal.returns-then-is_negative

@@ -2,7 +2,6 @@
 use lib.Dec.{eqb}
 use Prim.Native.Nat.{ℕ}
 use mathlib.Core.Path.{ap}
-use borrow.Author.Rules.{rules}
 use Rattle.commands.specs.Commands.{letter_S}
 use Rattle.commands.proofs.reading.is_station_line.Goals as goal
 

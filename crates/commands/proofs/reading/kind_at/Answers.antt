@@ -1,7 +1,6 @@
 -- By the letter, as `stationOfKind` goes through them. Assumes nothing.
 use Rattle.commands.specs.CommandLaws.{it_is, it_is_not}
 use Rattle.commands.specs.Commands.{letter_K, letter_F, letter_V, station_of_kind}
-use borrow.Author.Rules.{rules}
 use Rattle.commands.proofs.reading.kind_at.Goals as goal
 
 pub returns-then-letter-eq75 : goal.returns-then-letter-eq75

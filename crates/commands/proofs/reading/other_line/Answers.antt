@@ -4,7 +4,6 @@ use Rattle.commands.specs.Commands.{letter_R, letter_D, letter_U, other_of, ente
 use Rattle.text.specs.Fields.{rest_fields}
 use Prim.Native.Nat.{ℕ}
 use mathlib.Core.Path.{refl, sym, ap, ◌∙◌}
-use borrow.Author.Rules.{rules}
 use Rattle.commands.proofs.reading.other_line.Goals as goal
 
 pub returns-then-letter-eq82 : goal.returns-then-letter-eq82

@@ -1,5 +1,4 @@
 -- `position_line`: by how many numbers there are. Assumes nothing.
-use borrow.Author.Rules.{rules}
 use mathlib.Core.Path.{refl, ◌∙◌}
 use native.Mathlib.Nat.{le_refl}
 use Rattle.commands.specs.CommandLaws.{exactly-none, exactly_other, exactly_all}

@@ -4,7 +4,6 @@ use Rattle.commands.specs.CommandLaws.{station-none, station-one, station_wrong,
 use Rattle.words.specs.Signed.{eq_z}
 use lib.IntN.{ℤ, pos}
 use Prim.Native.Nat.{suc}
-use borrow.Author.Tests.{not-true, not-false}
 use mir.Facts.{to_z-of_z}
 use mir.Syntax.{w64}
 use borrow.Author.Rules.{rules}

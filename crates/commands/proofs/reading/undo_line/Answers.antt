@@ -1,6 +1,5 @@
 -- U alone undoes (`undo-none`); with more fields it is unreadable (`undo-some`). Assumes nothing.
 use Rattle.commands.specs.CommandLaws.{undo_none, undo_some}
-use borrow.Author.Rules.{rules}
 use Rattle.commands.proofs.reading.undo_line.Goals as goal
 
 pub returns-then-line-end : goal.returns-then-line-end

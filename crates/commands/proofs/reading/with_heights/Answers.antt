@@ -3,7 +3,7 @@ use mir.Syntax.{w64}
 use mir.Facts.{to_z-of_z}
 use lib.ListN.{get_or}
 use lib.IntN.{pos}
-use borrow.Author.Rules.{rules, sfits_of}
+use borrow.Author.Rules.{sfits_of}
 use Rattle.network.specs.RecordWords.{record_of}
 use Rattle.commands.specs.declared.Entry.TheVariants as entry
 use Rattle.commands.proofs.reading.with_heights.Goals as goal

@@ -14,7 +14,6 @@ use Rattle.layout.specs.Layout.{book_bytes}
 use Rattle.layout.specs.Bytes.{book_of}
 use Rattle.layout.specs.CodecLaws.{fits-room, fits-sound, fits-network}
 use Rattle.lent_edits.proofs.Changed.{settle_ready, edit_changed}
-use borrow.Author.Rules.{rules}
 use Rattle.lent_edits.proofs.changes.change_place.Goals as goal
 
 pub network_in-net-requires : goal.network_in-net-requires

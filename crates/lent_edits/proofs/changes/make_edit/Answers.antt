@@ -7,7 +7,6 @@ use Rattle.layout.specs.Bytes.{book_of}
 use Rattle.layout.specs.CodecLaws.{fits-room, fits-sound}
 use Rattle.layout.specs.Layout.{book_bytes}
 use Rattle.lent_edits.proofs.Changed.{edit_made}
-use borrow.Author.Rules.{rules}
 use Rattle.lent_edits.proofs.changes.make_edit.Goals as goal
 
 pub record_in-old-requires : goal.record_in-old-requires

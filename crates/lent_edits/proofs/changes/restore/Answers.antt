@@ -12,7 +12,6 @@ use Rattle.layout.specs.Bytes.{book_of}
 use Rattle.layout.specs.CodecLaws.{fits-room, fits-sound}
 use Rattle.layout.specs.Layout.{book_bytes}
 use Rattle.lent_edits.proofs.Changed.{restored}
-use borrow.Author.Rules.{rules}
 use Rattle.lent_edits.proofs.changes.restore.Goals as goal
 
 pub next_in-next-requires : goal.next_in-next-requires

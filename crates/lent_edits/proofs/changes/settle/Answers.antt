@@ -1,7 +1,6 @@
 -- `settle` makes the edit where its number is 0, and else leaves the bytes: the two cases of `unless`. Assumes nothing.
 use mathlib.Core.Path.{sym, ◌∙◌}
 use Rattle.book.specs.CallLaws.{unless-none, unless_some}
-use borrow.Author.Rules.{rules}
 use Rattle.lent_edits.proofs.changes.settle.Goals as goal
 
 pub make_edit-requires : goal.make_edit-requires

@@ -3,7 +3,6 @@ use native.Mathlib.Omega.{arith}
 use Rattle.layout.specs.Bytes.{book_of}
 use Rattle.layout.specs.CodecLaws.{fits-room}
 use Rattle.lent_edits.proofs.Changed.{undo_none, undo_done}
-use borrow.Author.Rules.{rules}
 use Rattle.lent_edits.proofs.changes.undo.Goals as goal
 
 pub journal_count_in-count-requires : goal.journal_count_in-count-requires

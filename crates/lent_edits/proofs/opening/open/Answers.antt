@@ -5,7 +5,6 @@ use Rattle.layout.specs.Bytes.{put_book}
 use Rattle.lent_edits.specs.LentEdits.{bytes_left}
 use Rattle.lent_edits.specs.LeavesBook.{open_opens}
 use Rattle.book.specs.CallLaws.{unless-none, unless_some}
-use borrow.Author.Rules.{rules}
 use Rattle.lent_edits.proofs.opening.open.Goals as goal
 
 pub returns-then-n-eq0 : goal.returns-then-n-eq0
