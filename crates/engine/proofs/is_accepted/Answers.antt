@@ -1,5 +1,5 @@
 -- What the check judged are the numbers at the front of the room; it told that it accepts them. Assumes nothing.
-use Rattle.std.proofs.Common.{◌≡◌, ℕ, true, false, take, sym, ◌∙◌, ap₂, rules}
+use Rattle.std.proofs.Common.{ℕ, true, take, sym, ◌∙◌, ap₂}
 use native.Mathlib.Nat.{sub-zero}
 use Rattle.layout.specs.Bytes.{book_of}
 use Rattle.checks.specs.Checks.{checked}

@@ -1,5 +1,4 @@
 -- The bytes that the book writes hold it, so a proposal on them is one on the book.
-use Rattle.std.proofs.Common.{rules}
 use Rattle.engine.proofs.propose.Goals as goal
 
 pub returns : goal.returns

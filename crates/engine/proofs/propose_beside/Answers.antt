@@ -1,7 +1,6 @@
 -- What is copied to x and m is what was accepted. Assumes nothing.
-use Rattle.std.proofs.Common.{ℕ, true, List, length, take, ℤ, ap, ◌∙◌, ap₂, mul-le-mul, arith, rules}
+use Rattle.std.proofs.Common.{ℕ, true, List, length, take, ℤ, ap, ◌∙◌, ap₂, mul-le-mul, arith}
 use native.Mathlib.Nat.{sub-zero}
-use borrow.Author.Tests.{not-false}
 use Rattle.layout.specs.Bytes.{book_of}
 use Rattle.layout.specs.CodecLaws.{fits-room}
 use Rattle.checks.specs.Checks.{checked}

@@ -1,6 +1,6 @@
 -- Lengths that do not fit leave x and m as they came; else a book that bytes hold has at most 48 unknowns (`few`), which is what `propose_beside` asks.
 use native.Mathlib.Omega.{arith}
-use Rattle.std.proofs.Common.{◌≤◌, arith, rules}
+use Rattle.std.proofs.Common.{◌≤◌, arith}
 use Rattle.network.specs.RuleLaws.{sound-stations}
 use Rattle.layout.specs.Bytes.{book_of}
 use Rattle.layout.specs.CodecLaws.{fits-room, fits-sound}

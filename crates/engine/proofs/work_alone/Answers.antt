@@ -1,5 +1,5 @@
 -- The work slice has the length that a candidate asks; the rest is asked of the caller. Assumes nothing.
-use Rattle.std.proofs.Common.{arith, rules}
+use Rattle.std.proofs.Common.{arith}
 use Rattle.layout.specs.CodecLaws.{fits-room}
 use Rattle.engine.proofs.work_alone.Goals as goal
 

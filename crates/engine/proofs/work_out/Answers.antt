@@ -1,5 +1,4 @@
 -- A pair that could not be worked out is not accepted; of one that was, `is_accepted` tells. Assumes nothing.
-use Rattle.std.proofs.Common.{◌≡◌, true, false, rules}
 use Rattle.engine.proofs.work_out.Goals as goal
 
 pub returns-then-not-work_alone : goal.returns-then-not-work_alone

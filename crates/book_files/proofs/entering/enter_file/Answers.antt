@@ -1,9 +1,7 @@
 -- The refusals in their order, and then the entries. Assumes nothing.
 use mathlib.Core.Path.{sym, ◌∙◌}
 use native.Mathlib.Omega.{arith}
-use borrow.Author.Tests.{not-true, not-false}
 use Rattle.book_files.specs.EnteringLaws.{entered-room, entered_unread, entered_done, left_stays, left_done}
-use borrow.Author.Rules.{rules}
 use Rattle.book_files.proofs.entering.enter_file.Goals as goal
 
 pub returns-then-answers-file : goal.returns-then-answers-file

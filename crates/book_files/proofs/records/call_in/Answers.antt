@@ -10,7 +10,7 @@ use Rattle.network.specs.RecordWords.{record_in}
 use Rattle.book.specs.declared.Call.TheVariants.{Edit}
 use Rattle.book.specs.declared.Change.TheVariants.{Enter, Strike}
 use Rattle.book_files.specs.EnteringLaws.{call_strikes, call_enters}
-use borrow.Author.Rules.{rules, sfits_of}
+use borrow.Author.Rules.{sfits_of}
 use Rattle.book_files.proofs.records.call_in.Goals as goal
 
 pub returns-then-same : goal.returns-then-same

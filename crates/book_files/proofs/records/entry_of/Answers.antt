@@ -9,7 +9,7 @@ use mir.Syntax.{w64}
 use mir.ValLaws.{to_z-of_z}
 use Rattle.network.specs.RecordWords.{record_words}
 use Rattle.book_files.specs.Writing.{record_entry}
-use borrow.Author.Rules.{rules, sfits_of}
+use borrow.Author.Rules.{sfits_of}
 use Rattle.book_files.proofs.records.entry_of.Goals as goal
 
 pub returns : goal.returns

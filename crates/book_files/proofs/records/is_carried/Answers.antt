@@ -1,5 +1,4 @@
 -- By the record, case by case. Assumes nothing.
-use borrow.Author.Rules.{rules}
 use Rattle.book_files.specs.Writing.{carried}
 use Rattle.book_files.proofs.records.is_carried.Goals as goal
 

@@ -3,7 +3,7 @@ use mathlib.Core.Path.{refl, ap₂}
 use mathlib.Core.List.{◌∷◌}
 use mir.Syntax.{w64}
 use mir.ValLaws.{to_z-of_z}
-use borrow.Author.Rules.{rules, sfits_of}
+use borrow.Author.Rules.{sfits_of}
 use Rattle.book_files.specs.Entering.{record_words_in}
 use Rattle.book_files.proofs.records.record_words_in.Goals as goal
 

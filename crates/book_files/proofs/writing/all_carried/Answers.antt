@@ -1,10 +1,9 @@
 -- The loop tests each place in turn; those passed are carried. Assumes nothing.
-use Prim.Native.Nat.{ℕ, ◌-◌, ◌≤◌}
+use Prim.Native.Nat.{ℕ}
 use mathlib.Core.Path.{◌≡◌, sym, ap, ◌∙◌}
-use mathlib.Core.Bool.{Bool, true}
+use mathlib.Core.Bool.{Bool}
 use native.Mathlib.Omega.{arith}
-use borrow.Author.Tests.{not-true, not-false}
-use Rattle.lists.specs.All.{all_below, all_none, all_more, all_done, all_fails}
+use Rattle.lists.specs.All.{all_none, all_more, all_done, all_fails}
 use Rattle.network.specs.Records.{record_at}
 use Rattle.layout.specs.Bytes.{book_of}
 use Rattle.book_files.specs.Writing.{carried}

@@ -1,14 +1,11 @@
 -- The loop tests each place in turn; those passed are carried. Assumes nothing.
-use Prim.Native.Nat.{ℕ, ◌-◌, ◌≤◌}
-use mathlib.Core.Path.{◌≡◌, sym, ap, ◌∙◌}
-use mathlib.Core.Bool.{Bool, true}
-use native.Mathlib.Omega.{arith}
-use borrow.Author.Tests.{not-true, not-false}
-use Rattle.lists.specs.All.{all_below, all_none, all_more, all_done, all_fails}
+use Prim.Native.Nat.{◌-◌, ◌≤◌}
+use mathlib.Core.Path.{◌≡◌}
+use mathlib.Core.Bool.{true}
+use Rattle.lists.specs.All.{all_below}
 use Rattle.network.specs.Records.{record_at}
 use Rattle.layout.specs.Bytes.{book_of}
 use Rattle.book_files.specs.Writing.{carried}
-use borrow.Author.Rules.{rules}
 use Rattle.book_files.proofs.writing.all_carried.Given as goal
 
 abbrev pub invariant-loop-p : goal.invariant-loop-p

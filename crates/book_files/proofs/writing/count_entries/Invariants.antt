@@ -1,13 +1,9 @@
 -- The loop counts the entries of the places passed. Assumes nothing.
-use Prim.Native.Nat.{ℕ, ◌+◌, ◌-◌, ◌≤◌}
-use mathlib.Core.Path.{◌≡◌, sym, ap, ap₂, ◌∙◌}
-use native.Mathlib.Omega.{arith}
+use Prim.Native.Nat.{◌-◌, ◌≤◌}
+use mathlib.Core.Path.{◌≡◌}
 use lib.ListN.{length}
-use Rattle.network.specs.declared.Record.{Record}
 use Rattle.layout.specs.Bytes.{book_of}
-use Rattle.book_files.specs.Writing.{record_entries, entries_below}
-use Rattle.book_files.specs.WritingLaws.{none_below, length_more, entries_few, entries-one}
-use borrow.Author.Rules.{rules}
+use Rattle.book_files.specs.Writing.{entries_below}
 use Rattle.book_files.proofs.writing.count_entries.Given as goal
 
 abbrev pub invariant-loop-p : goal.invariant-loop-p

@@ -1,6 +1,5 @@
 -- By whether the record is empty. Assumes nothing.
 use mathlib.Core.Path.{sym, ◌∙◌}
-use borrow.Author.Rules.{rules}
 use Rattle.book_files.specs.Writing.{record_entries}
 use Rattle.book_files.proofs.writing.entry_count.Goals as goal
 

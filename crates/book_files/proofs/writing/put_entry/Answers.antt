@@ -2,7 +2,6 @@
 use mathlib.Core.Path.{sym, ◌∙◌}
 use native.Mathlib.Omega.{arith}
 use Rattle.book_files.specs.WritingLaws.{one_entry, put_none, put_one}
-use borrow.Author.Rules.{rules}
 use Rattle.book_files.proofs.writing.put_entry.Goals as goal
 
 pub returns-then-is_empty : goal.returns-then-is_empty

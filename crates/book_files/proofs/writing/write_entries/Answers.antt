@@ -1,8 +1,6 @@
 -- The loop writes the entries of the places passed (`Wrote`). Assumes nothing.
-use Prim.Native.Nat.{◌-◌, ◌≤◌}
 use native.Mathlib.Omega.{arith}
-use Rattle.layout.specs.Bytes.{book_of}
-use Rattle.book_files.specs.WritingLaws.{Wrote, wrote_none, wrote_more, room_next, wrote_all}
+use Rattle.book_files.specs.WritingLaws.{wrote_none, wrote_more, room_next, wrote_all}
 use borrow.Author.Rules.{rules}
 use Rattle.book_files.proofs.writing.write_entries.Goals as goal
 

@@ -1,9 +1,7 @@
 -- The loop writes the entries of the places passed (`Wrote`). Assumes nothing.
 use Prim.Native.Nat.{◌-◌, ◌≤◌}
-use native.Mathlib.Omega.{arith}
 use Rattle.layout.specs.Bytes.{book_of}
-use Rattle.book_files.specs.WritingLaws.{Wrote, wrote_none, wrote_more, room_next, wrote_all}
-use borrow.Author.Rules.{rules}
+use Rattle.book_files.specs.WritingLaws.{Wrote}
 use Rattle.book_files.proofs.writing.write_entries.Given as goal
 
 abbrev pub invariant-loop-p : goal.invariant-loop-p

@@ -1,9 +1,7 @@
 -- The refusals in their order, and then the entries. Assumes nothing.
 use mathlib.Core.Path.{sym, ◌∙◌}
 use native.Mathlib.Omega.{arith}
-use borrow.Author.Tests.{not-true, not-false}
 use Rattle.book_files.specs.WritingLaws.{written-room, written-carried, written-length, file_left_lem, file_stays}
-use borrow.Author.Rules.{rules}
 use Rattle.book_files.proofs.writing.write_file.Goals as goal
 
 pub returns-then-file-n : goal.returns-then-file-n
@@ -19,8 +17,7 @@ pub overflow_mul-result : goal.overflow_mul-result
 overflow_mul-result c = omega (arith, c.count_entries-n.ensures.1)
 
 pub returns : goal.returns
-returns c =
-    (
-      written-length _ _ c.count_entries-n.ensures.0 (omega arith) (sym c.all_carried.ensures ∙ c.if-not-all_carried.false),
-      file_left_lem _ _ c.count_entries-n.ensures.0 (omega arith) c.write_entries.ensures,
-    )
+returns c = (
+  written-length _ _ c.count_entries-n.ensures.0 (omega arith) (sym c.all_carried.ensures ∙ c.if-not-all_carried.false),
+  file_left_lem _ _ c.count_entries-n.ensures.0 (omega arith) c.write_entries.ensures,
+)

@@ -1,6 +1,5 @@
 -- The bytes that the book writes hold it, so the answer on them is the answer on the book.
 use mathlib.Core.Path.{ap, ◌∙◌}
-use borrow.Author.Rules.{rules}
 use Rattle.book.specs.declared.Book.{Book}
 use Rattle.distances.specs.Distances.{agreement}
 use Rattle.distances.proofs.answer.check_distance.Goals as goal

@@ -1,6 +1,5 @@
 -- The stations read are those of the book that the bytes hold. Each test told decides its case of `unlessRefused`; an accepted pair is in the ranges that the comparison asks for.
 use borrow.Author.Rules.{rules}
-use borrow.Author.Tests.{not-true, not-false}
 use mathlib.Core.Path.{◌≡◌, sym, ap, ap₂, ◌∙◌}
 use mathlib.Core.Bool.{Bool, true}
 use lib.IntN.{ℤ}

@@ -1,5 +1,4 @@
 -- Both adjusted coordinates are small (`a_small`, `b-small`), so their difference fits and is at most the sum of their sizes. Assumes nothing.
-use borrow.Author.Rules.{rules}
 use Prim.Native.Nat.{◌+◌, ◌*◌, ◌≤◌}
 use mathlib.Core.Path.{◌≡◌, sym, ap₂, ◌∙◌, subst}
 use mathlib.Core.List.{[], ◌∷◌}

@@ -1,5 +1,5 @@
 -- The differences and the rise are small, so their sum fits (`up_is`); each is read back from its bits and squared. Assumes nothing.
-use borrow.Author.Rules.{rules, sfits_of}
+use borrow.Author.Rules.{sfits_of}
 use Prim.Native.Nat.{◌≤◌}
 use mathlib.Core.Path.{◌≡◌, sym, ◌∙◌, subst}
 use mathlib.Core.List.{[], ◌∷◌}
@@ -25,12 +25,11 @@ pub overflow_add-u : goal.overflow_add-u
 overflow_add-u c = let u = c.separation-u.ensures.1 in let r = c.requires.2 in fit (search code_bounds depth 12) tt
 
 pub sum_of_squares-requires : goal.sum_of_squares-requires
-sum_of_squares-requires c =
-    (
-      kept c.separation-e.result c.separation-e.ensures.1 tt,
-      kept c.separation-n.result c.separation-n.ensures.1 tt,
-      up_small c.separation-u.result c.args.rise c.separation-u.ensures.1 c.requires.2,
-    )
+sum_of_squares-requires c = (
+  kept c.separation-e.result c.separation-e.ensures.1 tt,
+  kept c.separation-n.result c.separation-n.ensures.1 tt,
+  up_small c.separation-u.result c.args.rise c.separation-u.ensures.1 c.requires.2,
+)
 
 pub returns : goal.returns
 unfolding squared_distance_in

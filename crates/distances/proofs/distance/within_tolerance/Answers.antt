@@ -1,5 +1,4 @@
 -- Distance and tolerance are small, so the two squares fit and are those of the definition (`near-is`, `far-is`). Assumes nothing.
-use borrow.Author.Rules.{rules}
 use Prim.Native.Nat.{◌≤◌}
 use mathlib.Core.Path.{◌≡◌, ◌∙◌}
 use mathlib.Core.Bool.{◌&&◌}

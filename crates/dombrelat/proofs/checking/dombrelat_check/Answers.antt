@@ -3,10 +3,9 @@ use mir.Syntax.{w64}
 use mir.Facts.{to_z-of_z}
 use mathlib.Core.Path.{◌≡◌, sym, ◌∙◌}
 use mathlib.Core.Bool.{true}
-use borrow.Author.Tests.{not-true, not-false}
 use Rattle.layout.specs.Bytes.{bytes_fit}
 use Rattle.dombrelat.proofs.Answers.{check_unfit, check_fit}
-use borrow.Author.Rules.{rules, sfits_of}
+use borrow.Author.Rules.{sfits_of}
 use Rattle.dombrelat.proofs.checking.dombrelat_check.Goals as goal
 
 pub returns-then-not-holds_book : goal.returns-then-not-holds_book

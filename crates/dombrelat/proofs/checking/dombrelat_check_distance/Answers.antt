@@ -3,13 +3,12 @@ use mir.Syntax.{w64}
 use mir.Facts.{to_z-of_z}
 use mathlib.Core.Path.{◌≡◌, sym, ap, ◌∙◌}
 use mathlib.Core.Bool.{true}
-use borrow.Author.Tests.{not-true, not-false}
 use Rattle.lists.specs.Stored.{stored}
 use Rattle.distances.specs.declared.CheckDistance.{CheckDistance}
 use Rattle.layout.specs.Bytes.{bytes_fit}
 use Rattle.dombrelat.specs.CheckCalls.{distance_of, distance_call}
 use Rattle.dombrelat.proofs.Answers.{distance_unfit, distance_fit}
-use borrow.Author.Rules.{rules, sfits_of}
+use borrow.Author.Rules.{sfits_of}
 use Rattle.dombrelat.proofs.checking.dombrelat_check_distance.Goals as goal
 
 pub returns-then-not-holds_book : goal.returns-then-not-holds_book

@@ -6,7 +6,7 @@ use Rattle.book.specs.declared.Change.TheVariants.{Enter}
 use Rattle.book.specs.declared.Call.TheVariants.{Edit}
 use Rattle.network.specs.Records.{height_of}
 use Rattle.dombrelat.proofs.Lent.{answers_as}
-use borrow.Author.Rules.{rules, sfits_of}
+use borrow.Author.Rules.{sfits_of}
 use Rattle.dombrelat.proofs.edits.dombrelat_enter_height.Goals as goal
 
 pub returns : goal.returns

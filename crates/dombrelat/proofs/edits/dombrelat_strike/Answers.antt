@@ -5,7 +5,7 @@ use mir.Facts.{to_z-of_z}
 use Rattle.book.specs.declared.Change.TheVariants.{Strike}
 use Rattle.book.specs.declared.Call.TheVariants.{Edit}
 use Rattle.dombrelat.proofs.Lent.{answers_as}
-use borrow.Author.Rules.{rules, sfits_of}
+use borrow.Author.Rules.{sfits_of}
 use Rattle.dombrelat.proofs.edits.dombrelat_strike.Goals as goal
 
 pub returns : goal.returns

@@ -6,14 +6,12 @@ use lib.IntN.{pos}
 use mir.Syntax.{w64}
 use mir.Facts.{to_z-of_z}
 use mir.Val.{SFits}
-use borrow.Author.Tests.{not-true, not-false}
 use Rattle.network.specs.Records.{record_at}
 use Rattle.book.specs.CallLaws.{call_small}
 use Rattle.book.specs.Book.{outcome}
 use Rattle.layout.specs.Bytes.{book_of}
 use Rattle.dombrelat.specs.Calls.{Returned}
 use Rattle.dombrelat.proofs.Lent.{through_unfit, through-fit}
-use borrow.Author.Rules.{rules}
 use Rattle.dombrelat.proofs.edits.edit_bytes.Goals as goal
 
 pub returns-then-not-holds_book : goal.returns-then-not-holds_book

@@ -1,7 +1,6 @@
 -- By whether the file reads. Assumes nothing.
 use mathlib.Core.Path.{sym, ◌∙◌}
 use Rattle.dombrelat.proofs.Filings.{check_reads, check_unread}
-use borrow.Author.Rules.{rules}
 use Rattle.dombrelat.proofs.filing.dombrelat_check_file.Goals as goal
 
 pub returns-then-holds_file : goal.returns-then-holds_file

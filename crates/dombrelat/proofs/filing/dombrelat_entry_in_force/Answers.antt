@@ -3,11 +3,10 @@ use native.Mathlib.Omega.{arith}
 use mathlib.Core.Path.{◌≡◌, sym, ap, ◌∙◌}
 use mir.Syntax.{w64}
 use mir.Facts.{to_z-of_z}
-use borrow.Author.Tests.{not-true, not-false}
 use Rattle.network.specs.Rules.{in_list}
 use Rattle.files.specs.Force.{in_force}
 use Rattle.dombrelat.proofs.Filings.{found_place, found-room, found-given}
-use borrow.Author.Rules.{rules, sfits_of}
+use borrow.Author.Rules.{sfits_of}
 use Rattle.dombrelat.proofs.filing.dombrelat_entry_in_force.Goals as goal
 
 pub returns-then-not-between : goal.returns-then-not-between

@@ -2,11 +2,10 @@
 use mathlib.Core.Path.{sym, ◌∙◌}
 use mir.Syntax.{w64}
 use mir.Facts.{to_z-of_z}
-use borrow.Author.Tests.{not-true, not-false}
 use Rattle.layout.specs.CodecLaws.{fits-room}
 use Rattle.dombrelat.specs.FileCallLaws.{length-small}
 use Rattle.dombrelat.proofs.Filings.{write_unfit, write_fit}
-use borrow.Author.Rules.{rules, sfits_of}
+use borrow.Author.Rules.{sfits_of}
 use Rattle.dombrelat.proofs.filing.dombrelat_write_file.Goals as goal
 
 pub returns-then-not-holds_book : goal.returns-then-not-holds_book

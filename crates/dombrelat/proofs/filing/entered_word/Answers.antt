@@ -6,7 +6,6 @@ use mir.Syntax.{w64}
 use mir.Val.{SFits}
 use mir.Facts.{to_z-of_z}
 use Rattle.dombrelat.specs.FileCallLaws.{number_most_lem}
-use borrow.Author.Rules.{rules}
 use Rattle.dombrelat.proofs.filing.entered_word.Goals as goal
 
 pub overflow_cast-result : goal.overflow_cast-result

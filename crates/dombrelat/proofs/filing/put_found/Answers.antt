@@ -5,7 +5,7 @@ use mir.Facts.{to_z-of_z}
 use Rattle.words.specs.Signed.{signed}
 use Rattle.words.specs.Words.{put_word}
 use Rattle.dombrelat.proofs.Filings.{put_both}
-use borrow.Author.Rules.{rules, sfits_of}
+use borrow.Author.Rules.{sfits_of}
 use Rattle.dombrelat.proofs.filing.put_found.Goals as goal
 
 pub returns : goal.returns

@@ -11,7 +11,7 @@ use Rattle.words.specs.Runs.{words_at}
 use Rattle.book.specs.Book.{opening}
 use Rattle.dombrelat.specs.Calls.{Returned, answered_with}
 use Rattle.dombrelat.proofs.Openings.{opens_short, opens_odd, opens_many, opens_done}
-use borrow.Author.Rules.{rules, sfits_of}
+use borrow.Author.Rules.{sfits_of}
 use Rattle.dombrelat.proofs.opening.dombrelat_open.Goals as goal
 
 pub returns-then-book-lt-BOOK_BYTES : goal.returns-then-book-lt-BOOK_BYTES

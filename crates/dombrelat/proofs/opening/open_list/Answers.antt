@@ -10,7 +10,6 @@ use mir.Val.{SFits}
 use Rattle.book.specs.Book.{opening}
 use Rattle.lent_edits.specs.LentEdits.{bytes_left}
 use Rattle.dombrelat.specs.Demand1Holds.{opening-small}
-use borrow.Author.Rules.{rules}
 use Rattle.dombrelat.proofs.opening.open_list.Goals as goal
 
 pub overflow_cast-result : goal.overflow_cast-result

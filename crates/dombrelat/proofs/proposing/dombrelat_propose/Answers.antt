@@ -1,13 +1,12 @@
 -- Bytes that hold no book are answered with 25; else the answer is that of the book that they hold, as the call's word. Assumes nothing.
 use mathlib.Core.Path.{◌≡◌, refl, sym, ◌∙◌}
 use mathlib.Core.Bool.{true}
-use borrow.Author.Tests.{not-true, not-false}
 use mir.Syntax.{w64}
 use mir.Facts.{to_z-of_z}
 use Rattle.words.specs.Bools.{clash}
 use Rattle.layout.specs.Bytes.{bytes_fit}
 use Rattle.dombrelat.proofs.Offered.{proposed}
-use borrow.Author.Rules.{rules, sfits_of}
+use borrow.Author.Rules.{sfits_of}
 use Rattle.dombrelat.proofs.proposing.dombrelat_propose.Goals as goal
 
 pub returns-then-not-holds_book : goal.returns-then-not-holds_book

@@ -1,7 +1,6 @@
 -- By the two tests: no book (`record-unfit`), no such place (`record-beyond`); else the words of the record there, as `give` ensures (`record-fit`). Assumes nothing.
 use mathlib.Core.Path.{◌≡◌, refl, sym, ap, ◌∙◌}
 use mathlib.Core.Bool.{true}
-use borrow.Author.Tests.{not-true, not-false}
 use mir.Syntax.{w64}
 use mir.Facts.{to_z-of_z}
 use Rattle.layout.specs.Bytes.{bytes_fit}
@@ -9,7 +8,7 @@ use Rattle.layout.specs.CodecLaws.{fits-room}
 use lib.IntN.{ℤ}
 use Rattle.words.specs.Signed.{index_in}
 use Rattle.dombrelat.proofs.Readings.{both, record_unfit, record_beyond, record_fit}
-use borrow.Author.Rules.{rules, sfits_of}
+use borrow.Author.Rules.{sfits_of}
 use Rattle.dombrelat.proofs.reading.dombrelat_record.Goals as goal
 
 pub returns-then-not-holds_book : goal.returns-then-not-holds_book

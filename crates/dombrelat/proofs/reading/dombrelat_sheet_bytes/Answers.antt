@@ -3,7 +3,6 @@ use Prim.Native.Nat.{◌≤◌}
 use native.Mathlib.Omega.{arith}
 use mathlib.Core.Path.{◌≡◌, sym, ◌∙◌}
 use mathlib.Core.Bool.{true}
-use borrow.Author.Tests.{not-true, not-false}
 use mir.Syntax.{w64}
 use mir.Facts.{to_z-of_z}
 use Rattle.network.specs.RuleLaws.{network_few}
@@ -11,7 +10,7 @@ use Rattle.layout.specs.Bytes.{book_of, bytes_fit}
 use Rattle.layout.specs.CodecLaws.{fits-sound}
 use Rattle.sheet.specs.Totals.{room_small}
 use Rattle.dombrelat.proofs.Readings.{sheet_bytes_unfit, sheet_bytes_fit}
-use borrow.Author.Rules.{rules, sfits_of}
+use borrow.Author.Rules.{sfits_of}
 use Rattle.dombrelat.proofs.reading.dombrelat_sheet_bytes.Goals as goal
 
 pub returns-then-not-holds_book : goal.returns-then-not-holds_book

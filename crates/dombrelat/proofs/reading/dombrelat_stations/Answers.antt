@@ -3,13 +3,12 @@ use Prim.Native.Nat.{◌≤◌}
 use native.Mathlib.Omega.{arith}
 use mathlib.Core.Path.{◌≡◌, refl, sym, ◌∙◌}
 use mathlib.Core.Bool.{true}
-use borrow.Author.Tests.{not-true, not-false}
 use mir.Syntax.{w64}
 use mir.Facts.{to_z-of_z}
 use Rattle.layout.specs.Bytes.{bytes_fit}
 use Rattle.layout.specs.CodecLaws.{fits-room, fits-network}
 use Rattle.dombrelat.proofs.Readings.{both, stations_unfit, stations-fit}
-use borrow.Author.Rules.{rules, sfits_of}
+use borrow.Author.Rules.{sfits_of}
 use Rattle.dombrelat.proofs.reading.dombrelat_stations.Goals as goal
 
 pub returns-then-not-holds_book : goal.returns-then-not-holds_book

@@ -2,14 +2,13 @@
 use native.Mathlib.Omega.{arith}
 use mathlib.Core.Path.{◌≡◌, sym, ◌∙◌}
 use mathlib.Core.Bool.{true}
-use borrow.Author.Tests.{not-true, not-false}
 use mir.Syntax.{w64}
 use mir.Facts.{to_z-of_z}
 use Rattle.layout.specs.Bytes.{bytes_fit}
 use Rattle.layout.specs.CodecLaws.{fits-room}
 use Rattle.network.specs.StationLaws.{number_small}
 use Rattle.dombrelat.proofs.Readings.{unknowns_unfit, unknowns_fit_lem}
-use borrow.Author.Rules.{rules, sfits_of}
+use borrow.Author.Rules.{sfits_of}
 use Rattle.dombrelat.proofs.reading.dombrelat_unknowns.Goals as goal
 
 pub returns-then-not-holds_book : goal.returns-then-not-holds_book

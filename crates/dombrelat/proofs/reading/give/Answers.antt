@@ -3,7 +3,7 @@ use mathlib.Core.Path.{refl, ◌∙◌}
 use mir.Syntax.{w64}
 use mir.Facts.{to_z-of_z}
 use Rattle.dombrelat.proofs.Readings.{gives_none, gives_all, both}
-use borrow.Author.Rules.{rules, sfits_of}
+use borrow.Author.Rules.{sfits_of}
 use Rattle.dombrelat.proofs.reading.give.Goals as goal
 
 pub returns-then-out-w : goal.returns-then-out-w

@@ -3,7 +3,6 @@ use Prim.Native.Nat.{◌*◌, ◌<◌, ◌^◌}
 use native.Mathlib.Omega.{arith}
 use mir.Syntax.{w64}
 use mir.Facts.{to_z-of_z}
-use borrow.Author.Rules.{rules}
 use Rattle.dombrelat.proofs.reading.numbered_word.Goals as goal
 
 pub returns : goal.returns

@@ -3,7 +3,7 @@ use mathlib.Core.Path.{◌∙◌}
 use mir.Syntax.{w64}
 use mir.Facts.{to_z-of_z}
 use Rattle.dombrelat.proofs.Salvages.{salvage_no_room, salvage_given}
-use borrow.Author.Rules.{rules, sfits_of}
+use borrow.Author.Rules.{sfits_of}
 use Rattle.dombrelat.proofs.salvaging.dombrelat_salvage.Goals as goal
 
 pub returns-then-counts-lt-COUNTS_BYTES : goal.returns-then-counts-lt-COUNTS_BYTES

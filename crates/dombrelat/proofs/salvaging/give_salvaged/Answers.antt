@@ -6,7 +6,7 @@ use mir.Syntax.{w64}
 use mir.Val.{SFits}
 use mir.Facts.{to_z-of_z}
 use Rattle.dombrelat.specs.FileCallLaws.{number_most_lem}
-use borrow.Author.Rules.{rules, sfits_of}
+use borrow.Author.Rules.{sfits_of}
 use Rattle.dombrelat.proofs.salvaging.give_salvaged.Goals as goal
 
 pub overflow_cast-result : goal.overflow_cast-result

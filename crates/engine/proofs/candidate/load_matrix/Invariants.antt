@@ -1,5 +1,5 @@
 -- The loop's invariant: i is at most 48, and the work slice keeps its length, so both rows are inside it. Assumes nothing.
-use Rattle.std.proofs.Common.{◌≡◌, ◌-◌, ◌≤◌, length, rules}
+use Rattle.std.proofs.Common.{◌≡◌, ◌-◌, ◌≤◌, length}
 use Rattle.engine.proofs.candidate.load_matrix.Given as goal
 
 abbrev pub invariant-loop-i : goal.invariant-loop-i

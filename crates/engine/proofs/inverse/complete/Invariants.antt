@@ -1,5 +1,5 @@
 -- The loop's invariant: i is at most n, and the matrix keeps its length, so row i is inside it. Assumes nothing.
-use Rattle.std.proofs.Common.{◌≡◌, ◌-◌, ◌≤◌, length, rules}
+use Rattle.std.proofs.Common.{◌≡◌, ◌-◌, ◌≤◌, length}
 use Rattle.engine.proofs.inverse.complete.Given as goal
 
 abbrev pub invariant-loop-i : goal.invariant-loop-i

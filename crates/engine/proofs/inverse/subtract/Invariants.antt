@@ -1,5 +1,5 @@
 -- The loop's invariant: j is at most i + 1, and the matrix keeps its length, so the entry is inside it. Assumes nothing.
-use Rattle.std.proofs.Common.{◌≡◌, ◌+◌, ◌-◌, ◌≤◌, length, rules}
+use Rattle.std.proofs.Common.{◌≡◌, ◌+◌, ◌-◌, ◌≤◌, length}
 use Rattle.engine.proofs.inverse.subtract.Given as goal
 
 abbrev pub invariant-loop-j : goal.invariant-loop-j

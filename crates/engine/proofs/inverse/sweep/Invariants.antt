@@ -1,5 +1,5 @@
 -- The loop's invariant: k is at most n, and the matrix keeps its length, so the pivot is inside it. Assumes nothing.
-use Rattle.std.proofs.Common.{◌≡◌, ◌-◌, ◌≤◌, length, rules}
+use Rattle.std.proofs.Common.{◌≡◌, ◌-◌, ◌≤◌, length}
 use Rattle.engine.proofs.inverse.sweep.Given as goal
 
 abbrev pub invariant-loop-k : goal.invariant-loop-k

@@ -1,5 +1,5 @@
 -- The loop's invariant: i is at most n, and the column keeps its length, so the write is in range. Assumes nothing.
-use Rattle.std.proofs.Common.{◌≡◌, ◌-◌, ◌≤◌, length, rules}
+use Rattle.std.proofs.Common.{◌≡◌, ◌-◌, ◌≤◌, length}
 use Rattle.engine.proofs.inverse.take_column.Given as goal
 
 abbrev pub invariant-loop-i : goal.invariant-loop-i

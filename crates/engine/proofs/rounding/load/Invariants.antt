@@ -1,5 +1,5 @@
 -- The loop's invariant: i is at most n, and the list written keeps its length, so read and write are in range. Assumes nothing.
-use Rattle.std.proofs.Common.{◌≡◌, ◌-◌, ◌≤◌, length, rules}
+use Rattle.std.proofs.Common.{◌≡◌, ◌-◌, ◌≤◌, length}
 use Rattle.engine.proofs.rounding.load.Given as goal
 
 abbrev pub invariant-loop-i : goal.invariant-loop-i

@@ -1,5 +1,5 @@
 -- The tests put the shifted number in the range of the conversion, and the whole one below 2^37, so the shift can be taken off (`shifted_back`). Assumes nothing.
-use Rattle.std.proofs.Common.{ℕ, ◌<◌, T, pos, ◌-ℤ◌, sym, subst, arith, w64, SFits, to_z, rules}
+use Rattle.std.proofs.Common.{ℕ, ◌<◌, T, pos, ◌-ℤ◌, sym, subst, arith, w64, SFits, to_z}
 use mir.ValLaws.{to_z_pos}
 use Rattle.integers.specs.Bounds.{bounds, fits}
 use lib.Ieee.{of_bits, neg}

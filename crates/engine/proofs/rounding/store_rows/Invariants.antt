@@ -1,5 +1,5 @@
 -- The loop's invariant: at most 48 numbers are stored for each row passed, and the list keeps its length, so the next row is inside it. Assumes nothing.
-use Rattle.std.proofs.Common.{◌≡◌, ◌-◌, ◌*◌, ◌≤◌, length, rules}
+use Rattle.std.proofs.Common.{◌≡◌, ◌-◌, ◌*◌, ◌≤◌, length}
 use Rattle.engine.proofs.rounding.store_rows.Given as goal
 
 abbrev pub invariant-loop-i : goal.invariant-loop-i

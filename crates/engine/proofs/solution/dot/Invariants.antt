@@ -1,5 +1,5 @@
 -- The loop's invariant: k is at most n, so both reads are in range. Assumes nothing.
-use Rattle.std.proofs.Common.{◌-◌, ◌≤◌, rules}
+use Rattle.std.proofs.Common.{◌-◌, ◌≤◌}
 use Rattle.engine.proofs.solution.dot.Given as goal
 
 abbrev pub invariant-loop-k : goal.invariant-loop-k

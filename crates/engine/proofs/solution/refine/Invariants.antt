@@ -1,5 +1,5 @@
 -- The loop's invariant: i is at most n, and x keeps its length, so row i is inside the work slice and the write in range. Assumes nothing.
-use Rattle.std.proofs.Common.{◌≡◌, ◌-◌, ◌≤◌, length, rules}
+use Rattle.std.proofs.Common.{◌≡◌, ◌-◌, ◌≤◌, length}
 use Rattle.engine.proofs.solution.refine.Given as goal
 
 abbrev pub invariant-loop-i : goal.invariant-loop-i

@@ -1,5 +1,5 @@
 -- The loop's invariant: the rounds are at most three, and x and r keep their lengths, as the calls ask. Assumes nothing.
-use Rattle.std.proofs.Common.{◌≡◌, ◌-◌, ◌≤◌, length, rules}
+use Rattle.std.proofs.Common.{◌≡◌, ◌-◌, ◌≤◌, length}
 use Rattle.engine.proofs.solution.solve.Given as goal
 
 abbrev pub invariant-loop-round : goal.invariant-loop-round

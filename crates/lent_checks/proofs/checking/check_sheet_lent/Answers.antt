@@ -3,8 +3,6 @@ use mathlib.Core.Path.{◌≡◌, refl, sym, ap, ◌∙◌, subst}
 use Prim.Native.Nat.{◌+◌, ◌*◌, ◌≤◌}
 use mathlib.Core.Bool.{true, false}
 use native.Mathlib.Omega.{arith}
-use borrow.Author.Rules.{rules}
-use borrow.Author.Tests.{not-true, not-false}
 use Rattle.acceptance.specs.Judge.{answer_number, answer_unknown}
 use Rattle.acceptance.specs.declared.Answer.{Answer}
 use Rattle.layout.specs.Bytes.{book_of}

@@ -1,7 +1,6 @@
 -- By the answer's number: on acceptance the words are written (`delivered`), else the bytes stay (`withheld`). Assumes nothing.
 use mathlib.Core.Path.{refl, sym, ◌∙◌}
 use Rattle.lent_checks.proofs.Answers.{delivered, withheld}
-use borrow.Author.Rules.{rules}
 use Rattle.lent_checks.proofs.checking.deliver.Goals as goal
 
 pub returns-then-number-eq0 : goal.returns-then-number-eq0

@@ -1,6 +1,5 @@
 -- The words that are read fill the front of the room. Assumes nothing.
 use native.Mathlib.Omega.{arith}
-use borrow.Author.Rules.{rules}
 use Rattle.lent_checks.proofs.Answers.{read_front}
 use Rattle.lent_checks.proofs.checking.matrix_in.Goals as goal
 

@@ -1,5 +1,4 @@
 -- The number is at most 17 in size and 256 times the unknown is small, as the caller says, so the sum fits (`sum_is`). Assumes nothing.
-use borrow.Author.Rules.{rules}
 use Prim.Native.Nat.{ℕ, ◌*◌, ◌≤◌}
 use mathlib.Core.Path.{◌≡◌, sym, ap₂, ◌∙◌, subst}
 use mathlib.Core.List.{[], ◌∷◌}

@@ -1,9 +1,8 @@
 -- 10 exactly where the lengths are not those of the book's unknowns; else what is offered is that of the words. Assumes nothing.
-use Prim.Native.Nat.{◌-◌, ◌≤◌}
+use Prim.Native.Nat.{◌≤◌}
 use mathlib.Core.Path.{◌≡◌, sym, ap, ◌∙◌}
 use mathlib.Core.Bool.{true}
 use native.Mathlib.Omega.{arith}
-use borrow.Author.Tests.{not-true, not-false}
 use mir.Syntax.{w64}
 use mir.Facts.{to_z-of_z}
 use Rattle.network.specs.Stations.{unknown_count}
@@ -12,7 +11,7 @@ use Rattle.layout.specs.Bytes.{book_of}
 use Rattle.layout.specs.CodecLaws.{fits-room, fits-sound}
 use Rattle.lent_checks.specs.Offers.{lent_lengths}
 use Rattle.lent_checks.proofs.Offered.{offers_none, offers_some}
-use borrow.Author.Rules.{rules, sfits_of}
+use borrow.Author.Rules.{sfits_of}
 use Rattle.lent_checks.proofs.proposing.propose_lent.Goals as goal
 
 pub network_in-net-requires : goal.network_in-net-requires

@@ -1,5 +1,4 @@
 -- A sheet takes at most 2,021 words (`room_small`), so the part lent is inside. Assumes nothing.
-use borrow.Author.Rules.{rules}
 use native.Mathlib.Omega.{arith}
 use mathlib.Core.Path.{refl}
 use Rattle.layout.specs.Bytes.{book_of}

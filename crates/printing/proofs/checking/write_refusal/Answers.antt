@@ -2,7 +2,6 @@
 use native.Mathlib.Omega.{arith}
 use borrow.Author.Tests.{eq-eqb, ne_eqb}
 use Rattle.printing.specs.Reports.{refusal_says}
-use borrow.Author.Rules.{rules}
 use Rattle.printing.proofs.checking.write_refusal.Goals as goal
 
 pub returns-then-number-eq11 : goal.returns-then-number-eq11

@@ -2,7 +2,6 @@
 use Rattle.printing.specs.Messages.{refused_unknown_text}
 use Rattle.text.specs.Writing.{◌then◌}
 use native.Mathlib.Omega.{arith}
-use borrow.Author.Rules.{rules}
 use Rattle.printing.proofs.messages.write_refused_unknown.Goals as goal
 
 pub returns : goal.returns

@@ -2,7 +2,6 @@
 use Rattle.printing.specs.Messages.{unreadable_line}
 use Rattle.text.specs.Writing.{◌then◌}
 use native.Mathlib.Omega.{arith}
-use borrow.Author.Rules.{rules}
 use Rattle.printing.proofs.messages.write_unreadable_line.Goals as goal
 
 pub returns : goal.returns

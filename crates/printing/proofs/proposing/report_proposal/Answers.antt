@@ -10,7 +10,6 @@ use Rattle.layout.specs.Bytes.{book_of}
 use Rattle.text.specs.Writing.{written_as}
 use Rattle.printing.specs.Reports.{none, pair, no_pair, accepted, offer_says}
 use Rattle.printing.specs.ReportLaws.{accepted-says}
-use borrow.Author.Rules.{rules}
 use Rattle.printing.proofs.proposing.report_proposal.Goals as goal
 
 pub returns-in-Nothing : goal.returns-in-Nothing

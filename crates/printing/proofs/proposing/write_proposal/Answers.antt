@@ -4,7 +4,6 @@ use native.Mathlib.Omega.{arith}
 use Rattle.network.specs.RuleLaws.{sound-stations}
 use Rattle.layout.specs.Bytes.{book_of}
 use Rattle.layout.specs.CodecLaws.{fits-room, fits-sound}
-use borrow.Author.Rules.{rules}
 use Rattle.printing.proofs.proposing.write_proposal.Goals as goal
 
 pub network_in-network-requires : goal.network_in-network-requires

@@ -2,17 +2,20 @@
 use Rattle.printing.specs.SheetTextLaws.{by_bits}
 use Rattle.text.specs.Writing.{written_as, ◌then◌}
 use Rattle.printing.specs.SheetText.{baseline_text, verdict}
-use borrow.Author.Rules.{sfits_of, rules}
+use borrow.Author.Rules.{sfits_of}
 use native.Mathlib.Omega.{arith}
 use Rattle.printing.proofs.sheet_text.write_baseline.Goals as goal
 
 pub returns : goal.returns
 unfolding baseline_text
 returns c =
-    record { written = c.write_fields-a.ensures.written
+    record {
+      written = c.write_fields-a.ensures.written
           then written_as (by_bits verdict (sfits_of c.write_verdict-arg-2-1.given)) c.write_verdict-b.ensures.written
           then c.write_byte-c.ensures
           then written_as (by_bits verdict (sfits_of c.write_verdict-arg-4-1.given)) c.write_verdict-d.ensures.written
           then c.write_byte-e.ensures
           then written_as (by_bits verdict (sfits_of c.write_verdict-arg-6-1.given)) c.write_verdict-f.ensures.written
-          then c.write_byte.ensures; upper_bound = omega (arith, c.write_fields-a.ensures.upper_bound, c.write_verdict-b.ensures.upper_bound, c.write_byte-c.ensures.past, c.write_verdict-d.ensures.upper_bound, c.write_byte-e.ensures.past, c.write_verdict-f.ensures.upper_bound, c.write_byte.ensures.past) }
+          then c.write_byte.ensures;
+      upper_bound = omega (arith, c.write_fields-a.ensures.upper_bound, c.write_verdict-b.ensures.upper_bound, c.write_byte-c.ensures.past, c.write_verdict-d.ensures.upper_bound, c.write_byte-e.ensures.past, c.write_verdict-f.ensures.upper_bound, c.write_byte.ensures.past);
+    }

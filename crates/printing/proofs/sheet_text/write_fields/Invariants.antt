@@ -1,10 +1,6 @@
 -- The loop has written the fields of the words passed (`fields-more`), each in 22 bytes at most. Assumes nothing.
-use mathlib.Core.Path.{ap, ◌≡◌, refl}
-use Rattle.printing.specs.SheetTextLaws.{by_bits, fields-start, fields-more}
-use Rattle.text.specs.Writing.{written_as, ◌then◌, Written}
-use Rattle.text.specs.Numbers.{decimal}
-use borrow.Author.Rules.{sfits_of, rules}
-use native.Mathlib.Omega.{arith}
+use mathlib.Core.Path.{◌≡◌}
+use Rattle.text.specs.Writing.{Written}
 use Rattle.printing.specs.SheetText.{fields}
 use lib.ListN.{length}
 use Prim.Native.Nat.{◌≤◌, ◌-◌, ◌+◌, ◌*◌}

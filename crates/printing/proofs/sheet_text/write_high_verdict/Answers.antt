@@ -7,7 +7,6 @@ use mir.Syntax.{w64}
 use lib.IntN.{ℤ, pos}
 use native.Mathlib.Omega.{arith}
 use mathlib.Core.Path.{◌≡◌, sym, ap, ◌∙◌}
-use borrow.Author.Rules.{rules}
 use Rattle.printing.proofs.sheet_text.write_high_verdict.Goals as goal
 
 pub returns-then-same : goal.returns-then-same

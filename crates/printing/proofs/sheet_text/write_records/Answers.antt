@@ -1,7 +1,7 @@
 -- The loop has written the lines of the places passed, and `word` is where the words of the next start (`recordStart`). Assumes nothing.
 use borrow.Author.Rules.{rules}
 use native.Mathlib.Omega.{arith}
-use Prim.Native.Nat.{ℕ, ◌≤◌, ◌-◌, ◌+◌, ◌*◌}
+use Prim.Native.Nat.{ℕ, ◌≤◌, ◌+◌}
 use mathlib.Core.Path.{◌≡◌, refl, ap, ap₂, ◌∙◌}
 use mathlib.Core.List.{List, ◌++◌}
 use lib.ListN.{length}
@@ -9,8 +9,7 @@ use Rattle.network.specs.Places.{places_in}
 use Rattle.network.specs.declared.Place.{Place}
 use Rattle.network.specs.declared.Record.{Record}
 use Rattle.sheet.specs.Sheet.{line_length}
-use Rattle.text.specs.Writing.{Written, ◌then◌, written_as}
-use Rattle.printing.specs.Rooms.{baseline_room}
+use Rattle.text.specs.Writing.{◌then◌, written_as}
 use Rattle.printing.specs.SheetText.{record_text, record_texts, record_start}
 use Rattle.printing.specs.SheetTextLaws.{records-start, start_zero, start-more, records-more, start_rises}
 use Rattle.printing.proofs.sheet_text.write_records.Goals as goal
@@ -37,8 +36,7 @@ overflow_add-word c =
 pub loop-p-preserved : goal.loop-p-preserved
 loop-p-preserved c =
     let places_of : List Place = places_in c.args.places.now in
-    let next_start : c.loop-p.word + line_length c.record_at-r.result ≡ record_start c.args.o places_of (c.loop-p.p + 1) = ap₂ ◌+◌ c.loop-p.invariant.3 (ap line_length c.record_at-r.ensures) ∙ start-more c.args.o places_of c.loop-p.p in
-    (
+    let next_start : c.loop-p.word + line_length c.record_at-r.result ≡ record_start c.args.o places_of (c.loop-p.p + 1) = ap₂ ◌+◌ c.loop-p.invariant.3 (ap line_length c.record_at-r.ensures) ∙ start-more c.args.o places_of c.loop-p.p in (
       omega (arith, c.loop-p-test.true),
       search rules,
       omega (arith, c.loop-p.invariant.2, c.write_record-next.ensures.upper_bound),

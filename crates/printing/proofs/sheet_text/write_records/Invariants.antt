@@ -1,18 +1,11 @@
 -- The loop has written the lines of the places passed, and `word` is where the words of the next start (`recordStart`). Assumes nothing.
-use borrow.Author.Rules.{rules}
-use native.Mathlib.Omega.{arith}
-use Prim.Native.Nat.{ℕ, ◌≤◌, ◌-◌, ◌+◌, ◌*◌}
-use mathlib.Core.Path.{◌≡◌, refl, ap, ap₂, ◌∙◌}
-use mathlib.Core.List.{List, ◌++◌}
+use Prim.Native.Nat.{◌≤◌, ◌-◌, ◌+◌, ◌*◌}
+use mathlib.Core.Path.{◌≡◌}
 use lib.ListN.{length}
 use Rattle.network.specs.Places.{places_in}
-use Rattle.network.specs.declared.Place.{Place}
-use Rattle.network.specs.declared.Record.{Record}
-use Rattle.sheet.specs.Sheet.{line_length}
-use Rattle.text.specs.Writing.{Written, ◌then◌, written_as}
+use Rattle.text.specs.Writing.{Written}
 use Rattle.printing.specs.Rooms.{baseline_room}
-use Rattle.printing.specs.SheetText.{record_text, record_texts, record_start}
-use Rattle.printing.specs.SheetTextLaws.{records-start, start_zero, start-more, records-more, start_rises}
+use Rattle.printing.specs.SheetText.{record_texts, record_start}
 use Rattle.printing.proofs.sheet_text.write_records.Given as goal
 
 abbrev pub invariant-loop-p : goal.invariant-loop-p

@@ -1,5 +1,4 @@
 -- The four parts are written one after the other; where the words of the last start is where those of the records end. Assumes nothing.
-use borrow.Author.Rules.{rules}
 use native.Mathlib.Omega.{arith}
 use mathlib.Core.Path.{ap}
 use Rattle.network.specs.Places.{places_in}
@@ -14,7 +13,10 @@ write_stations-stations-requires c = (omega (arith, global_after c.args.n (place
 pub returns : goal.returns
 unfolding sheet_text
 returns c =
-    record { written = c.write_head-head.ensures.written
+    record {
+      written = c.write_head-head.ensures.written
           then c.write_stations-stations.ensures.written
           then c.write_records-records.ensures.written
-          then written_as (ap (global_text c.args.w.now) c.write_records-records.ensures.next_bound.1) c.write_global.ensures.written; upper_bound = omega (arith, c.write_head-head.ensures.upper_bound, c.write_stations-stations.ensures.upper_bound, c.write_records-records.ensures.next_bound.0, c.write_global.ensures.upper_bound, c.requires.0) }
+          then written_as (ap (global_text c.args.w.now) c.write_records-records.ensures.next_bound.1) c.write_global.ensures.written;
+      upper_bound = omega (arith, c.write_head-head.ensures.upper_bound, c.write_stations-stations.ensures.upper_bound, c.write_records-records.ensures.next_bound.0, c.write_global.ensures.upper_bound, c.requires.0);
+    }

@@ -1,10 +1,8 @@
 -- The loop has written the lines of the stations passed (`stations-more`). Assumes nothing.
 use Rattle.printing.specs.SheetTextLaws.{stations-start, stations-more}
-use Rattle.text.specs.Writing.{written_as, Written, ◌then◌}
+use Rattle.text.specs.Writing.{written_as, ◌then◌}
 use Rattle.printing.specs.SheetText.{station_texts}
-use lib.ListN.{length}
 use native.Mathlib.Omega.{arith}
-use Prim.Native.Nat.{◌≤◌, ◌-◌, ◌+◌, ◌*◌}
 use mathlib.Core.Path.{◌≡◌, refl, ap}
 use borrow.Author.Rules.{rules}
 use Rattle.printing.proofs.sheet_text.write_stations.Goals as goal
@@ -13,13 +11,12 @@ pub loop-i-init : goal.loop-i-init
 loop-i-init c = (omega arith, refl, omega arith, stations-start _ _ c.args.w.now)
 
 pub loop-i-preserved : goal.loop-i-preserved
-loop-i-preserved c =
-    (
-      omega arith,
-      search rules,
-      omega (arith, c.loop-i.invariant.2, c.write_station-p.ensures.upper_bound),
-      written_as (stations-more c.args.w.now c.loop-i.i) (c.loop-i.invariant.3 then c.write_station-p.ensures.written),
-    )
+loop-i-preserved c = (
+  omega arith,
+  search rules,
+  omega (arith, c.loop-i.invariant.2, c.write_station-p.ensures.upper_bound),
+  written_as (stations-more c.args.w.now c.loop-i.i) (c.loop-i.invariant.3 then c.write_station-p.ensures.written),
+)
 
 pub returns : goal.returns
 returns c =

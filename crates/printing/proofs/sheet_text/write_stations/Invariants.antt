@@ -1,12 +1,9 @@
 -- The loop has written the lines of the stations passed (`stations-more`). Assumes nothing.
-use Rattle.printing.specs.SheetTextLaws.{stations-start, stations-more}
-use Rattle.text.specs.Writing.{written_as, Written, ◌then◌}
+use Rattle.text.specs.Writing.{Written}
 use Rattle.printing.specs.SheetText.{station_texts}
 use lib.ListN.{length}
-use native.Mathlib.Omega.{arith}
 use Prim.Native.Nat.{◌≤◌, ◌-◌, ◌+◌, ◌*◌}
-use mathlib.Core.Path.{◌≡◌, refl, ap}
-use borrow.Author.Rules.{rules}
+use mathlib.Core.Path.{◌≡◌}
 use Rattle.printing.proofs.sheet_text.write_stations.Given as goal
 
 abbrev pub invariant-loop-i : goal.invariant-loop-i
