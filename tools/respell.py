@@ -13,7 +13,7 @@ import glob
 import re
 import sys
 
-WORD = re.compile(r'[^\s(){}.;,@"«»]+')
+WORD = re.compile(r'[^\s(){}.;,@"«»`]+')
 DECLARED = re.compile(r"(?m)^([ \t]*)((?:(?:abbrev|unfoldable|pub|pattern|axiom)\s+)*)([^\s(){}:;,.=|\[\]\"]+)(?:\{[^}\n]*\})?[ \t]+:[ \t]")
 OTHERS = re.compile(r"(?m)^[ \t]*(?:pub[ \t]+)?ruleset[ \t]+([^\s(){}:;,.=]+)")
 COMMENT = re.compile(r"--[^\n]*")

@@ -12,7 +12,7 @@ at l i = get_or l i (pos 0)
 abbrev pub by_rows : ℕ → List ℤ → ℕ → ℕ → ℤ
 by_rows stride l i j = at l (i * stride + j)
 
--- ════ the vectors that the tests bound; the matrix S-as-I − MN is `defect`
+-- ════ the vectors that the tests bound; the matrix S·I − MN is `defect`
 -- "r = u − Nx", the residual of the normal equations
 abbrev pub normal_residual : ℕ → (ℕ → ℕ → ℤ) → (ℕ → ℤ) → (ℕ → ℤ) → ℕ → ℤ
 normal_residual n N u x i = u i -ℤ sum n (λ j. N i j *ℤ x j)

@@ -18,7 +18,7 @@ use Rattle.input_lines.specs.declared.Phase.TheVariants.{Unopened, Opened, Ended
 use Rattle.input_lines.specs.declared.Given as code-given
 use Rattle.input_lines.specs.declared.Given.TheVariants as code
 use Rattle.input_lines.specs.declared.State.{State}
-use Rattle.input_lines.specs.Runs.{Phase, opened, ended, phase_with, phase_opened, opening_says}
+use Rattle.input_lines.specs.Runs.{opened, ended, phase_with, phase_opened, opening_says}
 use Rattle.input_lines.specs.States.{phase_of, given_of, is_given, given_length, run_of, opened_phase, ended_phase}
 use Rattle.adjustment.specs.Ends.{book_ends, phase_ends, end_says, BookEnds, RunEnds}
 

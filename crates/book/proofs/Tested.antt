@@ -1,4 +1,4 @@
--- The rules tested part by part, in the order of `rulesFit`. Assumes nothing.
+-- The rules tested part by part, in the order of `rules_fit`. Assumes nothing.
 use mathlib.Core.Path.{◌≡◌}
 use mathlib.Core.Bool.{Bool, true, false, ◌&&◌}
 use mathlib.Core.List.{List}

@@ -1,4 +1,4 @@
--- What a C host finds after a salvage that is not refused (`salvage-found`), and how much room is never too little (`salvage-enough`). Assumes nothing.
+-- What a C host finds after a salvage that is not refused (`salvage_found`), and how much room is never too little (`salvage_enough`). Assumes nothing.
 use Rattle.std.specs.Prelude.{ℕ, ◌+◌, ◌*◌, ◌/◌, ◌<◌, ◌≤◌, ◌^◌, ◌≡◌, refl, Bool, cond, ◌⊎◌, leb, pos, nat_abs}
 use Rattle.std.proofs.Common.{sym, ◌∙◌, inl, inr, arith}
 use Rattle.std.proofs.Math.Path.{ap, subst}

@@ -1,5 +1,5 @@
--- Laws of files. Walking back is the same as every entry being linked (`reads-linked`). What is written reads and gives its entries back (`written-reads`,
--- `written-entries`), and a file that reads is the one that writing its entries gives (`read-written`): so to read is to be the file of some entries (`reads-some`). Assumes nothing.
+-- Laws of files. Walking back is the same as every entry being linked (`reads_linked`). What is written reads and gives its entries back (`written-reads`,
+-- `written-entries`), and a file that reads is the one that writing its entries gives (`read_written`): so to read is to be the file of some entries (`reads_some`). Assumes nothing.
 use Rattle.files.specs.Statements.{AllFit, AllLong, Whole}
 use Rattle.std.specs.Prelude.{◌≡◌, ℕ, zero, suc, ◌+◌, ◌-◌, ◌*◌, ◌/◌, ◌%◌, ◌^◌, ◌<◌, ◌≤◌, true, false, cond, ◌&&◌, ◌⊎◌, ◌↔◌, List, [], ◌∷◌, ◌++◌, length, take, drop, ℤ, pos, negsuc, FitsSigned, ◌==◌, ◌≢◌, nat_le, slice_index_or, refl}
 use Rattle.std.proofs.Math.Path.{sym, ap}

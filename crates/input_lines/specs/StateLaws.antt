@@ -29,7 +29,7 @@ use Rattle.input_lines.specs.declared.Phase.TheVariants.{Unopened, Opened, Ended
 use Rattle.input_lines.specs.declared.Given as code-given
 use Rattle.input_lines.specs.declared.State.{State}
 use Rattle.input_lines.specs.declared.LineRead.{LineRead}
-use Rattle.input_lines.specs.Runs.{Phase, opened, ended, Given, given, Run, list_room, noted, phase_with, phase_opened, opening_answer, opening_says, open_run, before_line, before_line_says, is_unopened, asked, read_after, unedited, edits, phase_after, given_by, command_says, phase_says, obeyed, next, obeyed_says, says}
+use Rattle.input_lines.specs.Runs.{opened, ended, given, Run, list_room, noted, phase_with, phase_opened, opening_answer, opening_says, open_run, before_line, before_line_says, is_unopened, asked, read_after, unedited, edits, phase_after, given_by, command_says, phase_says, obeyed, next, obeyed_says, says}
 use Rattle.input_lines.specs.States.{phase_of, given_of, run_of, unopened_phase, opened_phase, ended_phase, phase_at, given_length, Ready, opened_with, EditLeaves, Noted, given_count, Reads, RunsTo, LineBegins}
 
 -- ════ text written after the front of a buffer

@@ -4,7 +4,7 @@
 --     floor_div-≤ a d h : (floor_div a d *ℤ pos d) ≤ℤ a
 --     floor_div-> a d h : a <ℤ ((floor_div a d +ℤ pos 1) *ℤ pos d)
 -- and any q with these bounds is it: `floor_div-unique a q d h low high : floor_div a d ≡ q`. At literals it computes: `floor_div (negsuc 0) 2 ≡ negsuc 0` is `refl`.
--- Code divides by `/`, quot_z of lib.Signed, which rounds toward zero: `floor_div-quot d h : floor_div a d ≡ quot_z a (pos d)`, with h : pos 0 ≤ℤ a.
+-- Code divides by `/`, quot_z of lib.Signed, which rounds toward zero: `floor_div_quot d h : floor_div a d ≡ quot_z a (pos d)`, with h : pos 0 ≤ℤ a.
 use Rattle.std.specs.Prelude.{◌≡◌, refl, ◌⊎◌, [], ◌∷◌, ℕ, ◌/◌, ◌<◌, ℤ, pos, negsuc, ◌+ℤ◌, ◌*ℤ◌, ◌≤ℤ◌, ◌<ℤ◌}
 use Rattle.std.proofs.Common.{inl, inr, div-add-mod', mod-lt, arith}
 use Rattle.std.specs.Int.Signed.{quot_z}

@@ -18,7 +18,7 @@ use Rattle.integers.specs.Sums.{sum, sum_n, sum-ext, sum--, sum-*l, sum-δ, δ, 
 abbrev pub S : ℤ
 S = pos (2 ^ 30)
 
--- entry (i, j) of S-as-I − MN, which test 5 bounds
+-- entry (i, j) of S·I − MN, which test 5 bounds
 abbrev pub defect : ℕ → (ℕ → ℕ → ℤ) → (ℕ → ℕ → ℤ) → ℕ → ℕ → ℤ
 defect n N M i j = S *ℤ δ i j -ℤ sum n (λ k. M i k *ℤ N k j)
 

@@ -1,5 +1,5 @@
 -- Document 01's "The night print", over the lines of a text: all of them, each whole, with all the stations that they give. The code keeps less of both
--- (input_lines, Runs); that it prints the same is proved in specs/PrintLaws.antt (`text_says`, `End-kept`). Assumes nothing.
+-- (input_lines, Runs); that it prints the same is proved in specs/PrintLaws.antt (`text_says`, `end_kept`). Assumes nothing.
 --   lines_of                    text, Lines           "lines end in LF (the last may lack it)"
 --   command_of, is_station_line   commands, Commands    what a line asks, and whether its first field is S
 --   flat                       network, StationWords the words of a station list

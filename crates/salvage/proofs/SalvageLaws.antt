@@ -1,5 +1,5 @@
--- Laws of salvage: the fresh file reads and has the kept words (`fresh-reads`, `fresh-entries`), an undamaged file comes out unchanged with no skipped run (`undamaged`,
--- `undamaged-skipped`), and how much room is always enough (`room-enough`). Assumes nothing.
+-- Laws of salvage: the fresh file reads and has the kept words (`fresh_reads`, `fresh_entries`), an undamaged file comes out unchanged with no skipped run (`undamaged`,
+-- `undamaged_skipped`), and how much room is always enough (`room-enough`). Assumes nothing.
 use Rattle.salvage.specs.Statements.{starts_from}
 use Rattle.files.specs.Statements.{AllFit}
 use Rattle.std.specs.Prelude.{ℕ, zero, suc, ◌+◌, ◌*◌, ◌/◌, ◌<◌, ◌≤◌, ◌^◌, ◌≡◌, refl, true, ◌&&◌, List, [], ◌∷◌, ◌++◌, leb, length, get_or, take, drop, ℤ, pos}

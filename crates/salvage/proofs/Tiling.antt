@@ -1,4 +1,4 @@
--- "Kept and skipped bytes together tile the input" (`tiles`), the skipped runs are longest (`skipped-longest`), and both lists are by rising start (`skipped-parted`; `kept-apart` of
+-- "Kept and skipped bytes together tile the input" (`tiles`), the skipped runs are longest (`skipped_longest`), and both lists are by rising start (`skipped_parted`; `kept-apart` of
 -- ScanLaws). Assumes nothing.
 use Rattle.salvage.specs.Statements.{Apart, times_within, times_kept, times_skipped, Parted, Longest}
 use Rattle.std.specs.Prelude.{ℕ, zero, suc, ◌+◌, ◌-◌, ◌<◌, ◌≤◌, ◌≡◌, List, [], ◌∷◌, ◌++◌, leb, ltb, length, get_or}

@@ -14,7 +14,7 @@ use network::Station;
 use samples::{free, height, known, thirty_three};
 use shown::show;
 
-// A book on a list of two stations, made here and lent. Proved by hand, as the reader is.
+// A book on a list of two stations, made here and lent.
 fn open_pair(a: Station, b: Station) -> Edited
     ensures { (result ≡ opening (flat (a ∷ b ∷ []))) × (opens (flat (a ∷ b ∷ [])) ≡ true → sound result.book ≡ true) }
 {

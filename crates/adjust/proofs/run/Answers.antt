@@ -1,15 +1,10 @@
 -- The invariant: the turns so far have led to the run that is kept (`Led`), which is ready for the next, and no buffer has changed its length. What a turn's
-use borrow.Author.Rules.{rules}
-use Prim.Native.Nat.{◌-◌, ◌*◌, ◌≤◌}
-use mathlib.Core.Path.{◌≡◌, refl, ◌∙◌}
+-- progress says ends the program (`ran_printed`, `ran-refused`, `ran_unread`), as a failed write does (`ran_unwritten`), or leads on (`led_on`). The measure is the
+-- reads that are left. Assumes nothing.
+use Prim.Native.Nat.{◌-◌}
+use mathlib.Core.Path.{refl, ◌∙◌}
 use native.Mathlib.Omega.{arith}
-use lib.ListN.{length}
-use Rattle.layout.specs.Bytes.{book_of}
-use Rattle.text.specs.Lines.{holds}
-use Rattle.commands.specs.Commands.{longest_line}
-use Rattle.input_lines.specs.States.{run_of, Ready}
-use Rattle.adjust.specs.Program.{chunk_room}
-use Rattle.adjust.specs.ProgramLaws.{Led, led_start, gave_few, led_on, ran_printed, ran-refused, ran_unread, ran_unwritten}
+use Rattle.adjust.specs.ProgramLaws.{led_start, gave_few, led_on, ran_printed, ran-refused, ran_unread, ran_unwritten}
 use Rattle.adjust.proofs.run.Goals as goal
 
 pub loop-reads-init : goal.loop-reads-init

@@ -1,5 +1,4 @@
 -- What read gave is the front of the chunk that `count` names, and a step takes it. Assumes nothing.
-use borrow.Author.Rules.{rules}
 use mathlib.Core.Path.{◌≡◌, ◌∙◌}
 use native.Mathlib.Omega.{arith}
 use lib.ListN.{length}

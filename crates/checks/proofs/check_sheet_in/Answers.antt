@@ -1,4 +1,5 @@
 -- The answer is that of the book which the bytes hold, with the room that its sheet takes (`answered`); an accepted pair is in the ranges that the sheet asks for, and the words afterwards
+-- follow from the answer (`after-accepted`, `after-refused`).
 use Prim.Native.Nat.{◌≤◌}
 use mathlib.Core.Path.{◌≡◌, sym, ◌∙◌}
 use lib.ListN.{length}

@@ -1,4 +1,4 @@
--- `add_records`, place by place. The loop's invariant: n and u are those of the places passed; one place more is `firstN-more`, `firstU-more`. Assumes nothing.
+-- `add_records`, place by place. The loop's invariant: n and u are those of the places passed; one place more is `first_n-more`, `first_u-more`. Assumes nothing.
 use Prim.Native.Nat.{ℕ, ◌-◌, ◌≤◌}
 use mathlib.Core.Path.{◌≡◌}
 use mathlib.Core.List.{List}

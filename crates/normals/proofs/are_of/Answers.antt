@@ -1,4 +1,4 @@
--- `are_of` compares with what `add_records` makes of zeros; lists of one length are compared whole by `same-long`. Assumes nothing.
+-- `are_of` compares with what `add_records` makes of zeros; lists of one length are compared whole by `same_long`. Assumes nothing.
 use Prim.Native.Nat.{ℕ}
 use mathlib.Core.Path.{◌≡◌, sym, ap, ap₂, ◌∙◌}
 use mathlib.Core.Bool.{◌&&◌}

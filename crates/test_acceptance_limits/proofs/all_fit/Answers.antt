@@ -1,11 +1,10 @@
 -- All records before place p are by the rules; the loop stops at the first that is refused.
-use Prim.Native.Nat.{ℕ, ◌≤◌, ◌-◌}
+use Prim.Native.Nat.{ℕ, ◌-◌}
 use mathlib.Core.Path.{◌≡◌, sym, ap, ◌∙◌}
 use mathlib.Core.Bool.{Bool, true, false}
 use native.Mathlib.Omega.{arith}
 use borrow.Author.Rules.{rules}
-use borrow.Author.Tests.{not-true, not-false}
-use Rattle.lists.specs.All.{all_below, all_none, all_more, all_fails, all_done}
+use Rattle.lists.specs.All.{all_none, all_more, all_fails, all_done}
 use Rattle.network.specs.Records.{record_at}
 use Rattle.network.specs.Places.{places_in}
 use Rattle.network.specs.Rules.{record_fits}

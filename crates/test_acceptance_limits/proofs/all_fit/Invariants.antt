@@ -1,15 +1,11 @@
 -- All records before place p are by the rules; the loop stops at the first that is refused.
-use Prim.Native.Nat.{ℕ, ◌≤◌, ◌-◌}
-use mathlib.Core.Path.{◌≡◌, sym, ap, ◌∙◌}
-use mathlib.Core.Bool.{Bool, true, false}
-use native.Mathlib.Omega.{arith}
-use borrow.Author.Rules.{rules}
-use borrow.Author.Tests.{not-true, not-false}
-use Rattle.lists.specs.All.{all_below, all_none, all_more, all_fails, all_done}
+use Prim.Native.Nat.{◌≤◌, ◌-◌}
+use mathlib.Core.Path.{◌≡◌}
+use mathlib.Core.Bool.{true}
+use Rattle.lists.specs.All.{all_below}
 use Rattle.network.specs.Records.{record_at}
 use Rattle.network.specs.Places.{places_in}
 use Rattle.network.specs.Rules.{record_fits}
-use Rattle.network.specs.declared.Record.{Record}
 use Rattle.test_acceptance_limits.proofs.all_fit.Given as goal
 
 abbrev pub invariant-loop-p : goal.invariant-loop-p

@@ -2,7 +2,6 @@
 use mathlib.Core.Path.{◌≡◌, sym, ◌∙◌}
 use mathlib.Core.Bool.{true}
 use borrow.Author.Rules.{rules}
-use borrow.Author.Tests.{not-false}
 use Rattle.lists.specs.All.{all_at}
 use Rattle.network.specs.Stations.{network_fits}
 use Rattle.network.specs.Places.{places_in}

@@ -1,7 +1,5 @@
 -- As `pushed_out`: the opened book was tested to be sound, and each series leaves a sound book to the next. Assumes nothing.
 use mathlib.Core.Path.{sym, ◌∙◌}
-use borrow.Author.Tests.{not-false}
-use borrow.Author.Rules.{rules}
 use Rattle.test_book_runs.proofs.entered_twice.Goals as goal
 
 pub series-first-requires : goal.series-first-requires

@@ -1,6 +1,5 @@
 -- The loop's invariant: i is at most 10, so the read is in range. Assumes nothing.
 use Prim.Native.Nat.{◌-◌, ◌≤◌}
-use borrow.Author.Rules.{rules}
 use Rattle.test_book_runs.proofs.print_tally.Given as goal
 
 abbrev pub invariant-loop-i : goal.invariant-loop-i

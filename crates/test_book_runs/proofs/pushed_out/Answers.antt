@@ -1,7 +1,5 @@
 -- The opened book was tested to be sound; each series leaves a sound book to the next call. Assumes nothing.
 use mathlib.Core.Path.{sym, ◌∙◌}
-use borrow.Author.Tests.{not-false}
-use borrow.Author.Rules.{rules}
 use Rattle.test_book_runs.proofs.pushed_out.Goals as goal
 
 pub series-edits-requires : goal.series-edits-requires

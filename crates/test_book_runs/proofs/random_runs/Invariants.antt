@@ -1,6 +1,5 @@
 -- The loop's invariant: r is at most 250, so the seed fits. Assumes nothing.
 use Prim.Native.Nat.{◌-◌, ◌≤◌}
-use borrow.Author.Rules.{rules}
 use Rattle.test_book_runs.proofs.random_runs.Given as goal
 
 abbrev pub invariant-loop-r : goal.invariant-loop-r

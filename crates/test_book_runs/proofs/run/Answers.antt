@@ -1,11 +1,6 @@
 -- The loop's invariant: the book is sound, as tested before the loop and kept by `step`, and k is at most 400. Assumes nothing.
-use Prim.Native.Nat.{◌-◌, ◌≤◌}
-use mathlib.Core.Path.{◌≡◌, sym, ◌∙◌}
-use mathlib.Core.Bool.{true}
+use mathlib.Core.Path.{sym, ◌∙◌}
 use native.Mathlib.Omega.{arith}
-use borrow.Author.Rules.{rules}
-use borrow.Author.Tests.{not-false}
-use Rattle.book.specs.Book.{sound}
 use Rattle.test_book_runs.proofs.run.Goals as goal
 
 pub loop-k-init : goal.loop-k-init

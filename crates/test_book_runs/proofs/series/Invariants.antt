@@ -2,7 +2,6 @@
 use mathlib.Core.Path.{◌≡◌}
 use mathlib.Core.Bool.{true}
 use Rattle.book.specs.Book.{sound}
-use borrow.Author.Rules.{rules}
 use Rattle.test_book_runs.proofs.series.Given as goal
 
 abbrev pub invariant-loop-left : goal.invariant-loop-left

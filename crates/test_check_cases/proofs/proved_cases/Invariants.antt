@@ -1,8 +1,5 @@
 -- Each number below 14 is that of a case. Assumes nothing.
 use Prim.Native.Nat.{◌≤◌, ◌-◌}
-use native.Mathlib.Omega.{arith}
-use borrow.Author.Rules.{rules}
-use Rattle.cases.specs.Script.{table-length}
 use Rattle.test_check_cases.proofs.proved_cases.Given as goal
 
 abbrev pub invariant-loop-k : goal.invariant-loop-k

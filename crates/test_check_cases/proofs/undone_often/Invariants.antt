@@ -1,6 +1,5 @@
 -- The loop's invariant: k is at most 64, so one more fits. Assumes nothing.
 use Prim.Native.Nat.{◌≤◌, ◌-◌}
-use borrow.Author.Rules.{rules}
 use Rattle.test_check_cases.proofs.undone_often.Given as goal
 
 abbrev pub invariant-loop-k : goal.invariant-loop-k

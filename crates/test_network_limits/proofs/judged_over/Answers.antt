@@ -1,5 +1,4 @@
 -- A network that passed the test has few stations and coordinates in range, as `record_no` asks. Assumes nothing.
-use borrow.Author.Rules.{rules}
 use mathlib.Core.Path.{sym, ◌∙◌}
 use Rattle.network.specs.RuleLaws.{network_few, network-coordinates}
 use Rattle.test_network_limits.proofs.judged_over.Goals as goal

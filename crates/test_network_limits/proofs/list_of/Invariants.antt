@@ -1,5 +1,4 @@
 -- The loop's invariant: s is at most 34, so the write is in range. Assumes nothing.
-use borrow.Author.Rules.{rules}
 use Prim.Native.Nat.{◌-◌, ◌≤◌}
 use Rattle.test_network_limits.proofs.list_of.Given as goal
 

@@ -1,5 +1,5 @@
 -- `named_weights`: the two weights that document 01 names, by network's laws of them. Assumes nothing.
-use borrow.Author.Rules.{rules, sfits_of}
+use borrow.Author.Rules.{sfits_of}
 use mathlib.Core.Path.{ap, ◌∙◌}
 use lib.IntN.{pos}
 use mir.Syntax.{w64}

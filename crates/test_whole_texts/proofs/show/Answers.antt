@@ -6,7 +6,6 @@ use lib.ListN.{length}
 use Rattle.night_print.specs.declared.Printing.{Printing}
 use Rattle.night_print.specs.declared.Printing.TheVariants.{Bytes}
 use Rattle.night_print.specs.Texts.{Printed}
-use borrow.Author.Rules.{rules}
 use Rattle.test_whole_texts.proofs.show.Goals as goal
 
 fits : (text before after : List ℕ) (r : Printing) (n : ℕ) → Printed text before r after → r ≡ Bytes n → n ≤ length after

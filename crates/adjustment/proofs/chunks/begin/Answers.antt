@@ -1,6 +1,5 @@
 -- Nothing is read, held or printed, and no book is opened: each part is as a run starts. Assumes nothing.
-use mathlib.Core.Path.{◌≡◌, refl}
-use mathlib.Core.Bool.{true, false}
+use mathlib.Core.Path.{refl}
 use native.Mathlib.Omega.{arith}
 use Rattle.input_lines.specs.States.{phase_of, given_of, opened_phase, given_length}
 use Rattle.adjustment.proofs.chunks.begin.Goals as goal

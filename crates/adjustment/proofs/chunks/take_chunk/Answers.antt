@@ -1,5 +1,5 @@
 -- The invariant is `Middle`: what is ahead from here is what was ahead from the chunk's start. A line that ends is obeyed, which takes it on (`middle-line`);
-use borrow.Author.Rules.{rules}
+-- a chunk that ends within a line (`middle-part`), or with one (`middle_end`), is taken. The measure is what is left of the chunk. Assumes nothing.
 use Prim.Native.Nat.{ℕ, ◌-◌, ◌≤◌}
 use mathlib.Core.Path.{ap, ◌∙◌}
 use native.Mathlib.Omega.{arith}
@@ -8,7 +8,7 @@ use borrow.Author.Tests.{not-true, not-false}
 use lib.ListN.{length, take}
 use Rattle.text.specs.Lines.{holds}
 use Rattle.text.specs.LineLaws.{fed_fits, fed_on}
-use Rattle.adjustment.specs.ChunkLaws.{Middle, middle_start, middle-line, middle-part, middle_end}
+use Rattle.adjustment.specs.ChunkLaws.{middle_start, middle-line, middle-part, middle_end}
 use Rattle.adjustment.proofs.chunks.take_chunk.Goals as goal
 
 pub loop-at-init : goal.loop-at-init

@@ -1,17 +1,10 @@
 -- The invariant is `Middle`: what is ahead from here is what was ahead from the chunk's start. A line that ends is obeyed, which takes it on (`middle-line`);
-use borrow.Author.Rules.{rules}
-use Prim.Native.Nat.{ℕ, ◌-◌, ◌≤◌}
-use mathlib.Core.Path.{ap, ◌∙◌}
-use native.Mathlib.Omega.{arith}
-use native.Mathlib.Nat.{sub-zero}
-use borrow.Author.Tests.{not-true, not-false}
-use lib.ListN.{length, take}
-use Rattle.text.specs.Lines.{holds}
-use Rattle.text.specs.LineLaws.{fed_fits, fed_on}
-use Rattle.adjustment.specs.ChunkLaws.{Middle, middle_start, middle-line, middle-part, middle_end}
+-- a chunk that ends within a line (`middle-part`), or with one (`middle_end`), is taken. The measure is what is left of the chunk. Assumes nothing.
+use Prim.Native.Nat.{◌-◌}
+use lib.ListN.{length}
+use Rattle.adjustment.specs.ChunkLaws.{Middle}
 use Rattle.adjustment.proofs.chunks.take_chunk.Given as goal
 
--- a chunk that ends within a line (`middle-part`), or with one (`middle-end`), is taken. The measure is what is left of the chunk. Assumes nothing.
 abbrev pub invariant-loop-at : goal.invariant-loop-at
 invariant-loop-at l = Middle l.initial.reached.state l.initial.book l.initial.list l.initial.x l.initial.m l.initial.line l.initial.len l.initial.over l.chunk l.initial.out l.reached.state l.book l.list l.x l.m l.line l.len l.over l.at l.reached.printed l.out
 

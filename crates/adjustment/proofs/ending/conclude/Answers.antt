@@ -1,5 +1,4 @@
--- Where X or M was given, the check of what they gave (`ends-check`); else the engine's proposal (`ends-offer`). Assumes nothing.
-use borrow.Author.Rules.{rules}
+-- Where X or M was given, the check of what they gave (`ends_check`); else the engine's proposal (`ends_offer`). Assumes nothing.
 use Prim.Native.Nat.{ℕ}
 use mathlib.Core.Path.{◌≡◌, sym, ap₂, ◌∙◌}
 use mathlib.Core.Bool.{Bool, true, false, ◌||◌}

@@ -1,5 +1,4 @@
 -- By what was given. Assumes nothing.
-use borrow.Author.Rules.{rules}
 use Rattle.input_lines.specs.States.{given_length}
 use Rattle.adjustment.proofs.ending.count.Goals as goal
 

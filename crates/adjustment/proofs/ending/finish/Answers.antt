@@ -1,5 +1,5 @@
 -- By the phase: an ended run prints nothing, an opened one its book's end, and an unopened one opens first; then it prints the refusal, or the end of the book
-use borrow.Author.Rules.{rules}
+-- that the bytes hold now. Assumes nothing.
 use mathlib.Core.Path.{◌≡◌, sym, ◌∙◌}
 use native.Mathlib.Omega.{arith}
 use Rattle.layout.specs.Bytes.{book_of}

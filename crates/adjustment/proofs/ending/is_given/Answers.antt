@@ -1,5 +1,4 @@
 -- By what was given. Assumes nothing.
-use borrow.Author.Rules.{rules}
 use Rattle.input_lines.specs.States.{is_given}
 use Rattle.adjustment.proofs.ending.is_given.Goals as goal
 

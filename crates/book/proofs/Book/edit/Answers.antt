@@ -1,4 +1,5 @@
--- The number is the one the table gives for the call (`edit-number`): where it is not 0 the book is left (`settled-refused`); where it is, what the change puts may be put there
+-- The number is the one the table gives for the call (`edit_number`): where it is not 0 the book is left (`settled-refused`); where it is, what the change puts may be put there
+-- (`edit_may_put`), and that, with its reversal on the journal, is the outcome (`edited-is`, `edit_done`). Assumes nothing.
 use mathlib.Core.Path.{◌≡◌, refl, sym, ap, ◌∙◌}
 use mir.Syntax.{w64}
 use mir.Facts.{to_z-of_z}

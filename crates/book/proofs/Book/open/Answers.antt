@@ -1,4 +1,4 @@
--- By whether the list opens: `opening-done`, or `opening-refused` over the network of an empty list. Assumes nothing.
+-- By whether the list opens: `opening_done`, or `opening-refused` over the network of an empty list. Assumes nothing.
 use mathlib.Core.Path.{sym, ap, ◌∙◌}
 use Rattle.book.specs.declared.Book.{Book}
 use Rattle.book.specs.Book.{opened_book}

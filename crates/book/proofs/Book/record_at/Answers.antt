@@ -1,4 +1,4 @@
--- Inside the 256 places the entry is read; beyond them the definition gives the empty record (`record-beyond`). Assumes nothing.
+-- Inside the 256 places the entry is read; beyond them the definition gives the empty record (`record_beyond`). Assumes nothing.
 use mathlib.Core.Path.{sym}
 use borrow.Author.Rules.{rules}
 use Rattle.lists.specs.Filling.{length_mapped}

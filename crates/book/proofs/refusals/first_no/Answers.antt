@@ -1,4 +1,4 @@
--- By whether the first number is 0: `first_next`, or `first-this`. Assumes nothing.
+-- By whether the first number is 0: `first_next`, or `first_this`. Assumes nothing.
 use Rattle.book.proofs.Steps.{first_next, first_this}
 use Rattle.book.proofs.refusals.first_no.Goals as goal
 

@@ -1,4 +1,4 @@
--- By the row: a call is answered by `answered`, a row that names none as `nameless-answered` says. Assumes nothing.
+-- By the row: a call is answered by `answered`, a row that names none as `nameless_answered` says. Assumes nothing.
 use Rattle.book.proofs.RowCases.{nameless_answered}
 use Rattle.book.proofs.rows.answer.Goals as goal
 

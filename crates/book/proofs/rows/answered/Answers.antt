@@ -1,4 +1,4 @@
--- A refusal is at most 9 (`refusal-small`), so the cast keeps it; `call-answered` has the answer and the book left. Assumes nothing.
+-- A refusal is at most 9 (`refusal-small`), so the cast keeps it; `call_answered` has the answer and the book left. Assumes nothing.
 use Prim.Native.Nat.{◌<◌, ◌≤◌, ◌^◌}
 use mathlib.Core.Path.{refl}
 use native.Mathlib.Omega.{arith}

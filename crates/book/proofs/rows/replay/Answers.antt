@@ -1,4 +1,4 @@
--- By the refusal of the opening: `replay-refused`; or the opened book is sound (`opened-sound`), the rows run are inside both lists, and `replay-done` closes. Assumes nothing.
+-- By the refusal of the opening: `replay_refused`; or the opened book is sound (`opened-sound`), the rows run are inside both lists, and `replay_done` closes. Assumes nothing.
 use Prim.Native.Nat.{◌/◌, min}
 use mathlib.Core.Path.{◌≡◌}
 use native.Mathlib.Omega.{arith}

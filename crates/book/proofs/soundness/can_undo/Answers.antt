@@ -1,4 +1,4 @@
--- `can_undo`: the walk over which places are empty gives what the walk over the places would (`by-empties`). Assumes nothing.
+-- `can_undo`: the walk over which places are empty gives what the walk over the places would (`by_empties`). Assumes nothing.
 use mathlib.Core.Path.{ap, ◌∙◌}
 use mathlib.Core.Bool.{Bool}
 use mathlib.Core.List.{List}

@@ -1,4 +1,4 @@
--- `rules_fit`, test by test in the order of `rulesFit`: the first that fails settles it, and each stands on those before it. Assumes nothing.
+-- `rules_fit`, test by test in the order of `rules_fit`: the first that fails settles it, and each stands on those before it. Assumes nothing.
 use mathlib.Core.Path.{◌≡◌, sym, ◌∙◌}
 use mathlib.Core.Bool.{true}
 use mathlib.Core.List.{List}

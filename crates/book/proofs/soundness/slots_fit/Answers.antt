@@ -1,4 +1,4 @@
--- The loop's invariant: the slots passed pass the test (`all_below`). The first that fails settles it (`all-fails`); after the last, `all_done`. Assumes nothing.
+-- The loop's invariant: the slots passed pass the test (`all_below`). The first that fails settles it (`all_fails`); after the last, `all_done`. Assumes nothing.
 use mathlib.Core.Path.{sym, ◌∙◌}
 use native.Mathlib.Omega.{arith}
 use borrow.Author.Rules.{rules}

@@ -1,4 +1,4 @@
--- The search from the stations that are held or have a position finds what `tiedSet` has (`found-same`); edges and these stations are what the calls gave, and the set of positions is what was asked.
+-- The search from the stations that are held or have a position finds what `tied_set` has (`found-same`); edges and these stations are what the calls gave, and the set of positions is what was asked.
 use Rattle.chains.specs.ChainLaws.{ends_low, found-same}
 use Rattle.chains.proofs.records.tied_in.Goals as goal
 

@@ -1,4 +1,4 @@
--- `baseline_line`: by how many numbers there are. Of 12 the two heights are read as the 0 that the array had (`heights-lacking`). Assumes nothing.
+-- `baseline_line`: by how many numbers there are. Of 12 the two heights are read as the 0 that the array had (`heights_lacking`). Assumes nothing.
 use mathlib.Core.Path.{refl, ◌∙◌}
 use native.Mathlib.Nat.{le_refl}
 use lib.Dec.{lit≤}

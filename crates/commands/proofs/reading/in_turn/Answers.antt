@@ -1,4 +1,4 @@
--- A negative number and 0 are no turn (`turn-negative`, `turn-zero`); any other is its size, compared less one (`turn-size`). Assumes nothing.
+-- A negative number and 0 are no turn (`turn-negative`, `turn_zero`); any other is its size, compared less one (`turn-size`). Assumes nothing.
 use Rattle.commands.specs.CommandLaws.{turn-negative, turn_zero, turn-size}
 use mir.Facts.{to_z-of_z}
 use mir.Syntax.{w64}

@@ -1,4 +1,4 @@
--- By the letter, as `stationOfKind` goes through them. Assumes nothing.
+-- By the letter, as `station_of_kind` goes through them. Assumes nothing.
 use Rattle.commands.specs.CommandLaws.{it_is, it_is_not}
 use Rattle.commands.specs.Commands.{letter_K, letter_F, letter_V, station_of_kind}
 use Rattle.commands.proofs.reading.kind_at.Goals as goal

@@ -1,4 +1,4 @@
--- By what the fields give: nothing (`counted_none`), or so many numbers (`counted-some`); they are stored as `read_rest` stores them. Assumes nothing.
+-- By what the fields give: nothing (`counted_none`), or so many numbers (`counted_some`); they are stored as `read_rest` stores them. Assumes nothing.
 use Rattle.commands.specs.CommandLaws.{counted_none, counted_some}
 use Rattle.commands.specs.declared.Command.TheVariants.{Matrix}
 use Rattle.commands.proofs.reading.matrix_line.Goals as goal

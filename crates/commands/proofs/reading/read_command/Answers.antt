@@ -1,4 +1,4 @@
--- A line that was cut asks nothing (`obeys-cut`); else by its letter, one law of `Obeys` for each. Assumes nothing.
+-- A line that was cut asks nothing (`obeys_cut`); else by its letter, one law of `Obeys` for each. Assumes nothing.
 use Rattle.commands.specs.CommandLaws.{obeys_late, obeys_cut, obeys_station, obeys-corrections, obeys-matrix, obeys-other}
 use mathlib.Core.Path.{refl}
 use Rattle.commands.proofs.reading.read_command.Goals as goal

@@ -1,4 +1,4 @@
--- Fields that are missing (`station-none`, `station-one`) or a number out of turn (`station-wrong`) make it unreadable; else its kind and coordinates are read from the next field on. Assumes nothing.
+-- Fields that are missing (`station-none`, `station-one`) or a number out of turn (`station_wrong`) make it unreadable; else its kind and coordinates are read from the next field on. Assumes nothing.
 use mathlib.Core.Path.{◌≡◌, ap, ◌∙◌}
 use Rattle.commands.specs.CommandLaws.{station-none, station-one, station_wrong, station-turn, turn-none, turn_is}
 use Rattle.words.specs.Signed.{eq_z}

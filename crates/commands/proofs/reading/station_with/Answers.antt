@@ -1,4 +1,4 @@
--- By how many numbers there are: none that can be read (`exactly-none`), another count (`exactly-other`), or just three (`exactly-all`). Assumes nothing.
+-- By how many numbers there are: none that can be read (`exactly-none`), another count (`exactly_other`), or just three (`exactly_all`). Assumes nothing.
 use Rattle.commands.specs.CommandLaws.{exactly-none, exactly_other, exactly_all, station-bits}
 use Rattle.commands.specs.Commands.{station_with}
 use lib.ListN.{get_or}

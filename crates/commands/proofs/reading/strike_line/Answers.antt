@@ -1,4 +1,4 @@
--- By how many numbers there are: none that can be read (`exactly-none`), another count (`exactly-other`), or just one (`exactly-all`). Assumes nothing.
+-- By how many numbers there are: none that can be read (`exactly-none`), another count (`exactly_other`), or just one (`exactly_all`). Assumes nothing.
 use Rattle.commands.specs.CommandLaws.{exactly-none, exactly_other, exactly_all}
 use Rattle.commands.specs.Commands.{strike_of}
 use Rattle.commands.specs.declared.Command.TheVariants.{Call}

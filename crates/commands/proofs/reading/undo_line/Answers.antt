@@ -1,4 +1,4 @@
--- U alone undoes (`undo-none`); with more fields it is unreadable (`undo-some`). Assumes nothing.
+-- U alone undoes (`undo_none`); with more fields it is unreadable (`undo_some`). Assumes nothing.
 use Rattle.commands.specs.CommandLaws.{undo_none, undo_some}
 use Rattle.commands.proofs.reading.undo_line.Goals as goal
 

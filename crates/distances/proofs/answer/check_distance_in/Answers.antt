@@ -1,4 +1,4 @@
--- The stations read are those of the book that the bytes hold. Each test told decides its case of `unlessRefused`; an accepted pair is in the ranges that the comparison asks for.
+-- The stations read are those of the book that the bytes hold. Each test told decides its case of `unless_refused`; an accepted pair is in the ranges that the comparison asks for.
 use borrow.Author.Rules.{rules}
 use mathlib.Core.Path.{◌≡◌, sym, ap, ap₂, ◌∙◌}
 use mathlib.Core.Bool.{Bool, true}

@@ -1,4 +1,4 @@
--- By the answer: a refusal's number is at most 17 (`agreement-most`), so the cast keeps it. Assumes nothing.
+-- By the answer: a refusal's number is at most 17 (`agreement_most`), so the cast keeps it. Assumes nothing.
 use Prim.Native.Nat.{◌≤◌}
 use mathlib.Core.Path.{◌≡◌, sym, ap, ◌∙◌, subst}
 use native.Mathlib.Omega.{arith}

@@ -1,4 +1,4 @@
--- The ends are in the list and the values in range, so every step fits; over the tables the squared distance is that of the two marks (`squared-distance-in`). Assumes nothing.
+-- The ends are in the list and the values in range, so every step fits; over the tables the squared distance is that of the two marks (`squared_distance_in_lem`). Assumes nothing.
 use borrow.Author.Rules.{rules, sfits_of}
 use Prim.Native.Nat.{◌<◌, ◌≤◌}
 use mathlib.Core.Path.{◌≡◌, sym, ap, ◌∙◌, subst}

@@ -1,4 +1,4 @@
--- By the two tests: no book (`record-unfit`), no such place (`record-beyond`); else the words of the record there, as `give` ensures (`record-fit`). Assumes nothing.
+-- By the two tests: no book (`record_unfit`), no such place (`record_beyond`); else the words of the record there, as `give` ensures (`record_fit`). Assumes nothing.
 use mathlib.Core.Path.{◌≡◌, refl, sym, ap, ◌∙◌}
 use mathlib.Core.Bool.{true}
 use mir.Syntax.{w64}

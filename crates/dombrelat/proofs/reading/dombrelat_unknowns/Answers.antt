@@ -1,4 +1,4 @@
--- Bytes that hold no book are answered with 25; else the unknowns are few (`number_small`), so their number fits the word (`unknowns-fit`). Assumes nothing.
+-- Bytes that hold no book are answered with 25; else the unknowns are few (`number_small`), so their number fits the word (`unknowns_fit_lem`). Assumes nothing.
 use native.Mathlib.Omega.{arith}
 use mathlib.Core.Path.{◌≡◌, sym, ◌∙◌}
 use mathlib.Core.Bool.{true}

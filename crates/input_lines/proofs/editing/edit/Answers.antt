@@ -1,5 +1,4 @@
--- An edit or an undo is the call on lent bytes (`Applies`); any other command leaves the bytes, and its edit is none (`edits-other`). Assumes nothing.
-use borrow.Author.Rules.{rules}
+-- An edit or an undo is the call on lent bytes (`Applies`); any other command leaves the bytes, and its edit is none (`edits_other`). Assumes nothing.
 use mathlib.Core.Path.{ap}
 use Rattle.book.specs.declared.Edited.{Edited}
 use Rattle.layout.specs.Bytes.{book_of}

@@ -1,5 +1,4 @@
 -- By whether there is a book: the line's edit, or bytes and book as they came. Assumes nothing.
-use borrow.Author.Rules.{rules}
 use mathlib.Core.Path.{refl}
 use Rattle.input_lines.proofs.editing.edit_opened.Goals as goal
 

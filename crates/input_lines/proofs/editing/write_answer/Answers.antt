@@ -1,5 +1,4 @@
 -- By the command: an unreadable line has its own message, and any other that of its refusal (`says_other`). Assumes nothing.
-use borrow.Author.Rules.{rules}
 use native.Mathlib.Omega.{arith}
 use Rattle.text.specs.Writing.{written_as}
 use Rattle.input_lines.specs.Runs.{command_says}

@@ -1,5 +1,4 @@
 -- By whether the run has ended: nothing, or the line's message. Assumes nothing.
-use borrow.Author.Rules.{rules}
 use native.Mathlib.Omega.{arith}
 use Rattle.text.specs.Writing.{nothing}
 use Rattle.input_lines.proofs.editing.write_message.Goals as goal

@@ -1,5 +1,4 @@
--- A line that opens leaves the opened book and the state after its answer (`begins-open`); any other leaves all as it came (`begins-stay`). Assumes nothing.
-use borrow.Author.Rules.{rules}
+-- A line that opens leaves the opened book and the state after its answer (`begins-open`); any other leaves all as it came (`begins_stay`). Assumes nothing.
 use mathlib.Core.Path.{sym, ◌∙◌}
 use Rattle.input_lines.specs.StateLaws.{begins-open, begins_stay}
 use Rattle.input_lines.proofs.obeying.begin_line.Goals as goal

@@ -1,5 +1,5 @@
 -- The line begins (`LineBegins`), is read in the state that leaves (`Reads`), its edit made (`EditLeaves`) and its message written: `line-obeyed` puts the
-use borrow.Author.Rules.{rules}
+-- four together, and `ready-next` keeps up what the next line asks. Assumes nothing.
 use mathlib.Core.Path.{sym, ap, ◌∙◌}
 use native.Mathlib.Omega.{arith}
 use Prim.Native.Nat.{suc}
@@ -25,7 +25,10 @@ pub returns : goal.returns
 returns c =
     let ready-in : Ready c.begin_line-begun.result.state c.begin_line-begun.new.book c.args.list.now c.args.x.now c.args.m.now = c.begin_line-begun.ensures.ready c.requires.ready in
     let n = c.begin_line-begun.ensures in
-    let q = c.read_line-asked in record { runs_to = line-obeyed n q.ensures c.is_opened.ensures c.edit_opened-number.ensures.0 c.is_ended.ensures c.write_message-printed.ensures.written c.write_message-printed.ensures.upper_bound; ready_2 = (
+    let q = c.read_line-asked in record {
+      runs_to = line-obeyed n q.ensures c.is_opened.ensures c.edit_opened-number.ensures.0 c.is_ended.ensures c.write_message-printed.ensures.written c.write_message-printed.ensures.upper_bound;
+      ready_2 = (
         ready-next ready-in q.ensures c.edit_opened-number.auto.book q.auto.list q.auto.x q.auto.m (λ t. c.edit_opened-number.ensures.1 (c.is_opened.ensures ∙ t)),
         q.ensures.lines ∙ ap suc n.lines,
-      ) }
+      );
+    }

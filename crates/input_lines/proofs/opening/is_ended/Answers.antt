@@ -1,5 +1,4 @@
 -- By the phase. Assumes nothing.
-use borrow.Author.Rules.{rules}
 use Rattle.input_lines.specs.States.{ended_phase}
 use Rattle.input_lines.proofs.opening.is_ended.Goals as goal
 

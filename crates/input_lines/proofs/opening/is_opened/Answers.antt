@@ -1,5 +1,4 @@
 -- By the phase. Assumes nothing.
-use borrow.Author.Rules.{rules}
 use Rattle.input_lines.specs.States.{opened_phase}
 use Rattle.input_lines.proofs.opening.is_opened.Goals as goal
 

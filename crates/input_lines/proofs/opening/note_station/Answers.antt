@@ -1,5 +1,4 @@
--- By whether the list has room for four words more: they are stored after the others (`note-room`), or nothing is (`note-full`). Assumes nothing.
-use borrow.Author.Rules.{rules}
+-- By whether the list has room for four words more: they are stored after the others (`note_room`), or nothing is (`note_full`). Assumes nothing.
 use native.Mathlib.Omega.{arith}
 use Rattle.input_lines.specs.StateLaws.{note_room, note_full}
 use Rattle.input_lines.proofs.opening.note_station.Goals as goal

@@ -1,5 +1,4 @@
 -- The part of the list from 0 is its front, which the opening is of. Assumes nothing.
-use borrow.Author.Rules.{rules}
 use native.Mathlib.Nat.{sub-zero}
 use Rattle.input_lines.proofs.opening.open_list.Goals as goal
 

@@ -1,5 +1,4 @@
 -- All but the phase stays, and that is the one after the refusal. Assumes nothing.
-use borrow.Author.Rules.{rules}
 use Rattle.input_lines.proofs.opening.opened.Goals as goal
 
 pub returns : goal.returns

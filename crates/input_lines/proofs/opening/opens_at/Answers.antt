@@ -1,5 +1,4 @@
 -- Both tests, joined. Assumes nothing.
-use borrow.Author.Rules.{rules}
 use Rattle.input_lines.proofs.opening.opens_at.Goals as goal
 
 pub returns : goal.returns

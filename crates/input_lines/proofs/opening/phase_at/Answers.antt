@@ -1,4 +1,4 @@
--- By the number, as `phaseAt` has it. Assumes nothing.
+-- By the number, as `phase_at` has it. Assumes nothing.
 use borrow.Author.Tests.{eq-eqb, ne_eqb}
 use Rattle.input_lines.proofs.opening.phase_at.Goals as goal
 

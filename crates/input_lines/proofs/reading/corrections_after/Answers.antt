@@ -1,5 +1,4 @@
--- By the command: an X line gives its count, and any other leaves what was given (`brings-no-corrections`). Assumes nothing.
-use borrow.Author.Rules.{rules}
+-- By the command: an X line gives its count, and any other leaves what was given (`brings_no_corrections`). Assumes nothing.
 use Rattle.commands.specs.Brings.{brings, how_many}
 use Rattle.input_lines.proofs.Arms.{brings_no_corrections}
 use Rattle.input_lines.proofs.reading.corrections_after.Goals as goal

@@ -1,5 +1,4 @@
--- By the command: an M line gives its count, and any other leaves what was given (`brings-no-matrix`). Assumes nothing.
-use borrow.Author.Rules.{rules}
+-- By the command: an M line gives its count, and any other leaves what was given (`brings_no_matrix`). Assumes nothing.
 use Rattle.commands.specs.Brings.{brings, how_many}
 use Rattle.input_lines.proofs.Arms.{brings_no_matrix}
 use Rattle.input_lines.proofs.reading.matrix_after.Goals as goal

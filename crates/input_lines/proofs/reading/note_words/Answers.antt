@@ -1,5 +1,4 @@
--- By the command: an S line notes its station, and any other leaves the words (`words-other`). Assumes nothing.
-use borrow.Author.Rules.{rules}
+-- By the command: an S line notes its station, and any other leaves the words (`words_other`). Assumes nothing.
 use Rattle.input_lines.specs.Runs.{words_after}
 use Rattle.input_lines.proofs.Arms.{words_other}
 use Rattle.input_lines.proofs.reading.note_words.Goals as goal

@@ -1,5 +1,4 @@
--- By the command: an S line is one more read (`read-other` for any other). Assumes nothing.
-use borrow.Author.Rules.{rules}
+-- By the command: an S line is one more read (`read_other` for any other). Assumes nothing.
 use native.Mathlib.Numerals.{add-one}
 use Rattle.input_lines.specs.Runs.{read_after}
 use Rattle.input_lines.proofs.Arms.{read_other}

@@ -1,5 +1,4 @@
--- What the line asks is `read_command`'s answer; the numbers that it brought stand at the front of x or m (`corrections-brought`, `matrix-brought`), and the rest of the state is noted part by part. Assumes nothing.
-use borrow.Author.Rules.{rules}
+-- What the line asks is `read_command`'s answer; the numbers that it brought stand at the front of x or m (`corrections_brought`, `matrix_brought`), and the rest of the state is noted part by part. Assumes nothing.
 use mathlib.Core.Path.{refl}
 use native.Mathlib.Numerals.{add-one}
 use Rattle.commands.specs.Brings.{corrections_brought, matrix_brought}

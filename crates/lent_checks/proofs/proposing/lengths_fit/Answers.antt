@@ -1,4 +1,4 @@
--- n is at most 48, so its square fits; the tests together are the definition (`lengths-test`). Assumes nothing.
+-- n is at most 48, so its square fits; the tests together are the definition (`lengths_test`). Assumes nothing.
 use native.Mathlib.Nat.{mul-le-mul}
 use native.Mathlib.Omega.{arith}
 use Rattle.lent_checks.proofs.Offered.{lengths_test}

@@ -1,4 +1,4 @@
--- What `put` ensures, with the journal that goes with the edit (`edit-made`). Assumes nothing.
+-- What `put` ensures, with the journal that goes with the edit (`edit_made`). Assumes nothing.
 use Prim.Native.Nat.{ℕ, ◌<◌, ◌≤◌}
 use mathlib.Core.Path.{sym, ◌∙◌, subst}
 use lib.ListN.{length}

@@ -1,4 +1,4 @@
--- The loop's invariant: the first i numbers are stored, and the list keeps its length; one more is `paste-next`, all of them `paste_all`. Assumes nothing.
+-- The loop's invariant: the first i numbers are stored, and the list keeps its length; one more is `paste_next`, all of them `paste_all`. Assumes nothing.
 use borrow.Author.Rules.{rules}
 use native.Mathlib.Omega.{arith}
 use mathlib.Core.Path.{◌≡◌, refl, ap, ◌∙◌}

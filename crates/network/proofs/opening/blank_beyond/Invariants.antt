@@ -1,4 +1,4 @@
--- The loop's invariant: the stations passed pass the test (`all_below`). The first that fails settles it (`all-fails`); after the last, `all_done`. Assumes nothing.
+-- The loop's invariant: the stations passed pass the test (`all_below`). The first that fails settles it (`all_fails`); after the last, `all_done`. Assumes nothing.
 use Prim.Native.Nat.{ℕ, ◌-◌, ◌≤◌}
 use mathlib.Core.Path.{◌≡◌}
 use mathlib.Core.Bool.{Bool, true, ◌||◌}

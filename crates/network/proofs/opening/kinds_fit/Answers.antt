@@ -1,4 +1,4 @@
--- The loop's invariant: the stations passed have kinds, each number read back from its bits (`all_below`). The first that fails settles it (`all-fails`). Assumes nothing.
+-- The loop's invariant: the stations passed have kinds, each number read back from its bits (`all_below`). The first that fails settles it (`all_fails`). Assumes nothing.
 use borrow.Author.Rules.{rules, sfits_of}
 use native.Mathlib.Omega.{arith}
 use mathlib.Core.Path.{◌≡◌, sym, ap, ◌∙◌}

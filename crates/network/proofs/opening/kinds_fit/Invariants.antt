@@ -1,4 +1,4 @@
--- The loop's invariant: the stations passed have kinds, each number read back from its bits (`all_below`). The first that fails settles it (`all-fails`). Assumes nothing.
+-- The loop's invariant: the stations passed have kinds, each number read back from its bits (`all_below`). The first that fails settles it (`all_fails`). Assumes nothing.
 use Prim.Native.Nat.{ℕ, ◌-◌, ◌*◌, ◌/◌, ◌≤◌}
 use mathlib.Core.Path.{◌≡◌}
 use mathlib.Core.Bool.{Bool, true}

@@ -1,4 +1,4 @@
--- The kind is read back from its bits; by it a baseline, a height difference, a position, or else the empty record (`other-record`). Assumes nothing.
+-- The kind is read back from its bits; by it a baseline, a height difference, a position, or else the empty record (`other_record`). Assumes nothing.
 use borrow.Author.Rules.{sfits_of}
 use mathlib.Core.Path.{◌≡◌, sym, ap, ◌∙◌}
 use mir.Syntax.{w64}

@@ -1,4 +1,4 @@
--- `misclosures_of`: each misclosure is `misclosureIn` of the record's ends and reduced value in its component. Assumes nothing.
+-- `misclosures_of`: each misclosure is `misclosure_in` of the record's ends and reduced value in its component. Assumes nothing.
 use Prim.Native.Nat.{ℕ, ◌<◌, ◌≤◌}
 use mathlib.Core.Path.{◌≡◌, refl, sym, ap, ap₂, subst}
 use mathlib.Core.List.{List, ◌∷◌}

@@ -1,4 +1,4 @@
--- The number is read back from its bits; its index is below the count exactly where it is in the list (`index-test`). Assumes nothing.
+-- The number is read back from its bits; its index is below the count exactly where it is in the list (`index_test`). Assumes nothing.
 use Prim.Native.Nat.{ℕ}
 use mathlib.Core.Path.{ap, ◌∙◌}
 use lib.Dec.{ltb}

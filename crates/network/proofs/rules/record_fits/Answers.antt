@@ -1,4 +1,4 @@
--- The table is that of the network, and its coordinates are in range (`provisional-within`), as `record_fits_over` asks. Assumes nothing.
+-- The table is that of the network, and its coordinates are in range (`provisional_within`), as `record_fits_over` asks. Assumes nothing.
 use mathlib.Core.Path.{sym, ap, ◌∙◌, subst}
 use mathlib.Core.List.{List}
 use lib.IntN.{ℤ}

@@ -1,4 +1,4 @@
--- The loop's invariant: n unknowns are passed, and the entries below n are their components (`Listed`); a turn is `listing-puts` or `listing-skips`. Assumes nothing.
+-- The loop's invariant: n unknowns are passed, and the entries below n are their components (`Listed`); a turn is `listing_puts` or `listing_skips`. Assumes nothing.
 use borrow.Author.Rules.{rules}
 use native.Mathlib.Omega.{arith}
 use Prim.Native.Nat.{ℕ, ◌+◌, ◌<◌, ◌≤◌}

@@ -1,4 +1,4 @@
--- The loop fills the table from the front: `Mapped` is the invariant; an entry is 0 or 1, so the cast keeps it (`bit-cast`). Assumes nothing.
+-- The loop fills the table from the front: `Mapped` is the invariant; an entry is 0 or 1, so the cast keeps it (`bit_cast`). Assumes nothing.
 use Prim.Native.Nat.{◌-◌, ◌≤◌}
 use lib.IntN.{pos}
 use Rattle.network.specs.Stations.{unknown}

@@ -1,5 +1,5 @@
 -- Where a line is held, the LF that it lacks is taken as a chunk, and what the end prints comes after its messages (`closes-line`); else the end alone prints
-use borrow.Author.Rules.{rules}
+-- (`closes_none`). Assumes nothing.
 use Prim.Native.Nat.{◌≤◌}
 use mathlib.Core.Path.{◌≡◌, sym, ◌∙◌}
 use mathlib.Core.Bool.{◌||◌}

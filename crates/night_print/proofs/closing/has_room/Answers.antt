@@ -1,4 +1,4 @@
--- Less room than the end takes is too little; else the test without a product says the same (`room-test`). Assumes nothing.
+-- Less room than the end takes is too little; else the test without a product says the same (`room_test`). Assumes nothing.
 use Rattle.printing.specs.Rooms.{line_room}
 use Rattle.night_print.specs.Closing.{end_room}
 use Rattle.night_print.specs.TailLaws.{room_test}

@@ -1,5 +1,4 @@
 -- The whole text is one chunk of a run that begins, and what its end prints comes after its messages: `prints-all`. Assumes nothing.
-use borrow.Author.Rules.{rules}
 use Prim.Native.Nat.{◌+◌, ◌*◌, ◌≤◌, ◌<◌}
 use mathlib.Core.Path.{◌≡◌, ◌∙◌}
 use native.Mathlib.Omega.{arith}
@@ -37,12 +36,15 @@ close-n-requires c =
     let kept : length c.take_chunk-taken.new.out ≡ length c.args.out.now = c.take_chunk-taken.auto.out in
     let room : let a = c.args in line_room * length a.text.now + end_room ≤ length a.out.now = c.requires.5 in
     let inside : c.take_chunk-taken.result.printed ≤ length c.take_chunk-taken.new.out = omega (arith, few, kept, room) in
-    record { ready = c.take_chunk-taken.ensures.ready_2.0; line_len = (
+    record {
+      ready = c.take_chunk-taken.ensures.ready_2.0;
+      line_len = (
         c.take_chunk-taken.auto.line ∙ c.requires.0,
         c.take_chunk-taken.ensures.ready_2.1,
         omega (arith, c.take_chunk-taken.ensures.ready_2.2, c.begin-begun.ensures.lines, c.requires.5),
         omega (arith, lent_length c.take_chunk-taken.result.printed c.take_chunk-taken.new.out inside, few, kept, room),
-      ) }
+      );
+    }
 
 pub overflow_add-result : goal.overflow_add-result
 overflow_add-result c =

@@ -1,5 +1,4 @@
--- By what the read gave: it failed (`step-unread`), the input has ended (`step-ends`), or a chunk came (`step-takes`). Assumes nothing.
-use borrow.Author.Rules.{rules}
+-- By what the read gave: it failed (`step_unread`), the input has ended (`step_ends`), or a chunk came (`step_takes`). Assumes nothing.
 use mathlib.Core.Path.{sym, ap, ◌∙◌}
 use mathlib.Core.Bool.{Bool, cond}
 use native.Mathlib.Omega.{arith}
@@ -22,13 +21,16 @@ take_chunk-next-requires c = record { ready = c.requires.ready; line_len = (c.re
 
 pub returns : goal.returns
 returns c =
-    let t = c.take_chunk-next in record { steps = step_takes
+    let t = c.take_chunk-next in record {
+      steps = step_takes
           c.if-failed.false
           (λ z. c.if-came-eq0.false z)
           (c.progress_of-progress.ensures ∙ ap (λ (b : Bool). cond b Refused Reading) (c.is_ended.ensures ∙ sym (ended_phase_lem t.result.state.phase (book_of t.new.book))))
-          t.ensures.takes; continues = record {
+          t.ensures.takes;
+      continues = record {
         ready = λ z. t.ensures.ready_2.0;
         short = λ z. t.ensures.ready_2.1;
         lines = λ z. t.ensures.ready_2.2;
         within = omega (arith, t.ensures.ready_2.3, t.auto.out, c.requires.line_len.3);
-      } }
+      };
+    }

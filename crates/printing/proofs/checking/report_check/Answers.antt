@@ -1,4 +1,4 @@
--- By the answer: the words left are the sheet's (`says-sheet`), or the refusal is printed (`says-refused`). Assumes nothing.
+-- By the answer: the words left are the sheet's (`says_sheet`), or the refusal is printed (`says-refused`). Assumes nothing.
 use Rattle.layout.specs.Bytes.{book_of}
 use Rattle.text.specs.Writing.{written_as}
 use Rattle.printing.specs.ReportLaws.{says_sheet, says-refused}

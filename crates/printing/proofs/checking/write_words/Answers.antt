@@ -1,4 +1,4 @@
--- The sheet is printed over the parts of the book that the bytes hold; its words are as many as its lines take (`global-room`). Assumes nothing.
+-- The sheet is printed over the parts of the book that the bytes hold; its words are as many as its lines take (`global_room_lem`). Assumes nothing.
 use borrow.Author.Rules.{rules}
 use native.Mathlib.Omega.{arith}
 use Prim.Native.Nat.{◌≤◌}

@@ -1,4 +1,4 @@
--- Each branch is a law of `highVerdict`. Assumes nothing.
+-- Each branch is a law of `high_verdict`. Assumes nothing.
 use Rattle.printing.specs.SheetTextLaws.{is-low, is-above, is_none}
 use Rattle.text.specs.Writing.{written_as}
 use Rattle.words.specs.Signed.{eq_z}

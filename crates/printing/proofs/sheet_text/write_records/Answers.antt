@@ -1,4 +1,4 @@
--- The loop has written the lines of the places passed, and `word` is where the words of the next start (`recordStart`). Assumes nothing.
+-- The loop has written the lines of the places passed, and `word` is where the words of the next start (`record_start`). Assumes nothing.
 use borrow.Author.Rules.{rules}
 use native.Mathlib.Omega.{arith}
 use Prim.Native.Nat.{ℕ, ◌≤◌, ◌+◌}

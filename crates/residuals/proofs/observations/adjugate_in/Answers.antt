@@ -1,4 +1,4 @@
--- By the number of components that the record observes: `single-divided` where there is no weight or one, `matrix-divided` for a matrix. Assumes nothing.
+-- By the number of components that the record observes: `single_divided` where there is no weight or one, `matrix_divided` for a matrix. Assumes nothing.
 use native.Mathlib.Omega.{arith}
 use Prim.Native.Nat.{ℕ, zero, suc}
 use mathlib.Core.Path.{◌≡◌, refl, sym, ap, ◌∙◌, subst}

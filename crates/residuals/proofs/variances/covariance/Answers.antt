@@ -1,4 +1,4 @@
--- The index is inside M (`index-inside`), and the product of two bits and an entry is small. Assumes nothing.
+-- The index is inside M (`index_inside`), and the product of two bits and an entry is small. Assumes nothing.
 use native.Mathlib.Omega.{arith}
 use Prim.Native.Nat.{◌+◌, ◌*◌}
 use mathlib.Core.List.{[], ◌∷◌}

@@ -1,4 +1,4 @@
--- The index of d in the table gives the limits; each branch is `global-none` or a case of `global-inside`. Assumes nothing.
+-- The index of d in the table gives the limits; each branch is `global_none` or a case of `global_inside`. Assumes nothing.
 use native.Mathlib.Omega.{arith}
 use mathlib.Core.Path.{◌≡◌, sym, ap, ◌∙◌}
 use mathlib.Core.Bool.{Bool, true, false}

@@ -1,4 +1,4 @@
--- The products fit by the sizes of v and q; each branch is a law of `localVerdict`. Assumes nothing.
+-- The products fit by the sizes of v and q; each branch is a law of `local_verdict`. Assumes nothing.
 use mathlib.Core.Path.{◌≡◌, sym, ◌∙◌}
 use mathlib.Core.List.{[], ◌∷◌}
 use Prim.Native.Nat.{◌≤◌, ◌^◌}

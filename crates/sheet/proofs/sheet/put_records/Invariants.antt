@@ -1,4 +1,4 @@
--- The loop has stored the lines of the places passed (`Put`), over the tables of components; at the end they are the sheet's (`records-in`). Assumes nothing.
+-- The loop has stored the lines of the places passed (`Put`), over the tables of components; at the end they are the sheet's (`records_in`). Assumes nothing.
 use Prim.Native.Nat.{◌-◌, ◌≤◌}
 use mathlib.Core.Path.{◌≡◌}
 use lib.ListN.{length}

@@ -1,4 +1,4 @@
--- The loop has stored the lines of the stations passed (`Put`), over the tables of components; at the end they are the sheet's (`stations-in`). Assumes nothing.
+-- The loop has stored the lines of the stations passed (`Put`), over the tables of components; at the end they are the sheet's (`stations_in`). Assumes nothing.
 use native.Mathlib.Omega.{arith}
 use Prim.Native.Nat.{ℕ, ◌+◌, ◌*◌, ◌<◌}
 use mathlib.Core.Path.{◌≡◌, refl, sym, ap, ap₂, ◌∙◌, subst}

@@ -1,4 +1,4 @@
--- The loop has stored the lines of the stations passed (`Put`), over the tables of components; at the end they are the sheet's (`stations-in`). Assumes nothing.
+-- The loop has stored the lines of the stations passed (`Put`), over the tables of components; at the end they are the sheet's (`stations_in`). Assumes nothing.
 use Prim.Native.Nat.{◌-◌, ◌≤◌}
 use mathlib.Core.Path.{◌≡◌}
 use lib.ListN.{length}

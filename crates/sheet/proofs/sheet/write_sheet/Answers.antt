@@ -1,4 +1,4 @@
--- The four parts are stored one after the other; `sheet-written` joins them into the sheet. Assumes nothing.
+-- The four parts are stored one after the other; `sheet_written` joins them into the sheet. Assumes nothing.
 use borrow.Author.Rules.{sfits_of}
 use native.Mathlib.Omega.{arith}
 use Prim.Native.Nat.{ℕ, ◌+◌, ◌*◌}

@@ -1,4 +1,4 @@
--- At most 32 stations are read (`read-most`), so the part lent is inside the array, and `Book::open` ensures the rest. Assumes nothing.
+-- At most 32 stations are read (`read_most`), so the part lent is inside the array, and `Book::open` ensures the rest. Assumes nothing.
 use native.Mathlib.Omega.{arith}
 use native.Mathlib.Nat.{sub-zero}
 use Rattle.stations.specs.FlatLaws.{read_most}

@@ -1,4 +1,4 @@
--- By the test: `read_fits`, or `read-over`. Assumes nothing.
+-- By the test: `read_fits`, or `read_over`. Assumes nothing.
 use mathlib.Core.Path.{sym}
 use Rattle.stations.specs.FlatLaws.{read_fits, read_over}
 use Rattle.stations.proofs.numbers.read_count.Goals as goal

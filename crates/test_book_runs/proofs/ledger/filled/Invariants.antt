@@ -1,6 +1,5 @@
 -- The loop's invariant: n is at most the number of places passed, so the sum fits. Assumes nothing.
 use Prim.Native.Nat.{◌-◌, ◌≤◌}
-use borrow.Author.Rules.{rules}
 use Rattle.test_book_runs.proofs.ledger.filled.Given as goal
 
 abbrev pub invariant-loop-p : goal.invariant-loop-p

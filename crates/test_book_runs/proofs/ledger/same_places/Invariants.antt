@@ -1,6 +1,5 @@
 -- The loop's invariant: p is at most 256, so both reads are in range. Assumes nothing.
 use Prim.Native.Nat.{◌-◌, ◌≤◌}
-use borrow.Author.Rules.{rules}
 use Rattle.test_book_runs.proofs.ledger.same_places.Given as goal
 
 abbrev pub invariant-loop-p : goal.invariant-loop-p

@@ -1,7 +1,6 @@
 -- The loop's invariant: i is at most the length, so the read is in range. Assumes nothing.
 use Prim.Native.Nat.{◌≤◌, ◌-◌}
 use lib.ListN.{length}
-use borrow.Author.Rules.{rules}
 use Rattle.test_book_runs.proofs.rows.print_words.Given as goal
 
 abbrev pub invariant-loop-i : goal.invariant-loop-i

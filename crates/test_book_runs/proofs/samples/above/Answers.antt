@@ -1,7 +1,6 @@
 -- The remainder is below n (`mod-lt`), so its sum with `low` fits. Assumes nothing.
 use native.Mathlib.Omega.{arith}
 use native.Mathlib.Nat.{mod-lt}
-use borrow.Author.Rules.{rules}
 use Rattle.test_book_runs.proofs.samples.above.Goals as goal
 
 pub overflow_add-s : goal.overflow_add-s

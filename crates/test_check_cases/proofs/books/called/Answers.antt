@@ -1,6 +1,5 @@
 -- `called` calls only a sound book. Assumes nothing.
 use mathlib.Core.Path.{sym, ◌∙◌}
-use borrow.Author.Rules.{rules}
 use Rattle.test_check_cases.proofs.books.called.Goals as goal
 
 pub apply-e-requires : goal.apply-e-requires

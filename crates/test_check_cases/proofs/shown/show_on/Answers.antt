@@ -1,6 +1,5 @@
 -- The sheet is asked for only where `is_sound` told that the book is sound. Assumes nothing.
 use mathlib.Core.Path.{sym, ◌∙◌}
-use borrow.Author.Rules.{rules}
 use Rattle.test_check_cases.proofs.shown.show_on.Goals as goal
 
 pub check_sheet-answer-requires : goal.check_sheet-answer-requires

@@ -1,6 +1,5 @@
 -- `entered` edits only a sound book. Assumes nothing.
 use mathlib.Core.Path.{sym, ◌∙◌}
-use borrow.Author.Rules.{rules}
 use Rattle.test_distance_limits.proofs.books.entered.Goals as goal
 
 pub apply-e-requires : goal.apply-e-requires

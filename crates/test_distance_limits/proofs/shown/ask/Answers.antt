@@ -1,6 +1,5 @@
 -- `ask` asks only of a sound book. Assumes nothing.
 use mathlib.Core.Path.{sym, ◌∙◌}
-use borrow.Author.Rules.{rules}
 use Rattle.test_distance_limits.proofs.shown.ask.Goals as goal
 
 pub check_distance-requires : goal.check_distance-requires

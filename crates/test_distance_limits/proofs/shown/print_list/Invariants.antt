@@ -1,6 +1,5 @@
 -- `print_list` passes each number once. Assumes nothing.
 use Prim.Native.Nat.{◌≤◌, ◌-◌}
-use borrow.Author.Rules.{rules}
 use lib.ListN.{length}
 use Rattle.test_distance_limits.proofs.shown.print_list.Given as goal
 

@@ -1,6 +1,5 @@
 -- The loop's invariant: s is at most 32, so the read is in range. Assumes nothing.
 use Prim.Native.Nat.{◌≤◌, ◌-◌}
-use borrow.Author.Rules.{rules}
 use Rattle.test_stations.proofs.shown.stations.Given as goal
 
 abbrev pub invariant-loop-s : goal.invariant-loop-s

@@ -1,5 +1,5 @@
 -- The loop's invariant: i is at most one past the text. A line ends at i or later, within the text (`line_end`), so the part is inside it and i rises. Assumes nothing.
-use Rattle.std.proofs.Common.{◌+◌, ◌-◌, ◌≤◌, length, rules}
+use Rattle.std.proofs.Common.{◌+◌, ◌-◌, ◌≤◌, length}
 use Rattle.test_surveys.proofs.records.book_of.Given as goal
 
 abbrev pub invariant-loop-i : goal.invariant-loop-i

@@ -1,5 +1,5 @@
 -- A pair is proposed only where `is_sound` told that the book is sound. Assumes nothing.
-use Rattle.std.proofs.Common.{sym, ◌∙◌, rules}
+use Rattle.std.proofs.Common.{sym, ◌∙◌}
 use Rattle.test_surveys.proofs.solving.solve.Goals as goal
 
 pub propose_and_check-requires : goal.propose_and_check-requires

@@ -1,4 +1,4 @@
--- The invariant: the count from here, with what is counted so far, is the count of all fields. A field that is no number ends it (`count-wrong`), so does the last (`count-last`) and one beyond the most (`count-full`). Assumes nothing.
+-- The invariant: the count from here, with what is counted so far, is the count of all fields. A field that is no number ends it (`count_wrong`), so does the last (`count_last`) and one beyond the most (`count_full`). Assumes nothing.
 use Rattle.text.specs.FieldLaws.{first_and_rest, end_within, fields_here, fields-last, fields-more}
 use Rattle.text.specs.Reading.{count_after, count_start, count_wrong, count_last, count_more, count_full}
 use Rattle.text.specs.Fields.{numbers_in}

@@ -1,4 +1,4 @@
--- The invariant: the count from here, with what is counted so far, is the count of all fields. A field that is no number ends it (`count-wrong`), so does the last (`count-last`) and one beyond the most (`count-full`). Assumes nothing.
+-- The invariant: the count from here, with what is counted so far, is the count of all fields. A field that is no number ends it (`count_wrong`), so does the last (`count_last`) and one beyond the most (`count_full`). Assumes nothing.
 use Rattle.text.specs.Reading.{count_after}
 use Rattle.text.specs.Fields.{fields_of, numbers_in, at_most, count_of}
 use lib.ListN.{length, drop}

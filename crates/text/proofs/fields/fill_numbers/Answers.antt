@@ -1,4 +1,4 @@
--- The invariant: what is stored from here on, over what is stored so far, is what all leading numbers leave. A field that is no number ends it (`fill-wrong`), so does the last one and a full list (`fill-full`). Assumes nothing.
+-- The invariant: what is stored from here on, over what is stored so far, is what all leading numbers leave. A field that is no number ends it (`fill_wrong`), so does the last one and a full list (`fill_full`). Assumes nothing.
 use mir.Facts.{to_z-of_z}
 use mir.Syntax.{w64}
 use Rattle.text.specs.Reading.{leading, fill_start, fill_wrong, fill_last, fill_more, fill_full}

@@ -1,4 +1,4 @@
--- The invariant: what is stored from here on, over what is stored so far, is what all leading numbers leave. A field that is no number ends it (`fill-wrong`), so does the last one and a full list (`fill-full`). Assumes nothing.
+-- The invariant: what is stored from here on, over what is stored so far, is what all leading numbers leave. A field that is no number ends it (`fill_wrong`), so does the last one and a full list (`fill_full`). Assumes nothing.
 use Rattle.text.specs.Reading.{leading}
 use Rattle.text.specs.Fields.{fields_of}
 use lib.Seq.{sets}

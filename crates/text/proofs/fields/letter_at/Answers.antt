@@ -1,4 +1,4 @@
--- A field of one byte is its letter (`a-letter`); any other has none (`no-letter`). Assumes nothing.
+-- A field of one byte is its letter (`a_letter`); any other has none (`no_letter`). Assumes nothing.
 use Rattle.text.specs.FieldLaws.{a_letter, no_letter, letter_inside}
 use native.Mathlib.Omega.{arith}
 use mathlib.Core.Path.{sym}

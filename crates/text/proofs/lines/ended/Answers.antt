@@ -1,4 +1,4 @@
--- By whether the part ends inside the chunk, as `fedAt` has it. Assumes nothing.
+-- By whether the part ends inside the chunk, as `fed_at` has it. Assumes nothing.
 use Rattle.text.specs.Lines.{fed_at}
 use borrow.Author.Tests.{lt-ltb, le-ltb}
 use Rattle.text.proofs.lines.ended.Goals as goal

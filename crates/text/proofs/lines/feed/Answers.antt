@@ -1,4 +1,4 @@
--- By the room in the line buffer: no byte is left of the chunk (`feeds-none`), the part fits (`feeds-all`), or its front does (`feeds-cut`). Assumes nothing.
+-- By the room in the line buffer: no byte is left of the chunk (`feeds_none`), the part fits (`feeds-all`), or its front does (`feeds-cut`). Assumes nothing.
 use mathlib.Core.Path.{refl}
 use Rattle.text.specs.LineLaws.{feeds-all, feeds-cut, feeds_none}
 use Rattle.text.proofs.lines.feed.Goals as goal

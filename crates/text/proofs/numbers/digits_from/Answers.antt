@@ -1,4 +1,4 @@
--- The invariant: the digits from here, after the value so far, say what all of them say; the value is at most the cut. A byte that is no digit ends it (`digits-wrong`). Assumes nothing.
+-- The invariant: the digits from here, after the value so far, say what all of them say; the value is at most the cut. A byte that is no digit ends it (`digits_wrong`). Assumes nothing.
 use Rattle.text.specs.Digits.{digit_bounds, digits_more, digits_wrong, digits_end, digits-none, digits-start}
 use Rattle.text.specs.Numbers.{is_digit}
 use lib.ListN.{get_or}

@@ -1,4 +1,4 @@
--- 0 is its own negative (`minus-zero`); of any other the bits are those of the complement of one less (`minus-bits`). Assumes nothing.
+-- 0 is its own negative (`minus_zero`); of any other the bits are those of the complement of one less (`minus-bits`). Assumes nothing.
 use Rattle.text.specs.Digits.{minus_zero, minus-bits}
 use Rattle.text.proofs.numbers.negated.Goals as goal
 

@@ -1,4 +1,4 @@
--- The weights are small, so each minor is that of the weights (`minor-is`), read back from its bits; the determinant is what its call ensures. Assumes nothing.
+-- The weights are small, so each minor is that of the weights (`minor_is`), read back from its bits; the determinant is what its call ensures. Assumes nothing.
 use borrow.Author.Rules.{sfits_of}
 use mathlib.Core.Path.{◌∙◌}
 use mir.Syntax.{w64}

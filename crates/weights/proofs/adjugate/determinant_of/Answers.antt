@@ -1,4 +1,4 @@
--- The three minors are those of the weights (`minor-is`) and small (`minor-size`), so products and sums fit; `determinant-is` joins them. Assumes nothing.
+-- The three minors are those of the weights (`minor_is`) and small (`minor_size`), so products and sums fit; `determinant-is` joins them. Assumes nothing.
 use Prim.Native.Nat.{◌≤◌}
 use mathlib.Core.Path.{◌≡◌}
 use lib.IntN.{nat_abs, ◌-ℤ◌, ◌*ℤ◌}

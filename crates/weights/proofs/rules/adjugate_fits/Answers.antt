@@ -1,4 +1,4 @@
--- Minors and determinant are small, so each is read back from its bits and 16 times the determinant fits (`most-is`); each test is that of the definition. Assumes nothing.
+-- Minors and determinant are small, so each is read back from its bits and 16 times the determinant fits (`most_is`); each test is that of the definition. Assumes nothing.
 use Prim.Native.Nat.{◌≤◌}
 use mathlib.Core.Path.{◌≡◌, sym, ap, ap₂, ◌∙◌, subst}
 use mathlib.Core.Bool.{◌&&◌}

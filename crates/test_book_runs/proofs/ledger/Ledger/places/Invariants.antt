@@ -2,7 +2,6 @@
 use Prim.Native.Nat.{◌-◌, ◌≤◌}
 use mathlib.Core.Path.{◌≡◌}
 use lib.ListN.{length}
-use borrow.Author.Rules.{rules}
 use Rattle.test_book_runs.proofs.ledger.Ledger.places.Given as goal
 
 abbrev pub invariant-loop-k : goal.invariant-loop-k
