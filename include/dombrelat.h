@@ -62,7 +62,7 @@ extern "C" {
 #define DOMBRELAT_SALVAGE_LIST_BYTES(bytes) (16 * ((bytes) / DOMBRELAT_ENTRY_BYTES + 1))
 #define DOMBRELAT_SALVAGE_COUNTS_BYTES 16
 
-/* The stack to give a thread that makes a call. tests/host/stack.c measured 135,384 bytes on x86-64 (check_sheet on a full book; an edit takes 65,448); the rest is margin. */
+/* The stack to give a thread that makes a call. tests/host/stack.c measured 127,208 bytes on x86-64 (open; check_sheet on a full book takes 122,200, an edit 65,264); the rest is margin. */
 #define DOMBRELAT_STACK_BYTES 163840
 
 /* Limits. */

@@ -115,6 +115,8 @@ fn room_fits(n: usize, long: usize) -> bool
     (long % 8 == 0) & (n <= long / 8)
 }
 
+// It is not inlined: the C call's test of the book's bytes, before it, then has the stack to itself.
+#[inline(never)]
 pub fn check_sheet_lent(book: &[u8], x: &[u8], m: &[u8], out: &mut [u8]) -> Answer
     requires { bytes_fit book.now ≡ true }
     ensures value { (result ≡ checked_lent (book_of book.now) x.now m.now (sheet_fits (book_of book.now) out.old)) × (answer_number result + 256 * answer_unknown result ≤ answer_most) }
