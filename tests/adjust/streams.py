@@ -6,7 +6,6 @@ import os
 import random
 import resource
 import select
-import signal
 import subprocess
 import threading
 import time
@@ -129,7 +128,8 @@ def pieces(seed, data):
 
 
 def closed_output(command):
-    """A reader that goes away after the first line, as `adjust | head -1`: the program ends soon and without a word, and bin/adjust with it."""
+    """A reader that goes away after the first line, as `adjust | head -1`: the program ends soon and without a word, and bin/adjust with it. The toolchain's programs ignore SIGPIPE, so that
+    the write fails, and the program ends as after any write that fails; bin/adjust tells by 2."""
     process = started(command)
     wrong = None
     process.stdin.write(HEAD + b'Q\n')
@@ -150,7 +150,7 @@ def closed_output(command):
     process.stderr.close()
     if first != b'LINE 3 UNREADABLE\n':
         wrong = 'the first line is %r' % first
-    return 'status %d, error text %r' % (status, errors) if errors or status not in (-signal.SIGPIPE, 128 + signal.SIGPIPE) else wrong
+    return 'status %d, error text %r' % (status, errors) if errors or status != (0 if command == PROGRAM else 2) else wrong
 
 
 def head_of_output(command):
