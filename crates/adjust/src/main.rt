@@ -2,7 +2,7 @@
 // contracts of `night_print`; here bytes are read and written. Each chunk's messages are written before the next is read.
 #![tactic(auto)]
 
-ghost use Rattle.std.specs.Prelude.{◌≡◌, ◌+◌, ◌≤◌, length};
+ghost use Rattle.std.specs.Prelude.{◌≡◌, ◌+◌, ◌≤◌, length, negsuc, pos, ◌≤ℤ◌};
 ghost use Rattle.layout.specs.Bytes.{book_of};
 ghost use Rattle.layout.specs.Layout.{book_bytes};
 ghost use Rattle.text.specs.Lines.{holds};
@@ -34,7 +34,9 @@ pub enum Finish {
 }
 
 // Reads the next chunk to its front: how many bytes came, 0 at the end of the input, −1 where the read failed.
-fn read_chunk(input: &mut Stdin, chunk: &mut [u8]) -> isize {
+fn read_chunk(input: &mut Stdin, chunk: &mut [u8]) -> isize
+    ensures in_bounds { (negsuc 0 ≤ℤ result) × (result ≤ℤ pos (length chunk.new)) }
+{
     match input.read(chunk) {
         Ok(n) => n as isize,
         Err(_) => -1,
