@@ -1,5 +1,5 @@
 /* One edit of a full book by value: a replay of 256 enters at empty places and then EDITS more rows, most of them enters over those records, less a replay of the 256 alone. Both
- * answer every row, and the answers are compared. It runs on a stack of 512 KiB. */
+ * answer every row, and the answers are compared. It runs on a stack of 1 MiB: it needs between 512 and 576 KiB. */
 #include "../common.h"
 #include "twin.h"
 #include <pthread.h>
@@ -76,7 +76,7 @@ int main(void) {
     pthread_t thread;
     sample();
     pthread_attr_init(&attributes);
-    pthread_attr_setstacksize(&attributes, 512 * 1024);
+    pthread_attr_setstacksize(&attributes, 1024 * 1024);
     if (pthread_create(&thread, &attributes, measure, NULL)) {
         return fail("book: no thread");
     }
