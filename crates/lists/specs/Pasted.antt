@@ -1,11 +1,10 @@
 -- A run of numbers stored in a list from an index on: the laws by which runs are joined, and what is read afterwards. Assumes nothing.
 use Rattle.std.specs.Prelude.{ℕ, zero, suc, ◌+◌, ◌≤◌, ◌<◌, ◌≡◌, refl, List, [], ◌∷◌, ◌++◌, length, drop, set, get_or, ℤ, pos}
-use Rattle.std.proofs.Common.{sym, ap, ◌∙◌, add-zero, add-one, arith, length-set, get_or-set_same, get_or-set_other}
+use Rattle.std.proofs.Common.{ap, ◌∙◌, add-zero, arith, length-set, get_or-set_same, get_or-set_other}
 use Rattle.std.proofs.lemmas.List.Edits.{sets, sets-eq}
-use Rattle.std.proofs.Math.Seq.{paste, paste-suc, take-length}
 
 -- l with w stored from index `at` on
-unfoldable pub pasted : List ℤ → ℕ → List ℤ → List ℤ
+unfoldable pub pasted : {X : Type 0} → List X → ℕ → List X → List X
 pasted l at w = sets l at w
 
 pub pasted-none : (l : List ℤ) (at : ℕ) → pasted l at [] ≡ l
@@ -19,16 +18,6 @@ pasted_then l at [] w = ap (λ (k : ℕ). sets l k w) (add-zero at)
 pasted_then l at (x ∷ v) w =
     let e : at + length (x ∷ v) ≡ suc at + length v = omega arith in
     rw e (pasted_then (set l at x) (suc at) v w)
-
--- a loop that copies w: a turn
-pub paste_next : (l : List ℤ) (at : ℕ) (w : List ℤ) (i : ℕ) (s : List ℤ) (v : ℤ)
-    → s ≡ paste l at w i → at + length w ≤ length l → i < length w → v ≡ get_or w i (pos 0) → set s (at + i) v ≡ paste l at w (i + 1)
-paste_next l at w i s v e h k q = rw (e, q, add-one i) (paste-suc l at w i (pos 0) (omega arith) k)
-
--- all of w
-pub paste_all : (l : List ℤ) (at : ℕ) (w : List ℤ) → at + length w ≤ length l → paste l at w (length w) ≡ pasted l at w
-unfolding pasted
-paste_all l at w h = rw (take-length w) (sym (sets-eq w l at h))
 
 -- a run at the front: the words beyond stay
 pub pasted_front : (l : List ℤ) (w : List ℤ) → length w ≤ length l → pasted l 0 w ≡ w ++ drop (length w) l

@@ -1,9 +1,14 @@
 -- Two lists of numbers compared entry by entry. Assumes nothing.
 use Rattle.std.specs.Prelude.{ℕ, ◌+◌, ◌<◌, ◌≡◌, refl, Bool, true, false, ◌&&◌, List, eqb, length, get_or, ℤ, pos}
-use Rattle.std.proofs.Common.{sym, ap, ◌∙◌, subst, arith, add-one, eq-eqb, ne_eqb, ext_get_or}
+use Rattle.std.proofs.Common.{sym, ap, ◌∙◌, subst, arith, add-one, eqb-true, eq-eqb, ext_get_or}
+use Rattle.std.specs.Bool.{Decides}
+use Rattle.std.specs.Ordering.{int_eq}
+use Rattle.std.specs.Cmp.Lexicographic.{pointwise}
+use Rattle.std.specs.Cmp.Rules.{signed_items}
+use Rattle.std.proofs.lemmas.Bool.Decides.{same_from_decides}
 use Rattle.words.specs.Signed.{eq_z}
 use Rattle.words.specs.SignedLaws.{eq_z_true, eq-eq_z}
-use Rattle.words.specs.Bools.{clash, and_both}
+use Rattle.words.specs.Bools.{clash, and_left, and_right, and_both}
 use Rattle.lists.specs.All.{all_below, all_suc, all_at, all_by}
 
 -- the first n entries of two lists
@@ -26,9 +31,18 @@ pub same_long : (a b : List ℤ) → length a ≡ length b → same_list a b ≡
 unfolding same_list
 same_long a b e = rw (eq-eqb (length a) (length b) e)
 
-pub not_long : (a b : List ℤ) → (length a ≡ length b → ⊥) → same_list a b ≡ false
+-- ════ `same_list` is equality, and what `==` on slices and arrays of numbers answers
+pub same_list-Decides : (a b : List ℤ) → Decides (same_list a b) (a ≡ b)
 unfolding same_list
-not_long a b h = rw (ne_eqb (length a) (length b) h)
+same_list-Decides a b = (
+  λ e. let long : length a ≡ length b = eqb-true _ _ (and_left (eqb (length a) (length b)) _ e) in
+      same_list_lem (length a) a b refl (sym long) (and_right (eqb (length a) (length b)) _ e),
+  λ e. and_both _ _ (eq-eqb _ _ (ap length e)) (list_same (length a) a b e),
+)
+
+-- of an `==` the code has r ≡ pointwise int_eq a b
+pub eq-same_list : (a b : List ℤ) → pointwise int_eq a b ≡ same_list a b
+eq-same_list a b = same_from_decides _ _ (signed_items a b) (same_list-Decides a b)
 
 -- ════ a loop over the entries
 module _ (a b : List ℤ) where

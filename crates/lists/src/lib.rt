@@ -1,10 +1,6 @@
-// Lists of numbers compared, copied, and stored in one another.
+// A list stored in another.
 #![tactic(auto)]
 
-mod compare;
-mod copying;
 mod pasting;
 
-pub use compare::same_entries;
-pub use copying::copy;
 pub use pasting::paste;

@@ -1,37 +1,28 @@
--- The three ways through `index_in`: below 1, 1 to n, and beyond n. Assumes nothing.
-use mathlib.Core.Path.{◌≡◌, refl, sym, ◌∙◌}
-use mathlib.Core.Bool.{true, false}
-use Prim.Native.Nat.{ℕ, zero, suc, ◌-◌, ◌<◌, ◌≤◌, ◌^◌}
-use native.Mathlib.Omega.{arith}
-use lib.IntN.{ℤ, pos, negsuc, nat_abs}
-use lib.Signed.{lt_z, non_neg}
-use lib.Dec.{T}
-use borrow.Author.Tests.{le-ltb}
-use mir.Syntax.{w64}
-use mir.Val.{Fits, SFits}
-use Rattle.words.specs.Bools.{clash}
+-- The ways through `index_in`: 1 to n, and every other number. Assumes nothing.
+use Rattle.std.proofs.Common.{◌≡◌, ◌⊎◌, refl, sym, ◌∙◌, ℕ, zero, suc, ◌-◌, ◌<◌, ◌≤◌, ◌^◌, Result, Ok, Err, ℤ, pos, negsuc, nat_abs, arith, SFits}
+use Rattle.std.specs.Result.{OkIff, result_unwrap_or}
+use Rattle.std.specs.Int.{FitsUnsignedBits, w64}
 use Rattle.words.specs.Signed.{index_in}
 use Rattle.words.specs.SignedLaws.{index_suc, index_beyond}
 
-pub under : (v : ℤ) (n : ℕ) → lt_z v (pos 1) ≡ true → n ≡ index_in v n
+-- k is v as an unsigned number, and 0 where v is negative
+abbrev pub Number : ℤ → ℕ → Type 0
+Number (pos n) k = k ≡ n
+Number (negsuc n) k = k ≡ 0
+
+pub number : {E : Type 0} (r : Result ℕ E) (v : ℤ) (k : ℕ) → SFits w64 v → OkIff r (FitsUnsignedBits 64 v) (nat_abs v) → k ≡ result_unwrap_or r 0 → Number v k
+number (Ok x) (pos n) k f h e = e ∙ h.1
+number (Ok x) (negsuc n) k f h e = absurd h.0
+number (Err d) (pos n) k f h e = let g : n < 2 ^ 63 = f.sfits in absurd (h (omega arith))
+number (Err d) (negsuc n) k f h e = e
+
+pub inside : (v : ℤ) (n k : ℕ) → Number v k → 1 ≤ k → k ≤ n → k - 1 ≡ index_in v n
+inside (pos zero) n k m g h = absurd (omega arith)
+inside (pos (suc j)) n k m g h = let q : k - 1 ≡ j = omega arith in q ∙ sym (index_suc j n (omega arith))
+inside (negsuc j) n k m g h = absurd (omega arith)
+
+pub outside : (v : ℤ) (n k : ℕ) → Number v k → ((1 ≤ k) × (n < k)) ⊎ (k < 1) → n ≡ index_in v n
 unfolding index_in
-under (pos zero) n e = refl
-under (pos (suc k)) n e = clash e (le-ltb (suc k) 1 (omega arith))
-under (negsuc k) n e = refl
-
--- what the cast to an index asks, and what the step down asks
-pub above : (v : ℤ) → SFits w64 v → lt_z v (pos 1) ≡ false → T (non_neg v) × Fits w64 (nat_abs v) × (1 ≤ nat_abs v)
-above (pos zero) f e = clash refl e
-above (pos (suc k)) f e = let h : suc k < 2 ^ 63 = f.sfits in (tt, record { fits = omega arith }, omega arith)
-above (negsuc k) f e = clash refl e
-
-pub inside : (v : ℤ) (n : ℕ) → lt_z v (pos 1) ≡ false → nat_abs v ≤ n → nat_abs v - 1 ≡ index_in v n
-inside (pos zero) n e h = clash refl e
-inside (pos (suc k)) n e h = let q : suc k - 1 ≡ k = omega arith in q ∙ sym (index_suc k n (omega arith))
-inside (negsuc k) n e h = clash refl e
-
-pub beyond : (v : ℤ) (n : ℕ) → n < nat_abs v → n ≡ index_in v n
-unfolding index_in
-beyond (pos zero) n h = refl
-beyond (pos (suc k)) n h = sym (index_beyond k n (omega arith))
-beyond (negsuc k) n h = refl
+outside (pos zero) n k m h = refl
+outside (pos (suc j)) n k m h = sym (index_beyond j n (omega arith))
+outside (negsuc j) n k m h = refl

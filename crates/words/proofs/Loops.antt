@@ -1,12 +1,6 @@
--- A turn of the loop that fills a slice from words, and of the one that writes words, and their ends. Assumes nothing.
-use mathlib.Core.Path.{◌≡◌, sym, ◌∙◌}
-use mathlib.Core.List.{List}
-use Prim.Native.Nat.{ℕ, ◌+◌, ◌*◌, ◌<◌, ◌≤◌}
-use native.Mathlib.Numerals.{add-one}
-use native.Mathlib.Omega.{arith}
-use lib.ListN.{length, get_or, take, drop, set, drop_of_length-le}
-use lib.Seq.{take-suc-set, take_all, drop-cons}
-use lib.IntN.{ℤ, pos}
+-- A turn of the loop that fills a slice from words, and of the one that writes words, and its end. Assumes nothing.
+use Rattle.std.proofs.Common.{◌≡◌, ◌∙◌, List, ℕ, ◌+◌, ◌*◌, ◌<◌, ◌≤◌, add-one, arith, length, get_or, take, drop, set, take-suc-set, drop-cons, ℤ, pos}
+use Rattle.std.proofs.Math.ListN.{drop_of_length-le}
 use Rattle.words.specs.Words.{word_at, put_word}
 use Rattle.words.specs.Runs.{words_at, put_words}
 use Rattle.words.specs.RunLaws.{words_more}
@@ -15,9 +9,6 @@ use Rattle.words.specs.RunLaws.{words_more}
 module _ (s : List ℕ) (at : ℕ) (w : List ℤ) (i : ℕ) (e : take i w ≡ words_at s at i) where
   pub read_turn : (v : ℤ) → i < length w → v ≡ word_at s (at + 8 * i) → take (i + 1) (set w i v) ≡ words_at s at (i + 1)
   read_turn v h p = rw add-one (take-suc-set w i v h ∙ cc (words_more s at i))
-
-  pub read_end : length w ≤ i → w ≡ words_at s at i
-  read_end h = sym (take_all i w h) ∙ e
 
 -- the rest of ws, from i on, put into t, gives what all of ws, put into s, gives
 module _ (s t : List ℕ) (at : ℕ) (ws : List ℤ) (i : ℕ) (e : put_words t (at + 8 * i) (drop i ws) ≡ put_words s at ws) where

@@ -9,10 +9,8 @@ pub fn read_words(s: &[u8], at: usize, out: &mut [i64])
     requires { at + 8 * length out.old ≤ length s.now }
     ensures { out.new ≡ words_at s.now at (length out.old) }
 {
-    let mut i: usize = 0;
-    while i < out.len() {
-        out[i] = word_at(s, at + 8 * i);
-        i += 1;
+    for (i, word) in out.iter_mut().enumerate() {
+        *word = word_at(s, at + 8 * i);
     }
 }
 
@@ -21,9 +19,7 @@ pub fn write_words(s: &mut [u8], at: usize, w: &[i64])
     requires { at + 8 * length w.now ≤ length s.old }
     ensures { s.new ≡ put_words s.old at w.now }
 {
-    let mut i: usize = 0;
-    while i < w.len() {
-        put_word(s, at + 8 * i, w[i]);
-        i += 1;
+    for (i, word) in w.iter().enumerate() {
+        put_word(s, at + 8 * i, *word);
     }
 }

@@ -1,12 +1,10 @@
--- `word_at` is the number of the 8 bytes, read as two's complement. Assumes nothing.
-use mathlib.Core.Path.{ap, ◌∙◌}
-use mir.Syntax.{w64}
-use mir.Facts.{to_z-of_z}
-use Rattle.words.specs.Signed.{signed}
-use Rattle.words.specs.Words.{word_at}
-use borrow.Author.Rules.{rules}
+-- `word_at` is the number of the eight bytes, read as two's complement. Assumes nothing.
+use Rattle.std.proofs.Common.{◌∙◌, rules}
+use Rattle.std.specs.Int.{w64}
+use Rattle.std.proofs.lemmas.Int.{to_z-of_z}
+use Rattle.words.proofs.EightBytes.{whole, read}
 use Rattle.words.proofs.bytes.word_at.Goals as goal
 
 pub returns : goal.returns
-unfolding word_at
-returns c = to_z-of_z {w = w64} {z = c.to_signed.result} (search rules) ∙ c.to_signed.ensures ∙ ap signed c.eight_at.ensures
+returns c =
+    to_z-of_z w64 c.from_le_bytes.result (search rules) ∙ read _ _ _ (whole _ _ _ _ _ c.try_from.ensures.1 c.unwrap.ensures) _ c.from_le_bytes.ensures

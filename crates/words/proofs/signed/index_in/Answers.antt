@@ -1,32 +1,18 @@
--- `index_in`, by its three ways out. Assumes nothing.
-use mathlib.Core.Path.{◌≡◌}
-use mir.Syntax.{w64}
-use mir.Val.{to_z, of_z}
-use mir.Facts.{to_z-of_z}
-use Rattle.words.proofs.Index.{under, above, inside, beyond}
+-- `index_in`: the number as an unsigned one, and where it lies. Assumes nothing.
+use Rattle.std.proofs.Common.{◌≡◌, to_z, of_z}
+use Rattle.std.specs.Int.{w64}
+use Rattle.std.proofs.lemmas.Int.{to_z-of_z}
+use Rattle.words.proofs.Index.{Number, number, inside, outside}
 use Rattle.words.proofs.signed.index_in.Goals as goal
-
-pub returns-then-v-lt1 : goal.returns-then-v-lt1
-returns-then-v-lt1 c =
-    let number : to_z w64 (of_z w64 c.args.v) ≡ c.args.v = to_z-of_z {w = w64} c.ranges.v in
-    under _ _ (rw number at c.if-v-lt1.true)
-
-pub overflow_cast-k : goal.overflow_cast-k
-overflow_cast-k c =
-    let number : to_z w64 (of_z w64 c.args.v) ≡ c.args.v = to_z-of_z {w = w64} c.ranges.v in
-    rw number (let a = above _ c.ranges.v (rw number at c.if-v-lt1.false) in (a.0, a.1))
-
-pub overflow_sub-result : goal.overflow_sub-result
-overflow_sub-result c =
-    let number : to_z w64 (of_z w64 c.args.v) ≡ c.args.v = to_z-of_z {w = w64} c.ranges.v in
-    rw number (above _ c.ranges.v (rw number at c.if-v-lt1.false)).2
 
 pub returns-then-k-n : goal.returns-then-k-n
 returns-then-k-n c =
-    let number : to_z w64 (of_z w64 c.args.v) ≡ c.args.v = to_z-of_z {w = w64} c.ranges.v in
-    rw number (inside _ _ (rw number at c.if-v-lt1.false) (rw number at c.if-k-n.true))
+    let same : to_z w64 (of_z w64 c.args.v) ≡ c.args.v = to_z-of_z w64 c.args.v c.ranges.v in
+    let is : Number c.args.v c.unwrap_or-k.result = number _ _ _ c.ranges.v (rw same at c.try_from.ensures) c.unwrap_or-k.ensures in
+    inside _ _ _ is c.if-k-ge1.true c.if-k-n.true
 
-pub returns-else-k-n : goal.returns-else-k-n
-returns-else-k-n c =
-    let number : to_z w64 (of_z w64 c.args.v) ≡ c.args.v = to_z-of_z {w = w64} c.ranges.v in
-    beyond _ _ (rw number at c.if-k-n.false)
+pub returns-else-k-ge1 : goal.returns-else-k-ge1
+returns-else-k-ge1 c =
+    let same : to_z w64 (of_z w64 c.args.v) ≡ c.args.v = to_z-of_z w64 c.args.v c.ranges.v in
+    let is : Number c.args.v c.unwrap_or-k.result = number _ _ _ c.ranges.v (rw same at c.try_from.ensures) c.unwrap_or-k.ensures in
+    outside _ _ _ is c.else-k-ge1.either
