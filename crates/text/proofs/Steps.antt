@@ -4,34 +4,27 @@ use mathlib.Core.Bool.{true, false}
 use mathlib.Core.List.{List, [], ◌∷◌, ◌++◌}
 use Prim.Native.Nat.{ℕ, zero, suc, ◌+◌, ◌-◌, ◌/◌, ◌%◌, ◌≤◌, ◌<◌}
 use native.Mathlib.Omega.{arith}
-use native.Mathlib.Numerals.{add-one}
-use native.Mathlib.Nat.{add-zero}
-use lib.ListN.{length, get_or, set, take}
-use lib.Seq.{take-suc, take_all}
+use lib.ListN.{length, take}
+use borrow.Rule.Slice.PartMut.{put_mid}
+use Rattle.std.proofs.lemmas.List.Edits.{sets-eq}
+use Rattle.std.proofs.lemmas.Slice.{take-put_mid, drop-put_mid}
+use lib.ListN.{drop, take-append-drop}
+use mathlib.Core.Path.{sym, ◌∙◌}
 use lib.IntN.{ℤ, pos, nat_abs}
 use lib.Signed.{lt_z}
 use borrow.Author.Tests.{lt-ltb, le-ltb}
 use Rattle.text.specs.Numbers.{zero_digit, minus_sign, most_digits, decimal_in, decimal}
 use Rattle.text.specs.Writing.{Written, nothing, ◌then◌}
 
--- ════ a text, byte by byte
-module _ (l : List ℕ) (at : ℕ) (text : List ℕ) where
-  pub text_start : Written l at [] (at + 0) l
-  text_start = rw add-zero (nothing l at)
-
-  pub text-more :
-      (i : ℕ) (m : List ℕ) →
-      i < length text →
-      Written l at (take i text) (at + i) m →
-      Written l at (take (i + 1) text) (at + (i + 1)) (set m (at + i) (get_or text i 0))
-  text-more i m h w =
-      let one : Written m (at + i) (get_or text i 0 ∷ []) (at + (i + 1)) (set m (at + i) (get_or text i 0)) =
-      record { leaves = refl; past = omega arith } in
-      let t : take (i + 1) text ≡ take i text ++ (get_or text i 0 ∷ []) = rw add-one (take-suc text i 0 h) in
-      rw t (w then one)
-
-  pub text_whole : (i : ℕ) (m : List ℕ) → length text ≤ i → Written l at (take i text) (at + i) m → Written l at text (at + i) m
-  text_whole i m h w = rw (take_all i text h) at w
+-- ════ a text, in one piece
+pub text-put :
+    (l : List ℕ) (at k : ℕ) (text part : List ℕ) → at + length text ≤ length l → k ≡ length text → part ≡ text → Written l at text (at + length text) (put_mid at k l part)
+text-put l at k text part room size same = record { leaves = rw same (halves ∙ sym (sets-eq text l at room)); past = refl }
+  where
+    halves : put_mid at k l text ≡ take at l ++ text ++ drop (at + length text) l
+    halves =
+        sym (take-append-drop (at + length text) (put_mid at k l text))
+        ∙ rw (take-put_mid at k l text (at + length text) refl (omega arith), drop-put_mid at k l text (at + length text) (omega arith) (omega arith) (sym size))
 
 -- ════ a number, digit by digit
 module _ (l : List ℕ) (at k n : ℕ) where

@@ -1,13 +1,14 @@
 -- Laws of fields: the first and the rest are the whole, and where a field lies in a line. Assumes nothing.
-use Rattle.std.specs.Prelude.{◌≡◌, Bool, cond, ℕ, zero, suc, ◌+◌, ◌-◌, ◌≤◌, ◌<◌, eqb, take, drop, get_or}
+use Rattle.std.specs.Prelude.{◌≡◌, Bool, cond, ℕ, zero, suc, ◌+◌, ◌-◌, ◌≤◌, ◌<◌, eqb, Some, None, take, drop, get_or}
 use Rattle.std.proofs.Math.Path.{refl}
 use Rattle.std.proofs.Common.{ap, ◌∙◌, length-drop, drop-cons, drop-drop}
 use Rattle.std.proofs.Math.Bool.{true, false}
 use mathlib.Core.List.{List, [], ◌∷◌}
 use native.Mathlib.Omega.{arith}
 use Rattle.std.proofs.Math.ListN.{length}
+use Rattle.std.specs.Option.{unwrap_or}
 use Rattle.text.specs.Before.{before, before-length, before-take, before-cut}
-use Rattle.text.specs.Fields.{space, onto, fields_of, first_field, rest_fields, letter_of}
+use Rattle.text.specs.Fields.{space, onto, fields_of, first_field, rest_fields, letter_of, only_byte}
 
 -- ════ over a list
 pub first_and_rest : (l : List ℕ) → fields_of l ≡ first_field l ∷ rest_fields l
@@ -50,6 +51,13 @@ part_rest (c ∷ cs) h = by (eqb c space) (part_rest cs) h
     by true e h = refl
     by false e h = e (omega arith)
 
+-- 0 stands for no letter
+pub letter_or_none : (f : List ℕ) → letter_of f ≡ unwrap_or (only_byte f) 0
+unfolding letter_of only_byte
+letter_or_none [] = refl
+letter_or_none (c ∷ []) = refl
+letter_or_none (c ∷ d ∷ cs) = refl
+
 -- ════ the field that starts at i of a line, and ends before e
 module _ (s : List ℕ) (i e : ℕ) (is : e ≡ i + length (first_field (drop i s))) where
   rest-length : length (first_field (drop i s)) ≤ length s - i
@@ -79,29 +87,35 @@ module _ (s : List ℕ) (i e : ℕ) (is : e ≡ i + length (first_field (drop i 
   fields-more h = fields_here ∙ rw (some_rest h)
 
   -- ════ a field of one byte
-  pub a_letter : e - i ≡ 1 → letter_of (first_field (drop i s)) ≡ get_or s i 0
-  unfolding letter_of before
-  a_letter h =
+  pub one_byte : e - i ≡ 1 → only_byte (first_field (drop i s)) ≡ Some (get_or s i 0)
+  unfolding only_byte before
+  one_byte h =
       let inside : i < length s = omega (arith, rest-length) in
       let k : length (first_field (drop i s)) ≡ 1 = omega arith in
       rw (drop-cons s i 0 inside) (only (get_or s i 0) (drop (suc i) s) (rw (drop-cons s i 0 inside) at k))
     where
-      only : (c : ℕ) (cs : List ℕ) → length (first_field (c ∷ cs)) ≡ 1 → letter_of (first_field (c ∷ cs)) ≡ c
+      only : (c : ℕ) (cs : List ℕ) → length (first_field (c ∷ cs)) ≡ 1 → only_byte (first_field (c ∷ cs)) ≡ Some c
       only c cs q = by (eqb c space) (first_field cs) q
         where
-          by : (t : Bool) (f : List ℕ) → length (cond t [] (c ∷ f)) ≡ 1 → letter_of (cond t [] (c ∷ f)) ≡ c
+          by : (t : Bool) (f : List ℕ) → length (cond t [] (c ∷ f)) ≡ 1 → only_byte (cond t [] (c ∷ f)) ≡ Some c
           by true f q = absurd (omega arith)
           by false [] q = refl
           by false (d ∷ f) q = absurd (omega arith)
 
-  pub no_letter : (e - i ≡ 1 → ⊥) → letter_of (first_field (drop i s)) ≡ 0
-  unfolding letter_of
-  no_letter h = by (first_field (drop i s)) (λ q. h (omega arith))
+  pub no_byte : (e - i ≡ 1 → ⊥) → only_byte (first_field (drop i s)) ≡ None
+  unfolding only_byte
+  no_byte h = by (first_field (drop i s)) (λ q. h (omega arith))
     where
-      by : (f : List ℕ) → (length f ≡ 1 → ⊥) → letter_of f ≡ 0
+      by : (f : List ℕ) → (length f ≡ 1 → ⊥) → only_byte f ≡ None
       by [] q = refl
       by (c ∷ []) q = absurd (q refl)
       by (c ∷ d ∷ f) q = refl
+
+  pub a_letter : e - i ≡ 1 → letter_of (first_field (drop i s)) ≡ get_or s i 0
+  a_letter h = letter_or_none (first_field (drop i s)) ∙ rw (one_byte h)
+
+  pub no_letter : (e - i ≡ 1 → ⊥) → letter_of (first_field (drop i s)) ≡ 0
+  no_letter h = letter_or_none (first_field (drop i s)) ∙ rw (no_byte h)
 
   pub letter_inside : e - i ≡ 1 → i < length s
   letter_inside h = omega (arith, rest-length)

@@ -1,12 +1,8 @@
 -- The fields of a line: "Fields are parted by one blank". Assumes nothing.
-use Rattle.std.specs.Prelude.{◌≡◌, ℕ, cond, List, [], ◌∷◌, leb, eqb, length, ℤ}
+use Rattle.std.specs.Prelude.{◌≡◌, ℕ, cond, List, [], ◌∷◌, leb, eqb, Option, Some, None, length, ℤ}
 use Rattle.std.proofs.lemmas.List.Edits.{sets}
 use Rattle.text.specs.Before.{before}
 use Rattle.text.specs.Numbers.{number_in}
-use Rattle.text.specs.declared.Number.{Number}
-use Rattle.text.specs.declared.Number.TheVariants as number
-use Rattle.text.specs.declared.Count.{Count}
-use Rattle.text.specs.declared.Count.TheVariants as count
 
 -- a byte before the first field
 abbrev pub onto : ℕ → List (List ℕ) → List (List ℕ)
@@ -37,6 +33,12 @@ letter_of [] = 0
 letter_of (c ∷ []) = c
 letter_of (c ∷ d ∷ cs) = 0
 
+-- the same, where it has one
+unfoldable pub only_byte : List ℕ → Option ℕ
+only_byte [] = None
+only_byte (c ∷ []) = Some c
+only_byte (c ∷ d ∷ cs) = None
+
 -- ════ fields that are numbers
 -- all the numbers, or that there is a field that is none
 pub data FieldNumbers : Type 0 where
@@ -44,10 +46,10 @@ pub data FieldNumbers : Type 0 where
   unreadable : FieldNumbers
 
 -- a number in front of those
-abbrev pub with_number : Number → FieldNumbers → FieldNumbers
-with_number number.Unreadable ns = unreadable
-with_number (number.Value v) unreadable = unreadable
-with_number (number.Value v) (numbers vs) = numbers (v ∷ vs)
+abbrev pub with_number : Option ℤ → FieldNumbers → FieldNumbers
+with_number None ns = unreadable
+with_number (Some v) unreadable = unreadable
+with_number (Some v) (numbers vs) = numbers (v ∷ vs)
 
 unfoldable pub numbers_in : List (List ℕ) → FieldNumbers
 numbers_in [] = numbers []
@@ -59,9 +61,9 @@ at_most most unreadable = unreadable
 at_most most (numbers vs) = cond (leb (length vs) most) (numbers vs) unreadable
 
 -- how many there are
-unfoldable pub count_of : FieldNumbers → Count
-count_of unreadable = count.Unreadable
-count_of (numbers vs) = count.Numbers (length vs)
+unfoldable pub count_of : FieldNumbers → Option ℕ
+count_of unreadable = None
+count_of (numbers vs) = Some (length vs)
 
 -- a list with them at its front; as it was where they are unreadable
 unfoldable pub stored_in : List ℤ → FieldNumbers → List ℤ
@@ -69,6 +71,6 @@ stored_in out unreadable = out
 stored_in out (numbers vs) = sets out 0 vs
 
 -- numbers read into `out`, which leaves `after`, and counted
-pub record Stored (out : List ℤ) (ns : FieldNumbers) (r : Count) (after : List ℤ) : Type 0 where
+pub record Stored (out : List ℤ) (ns : FieldNumbers) (r : Option ℕ) (after : List ℤ) : Type 0 where
   pub counts : r ≡ count_of ns
   pub stores : after ≡ stored_in out ns

@@ -1,11 +1,10 @@
 -- Reading what was written gives the number back: `number-back`. Assumes nothing.
-use Rattle.std.specs.Prelude.{◌≡◌, refl, true, cond, ◌&&◌, List, [], ◌∷◌, ◌++◌, ℕ, zero, suc, ◌+◌, ◌-◌, ◌*◌, ◌/◌, ◌%◌, ◌^◌, ◌≤◌, ◌<◌, ℤ, pos, negsuc, leb, ltb, length}
+use Rattle.std.specs.Prelude.{◌≡◌, refl, true, cond, Some, ◌&&◌, List, [], ◌∷◌, ◌++◌, ℕ, zero, suc, ◌+◌, ◌-◌, ◌*◌, ◌/◌, ◌%◌, ◌^◌, ◌≤◌, ◌<◌, ℤ, pos, negsuc, leb, ltb, length}
 use Rattle.std.proofs.Common.{◌∙◌, arith, pow-suc, length-append, lt-ltb, le-ltb, le-leb, ne_eqb, leb-true, SFits}
 use Rattle.std.proofs.Math.Decide.{dec_lt}
 use Rattle.std.specs.Int.{w64}
 use Rattle.words.specs.Bools.{and_both, and_left}
 use Rattle.text.specs.Numbers.{zero_digit, nine_digit, minus_sign, most_digits, most_positive, most_negative, is_digit, all_digits, is_decimal, value_after, value_of, minus, signed_of, number_in, decimal_in, decimal}
-use Rattle.text.specs.declared.Number.TheVariants.{Value}
 
 -- ════ a digit more at the end
 value_snoc : (n : ℕ) (ds : List ℕ) (c : ℕ) → value_after n (ds ++ (c ∷ [])) ≡ value_after n ds * 10 + (c - zero_digit)
@@ -67,7 +66,7 @@ unfolding is_decimal
 some_decimal [] h e = absurd (omega arith)
 some_decimal (d ∷ ds) h e = e
 
-signed_in : (sign : ℕ → ℤ) (most n : ℕ) (ds : List ℕ) → is_decimal ds ≡ true → value_of ds ≡ n → n ≤ most → signed_of sign most ds ≡ Value (sign n)
+signed_in : (sign : ℕ → ℤ) (most n : ℕ) (ds : List ℕ) → is_decimal ds ≡ true → value_of ds ≡ n → n ≤ most → signed_of sign most ds ≡ Some (sign n)
 unfolding signed_of
 signed_in sign most n ds d e h = rw (d, e, le-leb n most h)
 
@@ -82,7 +81,7 @@ twenty : (n : ℕ) → is_decimal (decimal_in most_digits n) ≡ true
 twenty n = some_decimal (decimal_in most_digits n) (decimal_some 19 n) (decimal-digits most_digits n)
 
 -- the law: every 64-bit number is read back as it was written
-pub number-back : (v : ℤ) → SFits w64 v → number_in (decimal v) ≡ Value v
+pub number-back : (v : ℤ) → SFits w64 v → number_in (decimal v) ≡ Some v
 unfolding decimal number_in
 number-back (pos n) f =
     let h : n < 9223372036854775808 = f.sfits in

@@ -1,8 +1,6 @@
 -- Decimal numbers in text: "numbers are decimal with - before a negative (leading zeros and -0 are read)". Assumes nothing.
-use Rattle.std.specs.Prelude.{ℕ, zero, suc, ◌+◌, ◌-◌, ◌*◌, ◌/◌, ◌%◌, Bool, true, false, cond, ◌&&◌, List, [], ◌∷◌, ◌++◌, leb, ltb, eqb, ℤ, pos, neg_ℤ, nat_abs}
+use Rattle.std.specs.Prelude.{ℕ, zero, suc, ◌+◌, ◌-◌, ◌*◌, ◌/◌, ◌%◌, Bool, true, false, cond, ◌&&◌, List, [], ◌∷◌, ◌++◌, leb, ltb, eqb, Option, Some, None, ℤ, pos, neg_ℤ, nat_abs}
 use Rattle.std.specs.Int.Signed.{lt_z}
-use Rattle.text.specs.declared.Number.{Number}
-use Rattle.text.specs.declared.Number.TheVariants.{Value, Unreadable}
 
 -- ════ the bytes of digits and of a sign; the longest and the largest number of 64 bits
 abbrev pub zero_digit : ℕ
@@ -49,12 +47,12 @@ abbrev pub minus : ℕ → ℤ
 minus n = neg_ℤ (pos n)
 
 -- digits with a sign, where their value is at most `most`
-unfoldable pub signed_of : (ℕ → ℤ) → ℕ → List ℕ → Number
-signed_of sign most ds = cond (is_decimal ds && leb (value_of ds) most) (Value (sign (value_of ds))) Unreadable
+unfoldable pub signed_of : (ℕ → ℤ) → ℕ → List ℕ → Option ℤ
+signed_of sign most ds = cond (is_decimal ds && leb (value_of ds) most) (Some (sign (value_of ds))) None
 
 -- what a field says: a `-` and digits, or digits; "a number beyond signed 64 bits" is none
-unfoldable pub number_in : List ℕ → Number
-number_in [] = Unreadable
+unfoldable pub number_in : List ℕ → Option ℤ
+number_in [] = None
 number_in (c ∷ cs) = cond (eqb c minus_sign) (signed_of minus most_negative cs) (signed_of pos most_positive (c ∷ cs))
 
 -- ════ numbers written

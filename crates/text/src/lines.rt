@@ -9,19 +9,12 @@ use super::writing::write_text;
 fn ended(chunk: &[u8], end: usize, len: usize, over: bool) -> Fed
     ensures { result ≡ fed_at (length chunk.now) end len over }
 {
-    if end < chunk.len() {
-        return Fed {
-            whole: true,
-            len,
-            over,
-            next: end + 1,
-        };
-    }
+    let whole = end < chunk.len();
     Fed {
-        whole: false,
+        whole,
         len,
         over,
-        next: end,
+        next: if whole { end + 1 } else { end },
     }
 }
 
@@ -48,5 +41,5 @@ pub fn feed(line: &mut [u8], len: usize, over: bool, chunk: &[u8], at: usize) ->
 pub fn is_line(len: usize, over: bool) -> bool
     ensures { result ≡ (over || ltb 0 len) }
 {
-    over | (0 < len)
+    over || 0 < len
 }

@@ -3,8 +3,6 @@ ghost use Rattle.std.specs.Prelude.{◌∷◌, [], ◌+◌, ◌≤◌, ◌<◌, 
 ghost use Rattle.text.specs.Numbers.{most_digits, decimal_in, decimal};
 ghost use Rattle.text.specs.Writing.{natural_room, number_room, Written};
 
-use words::{is_negative, size};
-
 // The digits of the longest number of 64 bits; room for it with a sign.
 pub const MOST_DIGITS: usize = 20;
 
@@ -22,12 +20,9 @@ pub fn write_text(out: &mut [u8], at: usize, text: &[u8]) -> usize
     requires { at + length text.now ≤ length out.old }
     ensures { Written out.old at text.now result out.new }
 {
-    let mut i = 0;
-    while i < text.len() {
-        out[at + i] = text[i];
-        i += 1;
-    }
-    at + i
+    let end = at + text.len();
+    out[at..end].copy_from_slice(text);
+    end
 }
 
 // The decimal digits of n, k of them at most.
@@ -61,8 +56,8 @@ pub fn write_number(out: &mut [u8], at: usize, v: i64) -> usize
     ensures written { Written out.old at (decimal v) result out.new }
     ensures upper_bound { result ≤ at + number_room }
 {
-    let n = size(v);
-    if is_negative(v) {
+    let n = v.unsigned_abs();
+    if v < 0 {
         let p = write_byte(out, at, b'-');
         return write_digits(out, p, n, MOST_DIGITS);
     }
