@@ -33,6 +33,6 @@ returns c =
     ∙ most_is (determinant c.args.w) (determinant-small c.args.w c.requires) in
     let t = most in
     ap₂ ◌&&◌ (ap₂ ◌&&◌
-    (c.at_most.ensures ∙ ap₂ le_z east-is t)
-    (c.at_most-2.ensures ∙ ap₂ le_z north-is t))
-    (c.at_most-3.ensures ∙ ap₂ le_z up_is t)
+    (ap₂ le_z east-is t)
+    (ap₂ le_z north-is t))
+    (ap₂ le_z up_is t)

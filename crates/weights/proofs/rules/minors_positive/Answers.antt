@@ -19,6 +19,6 @@ returns c =
     let p = c.requires in
     let e = minor_is w.ee w.nn w.en w.en _ c.minor-m.ensures p.ee p.nn p.en p.en in
     ap₂ ◌&&◌ (ap₂ ◌&&◌
-    (c.less.ensures ∙ ap (λ (z : ℤ). lt_z (pos 0) z) (back w.ee p.ee tt))
-    (c.less-2.ensures ∙ ap (λ (z : ℤ). lt_z (pos 0) z) (to_z-of_z w64 c.minor-m.result (sfits_of c.minor-m.type_inv) ∙ e)))
-    (c.less-3.ensures ∙ ap (λ (z : ℤ). lt_z (pos 0) z) (to_z-of_z w64 d.result (sfits_of d.type_inv) ∙ d.ensures))
+    (ap (λ (z : ℤ). lt_z (pos 0) z) (back w.ee p.ee tt))
+    (ap (λ (z : ℤ). lt_z (pos 0) z) (to_z-of_z w64 c.minor-m.result (sfits_of c.minor-m.type_inv) ∙ e)))
+    (ap (λ (z : ℤ). lt_z (pos 0) z) (to_z-of_z w64 d.result (sfits_of d.type_inv) ∙ d.ensures))
