@@ -1,3 +1,4 @@
 pub mod Differences
 pub mod Listing
+pub mod Ranged
 pub mod RecordKinds

@@ -14,3 +14,4 @@ pub mod Rules
 pub mod Ranges
 pub mod RuleLaws
 pub mod AtMarks
+pub mod Refusals

@@ -4,6 +4,8 @@ ghost use Rattle.network.specs.StationWords.{kind_word, station_words};
 
 use super::{Kind, Station};
 
+#[tactic(auto, unfolding(crate::specs::StationWords::kind_word))]
+// Stays: its definition `kind_word` is cited by name wherever a station's words are spelled; `i64::from` would be no plainer.
 pub fn kind_word(kind: Kind) -> i64
     ensures { result ≡ kind_word kind }
 {
@@ -14,10 +16,9 @@ pub fn kind_word(kind: Kind) -> i64
     }
 }
 
+#[tactic(auto, unfolding(crate::specs::StationWords::station_words))]
 pub fn station_words(s: Station) -> [i64; 4]
     ensures { result ≡ station_words s }
 {
-    let kind = s.kind;
-    let k = kind_word(kind);
-    [k, s.east, s.north, s.up]
+    [kind_word(s.kind), s.east, s.north, s.up]
 }

@@ -14,17 +14,9 @@ pub fn baseline_of(
 ) -> Record
     ensures { result ≡ baseline_of from to observed weights heights }
 {
-    let east = observed[0];
-    let north = observed[1];
-    let up = observed[2];
-    let ee = weights[0];
-    let en = weights[1];
-    let eu = weights[2];
-    let nn = weights[3];
-    let nu = weights[4];
-    let uu = weights[5];
-    let hf = heights[0];
-    let ht = heights[1];
+    let [east, north, up] = observed;
+    let [ee, en, eu, nn, nu, uu] = weights;
+    let [hf, ht] = heights;
     Record::Baseline(Baseline {
         from,
         to,
@@ -58,15 +50,8 @@ pub fn height_of(from: i64, to: i64, up: i64, weight: i64) -> Record
 pub fn position_of(station: i64, observed: [i64; 3], weights: [i64; 6]) -> Record
     ensures { result ≡ position_of station observed weights }
 {
-    let east = observed[0];
-    let north = observed[1];
-    let up = observed[2];
-    let ee = weights[0];
-    let en = weights[1];
-    let eu = weights[2];
-    let nn = weights[3];
-    let nu = weights[4];
-    let uu = weights[5];
+    let [east, north, up] = observed;
+    let [ee, en, eu, nn, nu, uu] = weights;
     Record::Position(Position {
         station,
         east,

@@ -2,6 +2,9 @@
 
 #![tactic(auto)]
 
+ghost use Rattle.std.specs.Prelude.{◌≡◌};
+ghost use Rattle.network.specs.Refusals.{record_refusal_no};
+
 mod as_words;
 mod constructors;
 mod opening;
@@ -21,7 +24,7 @@ pub use records::{
     acts_in, from_of, is_empty, is_position, joins_of, misclosures_of, observations_of, to_of,
     weight_matrix_of, weights_of,
 };
-pub use rules::{ends_fit, record_fits, record_fits_over, record_no, record_no_over};
+pub use rules::{ends_fit, judge_record, judge_record_over, record_fits, record_fits_over};
 pub use stations::{
     components_of, coordinate_in, coordinates_of, number_of, numbers_of, unknown_in, unknowns_of,
 };
@@ -45,6 +48,7 @@ pub struct Station {
 }
 
 // The station list of a book: `count` stations, the rest blank.
+// Stays: 32 stations with their count, since the memory is fixed (no heap), and `network_of` and the bytes of a book have this form.
 #[derive(Clone, Copy)]
 pub struct Network {
     pub count: usize,
@@ -52,6 +56,7 @@ pub struct Network {
 }
 
 // A GNSS baseline, antenna to antenna: stations by number, observed differences (to minus from), its symmetric 3×3 weight matrix, and the heights of the antennas above their marks.
+// Stays: the weights are fields of their own, here and in Position: document 01 names that form, weights as separate fields and no arrays inside.
 #[derive(Clone, Copy)]
 pub struct Baseline {
     pub from: i64,
@@ -101,6 +106,32 @@ pub enum Record {
     Baseline(Baseline),
     Height(Level),
     Position(Position),
+}
+
+// Why a record is refused: 3 to 6 of document 01's table.
+#[derive(Clone, Copy)]
+pub enum RecordRefusal {
+    // 3: an end is not in the list, or the ends are equal.
+    Ends,
+    // 4: a value or a weight is out of range.
+    Range,
+    // 5: the weights are no matrix by the rules.
+    Matrix,
+    // 6: the misclosure is too large.
+    Misclosure,
+}
+
+impl From<RecordRefusal> for u64 {
+    ghost from_gives = { λ refusal n. n ≡ record_refusal_no refusal };
+
+    fn from(refusal: RecordRefusal) -> u64 {
+        match refusal {
+            RecordRefusal::Ends => 3,
+            RecordRefusal::Range => 4,
+            RecordRefusal::Matrix => 5,
+            RecordRefusal::Misclosure => 6,
+        }
+    }
 }
 
 // Document 01's place: where a record stands in the book.

@@ -24,13 +24,9 @@ pub fn place_words(places: [Place; Unit::PLACES]) -> [i64; Place::LENGTH]
     ensures { places_in result ≡ places }
 {
     let mut w = [0i64; Place::LENGTH];
-    let mut p: usize = 0;
-    while p < Unit::PLACES {
-        let place = places[p];
-        let r = place.entry;
-        let v = record_codec::record_words(r);
+    for p in 0..Unit::PLACES {
+        let v = record_codec::record_words(places[p].entry);
         lists::paste(&mut w, p * Record::LENGTH, &v);
-        p += 1;
     }
     w
 }

@@ -13,6 +13,7 @@ impl Record {
 }
 
 // The observed E, N, U of the record whose first word is at index at.
+#[tactic(auto, unfolding(crate::specs::RecordWords::observed_in))]
 fn observed_in(w: &[i64], at: usize) -> [i64; 3]
     requires { at + record_length ≤ length w.now }
     ensures { result ≡ observed_in w.now at }
@@ -21,6 +22,7 @@ fn observed_in(w: &[i64], at: usize) -> [i64; 3]
 }
 
 // Its weights EE, EN, EU, NN, NU, UU.
+#[tactic(auto, unfolding(crate::specs::RecordWords::weights_in))]
 fn weights_in(w: &[i64], at: usize) -> [i64; 6]
     requires { at + record_length ≤ length w.now }
     ensures { result ≡ weights_in w.now at }
@@ -36,61 +38,52 @@ fn weights_in(w: &[i64], at: usize) -> [i64; 6]
 }
 
 // The baseline whose numbers, from and to first, follow index at.
+#[tactic(auto, unfolding(crate::specs::RecordWords::record_of))]
 pub fn baseline_in(w: &[i64], at: usize) -> Record
     requires { at + record_length ≤ length w.now }
     ensures { result ≡ record_of 0 w.now at }
 {
-    let from = w[at + 1];
-    let to = w[at + 2];
-    let hf = w[at + 12];
-    let ht = w[at + 13];
-    let observed = observed_in(w, at);
-    let weights = weights_in(w, at);
-    baseline_of(from, to, observed, weights, [hf, ht])
+    let heights = [w[at + 12], w[at + 13]];
+    baseline_of(
+        w[at + 1],
+        w[at + 2],
+        observed_in(w, at),
+        weights_in(w, at),
+        heights,
+    )
 }
 
+#[tactic(auto, unfolding(crate::specs::RecordWords::record_of))]
 fn height_in(w: &[i64], at: usize) -> Record
     requires { at + record_length ≤ length w.now }
     ensures { result ≡ record_of 1 w.now at }
 {
-    let from = w[at + 1];
-    let to = w[at + 2];
-    let up = w[at + 5];
-    let weight = w[at + 11];
-    height_of(from, to, up, weight)
+    height_of(w[at + 1], w[at + 2], w[at + 5], w[at + 11])
 }
 
+#[tactic(auto, unfolding(crate::specs::RecordWords::record_of))]
 fn position_in(w: &[i64], at: usize) -> Record
     requires { at + record_length ≤ length w.now }
     ensures { result ≡ record_of 3 w.now at }
 {
-    let station = w[at + 1];
-    let observed = observed_in(w, at);
-    let weights = weights_in(w, at);
-    position_of(station, observed, weights)
+    position_of(w[at + 1], observed_in(w, at), weights_in(w, at))
 }
 
 // The record whose first word is at index at.
+#[tactic(auto, unfolding(crate::specs::RecordWords::record_of))]
 pub fn record_in(w: &[i64], at: usize) -> Record
     requires { at + record_length ≤ length w.now }
     ensures { result ≡ record_in w.now at }
 {
-    let kind = words::index_in(w[at], 4);
-    if kind == 0 {
-        let r = baseline_in(w, at);
-        return r;
+    match words::index_in(w[at], 4) {
+        0 => baseline_in(w, at),
+        1 => height_in(w, at),
+        3 => position_in(w, at),
+        _ => Record::Empty,
     }
-    if kind == 1 {
-        let r = height_in(w, at);
-        return r;
-    }
-    if kind == 3 {
-        let r = position_in(w, at);
-        return r;
-    }
-    Record::Empty
 }
 
+#[tactic(auto, unfolding(crate::specs::RecordWords::record_words))]
 fn baseline_words(b: Baseline) -> [i64; Record::LENGTH]
     ensures { result ≡ record_words (baseline b) }
 {
@@ -99,12 +92,14 @@ fn baseline_words(b: Baseline) -> [i64; Record::LENGTH]
     ]
 }
 
+#[tactic(auto, unfolding(crate::specs::RecordWords::record_words))]
 fn height_words(h: Level) -> [i64; Record::LENGTH]
     ensures { result ≡ record_words (height h) }
 {
     [2, h.from, h.to, 0, 0, h.up, 0, 0, 0, 0, 0, h.weight, 0, 0]
 }
 
+#[tactic(auto, unfolding(crate::specs::RecordWords::record_words))]
 fn position_words(p: Position) -> [i64; Record::LENGTH]
     ensures { result ≡ record_words (position p) }
 {
@@ -113,6 +108,7 @@ fn position_words(p: Position) -> [i64; Record::LENGTH]
     ]
 }
 
+#[tactic(auto, unfolding(crate::specs::RecordWords::record_words))]
 pub fn record_words(r: Record) -> [i64; Record::LENGTH]
     ensures { result ≡ record_words r }
 {

@@ -10,6 +10,7 @@ use super::{Baseline, Record, Unit};
 use weights::WeightMatrix;
 
 // How many components a record observes.
+#[tactic(auto, unfolding(crate::specs::Records::observations))]
 pub fn observations_of(r: Record) -> usize
     ensures { result ≡ observations r }
 {
@@ -22,6 +23,7 @@ pub fn observations_of(r: Record) -> usize
 }
 
 // Whether it acts in component c.
+#[tactic(auto, unfolding(crate::specs::Records::acts, crate::specs::Records::acts_of))]
 pub fn acts_in(r: Record, c: usize) -> bool
     ensures { result ≡ acts c r }
 {
@@ -32,25 +34,23 @@ pub fn acts_in(r: Record, c: usize) -> bool
     }
 }
 
+#[tactic(auto, unfolding(crate::specs::Records::is_empty, crate::specs::Records::observations))]
 pub fn is_empty(r: Record) -> bool
     ensures { result ≡ is_empty r }
 {
-    observations_of(r) == 0
+    matches!(r, Record::Empty)
 }
 
 // Whether it is a position, at which a chain of test 2 may end.
+#[tactic(auto, unfolding(crate::specs::Records::is_position))]
 pub fn is_position(r: Record) -> bool
     ensures { result ≡ is_position r }
 {
-    match r {
-        Record::Empty => false,
-        Record::Baseline(_) => false,
-        Record::Height(_) => false,
-        Record::Position(_) => true,
-    }
+    matches!(r, Record::Position(_))
 }
 
 // The index of the station at the from end, 32 where the record's number is no station's. A position stands at one station, which is both.
+#[tactic(auto, unfolding(crate::specs::Records::from_of))]
 pub fn from_of(r: Record) -> usize
     ensures { result ≡ from_of r }
 {
@@ -62,7 +62,9 @@ pub fn from_of(r: Record) -> usize
     }
 }
 
+// Stays: `to_of` is its twin but for one field; a record of both ends would have to give an empty place ends, and `Level` and `Position` have none in common.
 // The same at the to end.
+#[tactic(auto, unfolding(crate::specs::Records::to_of))]
 pub fn to_of(r: Record) -> usize
     ensures { result ≡ to_of r }
 {
@@ -75,6 +77,7 @@ pub fn to_of(r: Record) -> usize
 }
 
 // 1 where the record has a from end.
+#[tactic(auto, unfolding(crate::specs::Records::joins))]
 pub fn joins_of(r: Record) -> i64
     ensures { result ≡ joins r }
 {
@@ -127,6 +130,7 @@ pub fn weight_matrix_of(r: Record) -> WeightMatrix
 }
 
 // The same by rows.
+#[tactic(auto, unfolding(crate::specs::Records::weights))]
 pub fn weights_of(r: Record) -> [i64; 9]
     ensures { result ≡ weights r }
 {
@@ -135,6 +139,7 @@ pub fn weights_of(r: Record) -> [i64; 9]
 }
 
 // The U difference of a baseline from mark to mark.
+#[tactic(auto, unfolding(crate::specs::Records::reduced_up))]
 pub fn reduced_up(b: Baseline) -> i64
     requires { (nat_abs b.up ≤ most_observed) × (nat_abs b.hf ≤ most_height_above_mark) × (nat_abs b.ht ≤ most_height_above_mark) }
     ensures { result ≡ reduced_up b }
@@ -143,6 +148,7 @@ pub fn reduced_up(b: Baseline) -> i64
 }
 
 // The differences from mark to mark in E, N, U; of a position its coordinates.
+#[tactic(auto, unfolding(crate::specs::Records::reduced))]
 fn reduced_of(r: Record) -> [i64; 3]
     requires { in_range r ≡ true }
     ensures { result ≡ reduced r }

@@ -1,25 +1,30 @@
 // The tables over the 96 components of a station list: component q is component q % 3 (E, N, U) of station q / 3.
-ghost use Rattle.std.specs.Prelude.{◌≡◌, ◌≤◌};
+ghost use Rattle.std.specs.Prelude.{◌≡◌, ◌<◌, ◌≤◌};
 ghost use Rattle.network.specs.Units.{most_components, most_unknowns};
-ghost use Rattle.network.specs.Stations.{unknown_in, unknown_table, number, index_table, component_of, coordinate_in, coordinates};
+ghost use Rattle.network.specs.Stations.{unknown_in, unknown, unknown_table, number, index_table, component_of, coordinate_in, coordinate_fits, coordinate, coordinates};
 ghost use Rattle.integers.specs.Tables.{tabulate};
 
 use super::{Kind, Station, Unit};
 
 // 1 where the kind leaves component c unknown.
+#[tactic(auto, unfolding(crate::specs::Stations::unknown_in))]
 pub fn unknown_in(k: Kind, c: usize) -> usize
     ensures { result ≡ unknown_in k c }
 {
     match k {
         Kind::Known => 0,
         Kind::Free => 1,
-        Kind::Height => {
-            if c == 2 {
-                return 1;
-            }
-            0
-        }
+        Kind::Height => { if c == 2 { 1 } else { 0 } }
     }
+}
+
+// 1 where component q is unknown.
+#[tactic(auto, unfolding(crate::specs::Stations::unknown))]
+fn unknown_at(stations: &[Station; Unit::STATIONS], q: usize) -> usize
+    requires { q < most_components }
+    ensures { result ≡ unknown stations.now q }
+{
+    unknown_in(stations[q / 3].kind, q % 3)
 }
 
 // 1 at each unknown component, 0 at each held one.
@@ -27,14 +32,8 @@ pub fn unknowns_of(stations: [Station; Unit::STATIONS]) -> [i64; Unit::COMPONENT
     ensures { result ≡ unknown_table stations }
 {
     let mut out = [0i64; Unit::COMPONENTS];
-    let mut q = 0;
-    while q < Unit::COMPONENTS {
-        let x = stations[q / 3];
-        let k = x.kind;
-        let b = unknown_in(k, q % 3);
-        let v = b as i64;
-        out[q] = v;
-        q = q + 1;
+    for q in 0..Unit::COMPONENTS {
+        out[q] = unknown_at(&stations, q) as i64;
     }
     out
 }
@@ -45,14 +44,10 @@ pub fn numbers_of(stations: [Station; Unit::STATIONS]) -> [usize; Unit::COMPONEN
 {
     let mut out = [0usize; Unit::COMPONENTS];
     let mut n = 0;
-    let mut q = 0;
-    while q < Unit::COMPONENTS {
-        let x = stations[q / 3];
-        let k = x.kind;
-        let b = unknown_in(k, q % 3);
+    for q in 0..Unit::COMPONENTS {
+        let b = unknown_at(&stations, q);
         out[q] = b * n;
-        n = n + b;
-        q = q + 1;
+        n += b;
     }
     out
 }
@@ -63,13 +58,8 @@ pub fn number_of(stations: [Station; Unit::STATIONS], q: usize) -> usize
     ensures { result ≡ number stations q }
 {
     let mut n = 0;
-    let mut i = 0;
-    while i < q {
-        let x = stations[i / 3];
-        let k = x.kind;
-        let b = unknown_in(k, i % 3);
-        n = n + b;
-        i = i + 1;
+    for i in 0..q {
+        n += unknown_at(&stations, i);
     }
     n
 }
@@ -80,31 +70,42 @@ pub fn components_of(stations: [Station; Unit::STATIONS]) -> [usize; Unit::UNKNO
 {
     let mut out = [Unit::COMPONENTS; Unit::UNKNOWNS];
     let mut n = 0;
-    let mut q = 0;
-    while q < Unit::COMPONENTS {
-        let x = stations[q / 3];
-        let k = x.kind;
-        let b = unknown_in(k, q % 3);
-        if (b == 1) & (n < Unit::UNKNOWNS) {
+    for q in 0..Unit::COMPONENTS {
+        let b = unknown_at(&stations, q);
+        if b == 1 && n < Unit::UNKNOWNS {
             out[n] = q;
         }
-        n = n + b;
-        q = q + 1;
+        n += b;
     }
     out
 }
 
 // The provisional coordinate in component c.
+#[tactic(auto, unfolding(crate::specs::Stations::coordinate_in))]
 pub fn coordinate_in(x: Station, c: usize) -> i64
     ensures { result ≡ coordinate_in x c }
 {
-    if c == 0 {
-        return x.east;
+    match c {
+        0 => x.east,
+        1 => x.north,
+        _ => x.up,
     }
-    if c == 1 {
-        return x.north;
-    }
-    x.up
+}
+
+// A coordinate, provisional or of a position, is in range.
+pub(crate) fn coordinate_fits(v: i64) -> bool
+    ensures { result ≡ coordinate_fits v }
+{
+    v.unsigned_abs() <= Unit::COORDINATE
+}
+
+// The provisional coordinate at component q.
+#[tactic(auto, unfolding(crate::specs::Stations::coordinate))]
+pub(crate) fn coordinate_at(stations: &[Station; Unit::STATIONS], q: usize) -> i64
+    requires { q < most_components }
+    ensures { result ≡ coordinate stations.now q }
+{
+    coordinate_in(stations[q / 3], q % 3)
 }
 
 // The provisional coordinates.
@@ -112,12 +113,8 @@ pub fn coordinates_of(stations: [Station; Unit::STATIONS]) -> [i64; Unit::COMPON
     ensures { result ≡ coordinates stations }
 {
     let mut out = [0i64; Unit::COMPONENTS];
-    let mut q = 0;
-    while q < Unit::COMPONENTS {
-        let x = stations[q / 3];
-        let v = coordinate_in(x, q % 3);
-        out[q] = v;
-        q = q + 1;
+    for q in 0..Unit::COMPONENTS {
+        out[q] = coordinate_at(&stations, q);
     }
     out
 }

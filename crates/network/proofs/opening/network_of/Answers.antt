@@ -11,13 +11,13 @@ use Rattle.lists.specs.Filling.{starts, goes_on, finish}
 use Rattle.network.proofs.opening.network_of.Goals as goal
 
 pub loop-s-init : goal.loop-s-init
-loop-s-init c = (search rules, starts blank_station 32 _ _ (search rules))
+loop-s-init c = starts blank_station 32 _ _ (search rules)
 
 pub loop-s-preserved : goal.loop-s-preserved
-loop-s-preserved c = (search rules, goes_on blank_station 32 _ _ c.loop-s.stations c.loop-s.s _ (omega arith) c.loop-s.invariant.1 c.station_in.ensures)
+loop-s-preserved c = goes_on blank_station 32 _ _ c.loop-s.stations c.loop-s.s _ (omega arith) c.loop-s.invariant c.station_in.ensures
 
 pub returns : goal.returns
 unfolding network_of
 returns c =
     ap (λ (l : List Station). record { count = length c.args.list.now / 4; stations = l })
-    (finish blank_station 32 _ _ c.loop-s.stations c.loop-s.s (omega arith) c.loop-s.invariant.1)
+    (finish blank_station 32 _ _ c.loop-s.stations c.loop-s.s (omega arith) c.loop-s.invariant)

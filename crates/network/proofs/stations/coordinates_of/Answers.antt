@@ -5,20 +5,16 @@ use mathlib.Core.Path.{◌∙◌}
 use lib.IntN.{pos}
 use mir.ValLaws.{to_z-of_z}
 use mir.Syntax.{w64}
-use Rattle.network.specs.Stations.{coordinate}
 use Rattle.lists.specs.Filling.{starts, goes_on, finish}
 use Rattle.network.proofs.stations.coordinates_of.Goals as goal
 
 pub loop-q-init : goal.loop-q-init
-loop-q-init c = (search rules, starts (pos 0) 96 _ _ (search rules))
+loop-q-init c = starts (pos 0) 96 _ _ (search rules)
 
 pub loop-q-preserved : goal.loop-q-preserved
-unfolding coordinate
-loop-q-preserved c = (
-  search rules,
-  goes_on (pos 0) 96 _ _ c.loop-q.out c.loop-q.q _ (omega arith) c.loop-q.invariant.1
-      (to_z-of_z w64 c.coordinate_in-v.result (sfits_of c.coordinate_in-v.type_inv) ∙ c.coordinate_in-v.ensures),
-)
+loop-q-preserved c =
+    goes_on (pos 0) 96 _ _ c.loop-q.out c.loop-q.q _ (omega arith) c.loop-q.invariant
+    (to_z-of_z w64 c.coordinate_at.result (sfits_of c.coordinate_at.type_inv) ∙ c.coordinate_at.ensures)
 
 pub returns : goal.returns
-returns c = finish (pos 0) 96 _ _ c.loop-q.out c.loop-q.q (omega arith) c.loop-q.invariant.1
+returns c = finish (pos 0) 96 _ _ c.loop-q.out c.loop-q.q (omega arith) c.loop-q.invariant
