@@ -67,6 +67,20 @@ counts st s h k n e f u p a b c =
     let l = bit_in k 2 in
     record { before = omega arith; east = omega arith; north = omega arith; up = omega arith }
 
+-- the three that the code has of a kind, as a list
+module _ (k : Kind) {c : List ℕ} (q : c ≡ unknown_in k 0 ∷ unknown_in k 1 ∷ unknown_in k 2 ∷ []) where
+  pub first : get_or c 0 0 ≡ unknown_in k 0
+  first = ap (λ (l : List ℕ). get_or l 0 0) q
+
+  pub second : get_or c 1 0 ≡ unknown_in k 1
+  second = ap (λ (l : List ℕ). get_or l 1 0) q
+
+  pub third : get_or c 2 0 ≡ unknown_in k 2
+  third = ap (λ (l : List ℕ). get_or l 2 0) q
+
+  pub counts_in : (st : List Station) (s : ℕ) → s ≤ 32 → (n : ℕ) → n ≡ number st (s * 3) → Counts n (get_or c 0 0) (get_or c 1 0) (get_or c 2 0)
+  counts_in st s h n p = counts st s h k n _ _ _ p first second third
+
 -- ════ a record's ends, from the unknowns of its two stations
 unit : (st : List Station) (s : ℕ) (k : ℕ) → nat_abs (get_or (unknowns_at st s).unknown k (pos 0)) ≤ 1
 unit st s zero = unknown-bit st (s * 3)

@@ -102,12 +102,10 @@ pub fn add_records(
     let at = network::numbers_of(stations);
     let unknown = network::unknowns_of(stations);
     let coordinate = network::coordinates_of(stations);
-    let mut p = 0;
-    while p < Unit::PLACES {
+    for p in 0..Unit::PLACES {
         let r = network::record_at(places, p);
         let q = records::equation_of(&at, &unknown, &coordinate, r);
         equations::add_equation(n, u, q, 1);
-        p = p + 1;
     }
 }
 
@@ -119,7 +117,7 @@ pub fn are_of(net: Network, places: &[i64], matrix: &[i64], right: &[i64]) -> bo
     let mut n = [0i64; Normals::ENTRIES];
     let mut u = [0i64; Normals::ROW];
     add_records(&mut n, &mut u, net, places);
-    lists::same_entries(matrix, &n) & lists::same_entries(right, &u)
+    matrix == n.as_slice() && right == u.as_slice()
 }
 
 // One record's share taken off N and u, and another's put on: at most 72 entries of N and 12 of u are touched.
@@ -142,16 +140,4 @@ pub fn exchange_shares(
     let q = records::equation_of(&at, &unknown, &coordinate, new);
     equations::add_equation(n, u, p, -1);
     equations::add_equation(n, u, q, 1);
-}
-
-// Makes u the numbers given. A book lends its own u: the prover does not cover the store of an array to a field of a field.
-pub fn set_right(u: &mut [i64; Normals::ROW], right: &[i64; Normals::ROW])
-    requires { (length u.old ≡ most_unknowns) × (length right.now ≡ most_unknowns) }
-    ensures { u.new ≡ right.now }
-{
-    let mut i = 0;
-    while i < Normals::ROW {
-        u[i] = right[i];
-        i = i + 1;
-    }
 }

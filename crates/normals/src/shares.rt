@@ -1,7 +1,7 @@
 // The shares of two records term by term, for N and u that are kept elsewhere: who keeps them adds 42 amounts for a record, and reads no other entry. The equations come from the
 // station list itself: for two records its tables are not worth their making.
-ghost use Rattle.std.specs.Prelude.{◌≡◌, true, ◌*◌, ◌<◌, ◌≤◌};
-ghost use Rattle.network.specs.Stations.{number, coordinates, network_fits};
+ghost use Rattle.std.specs.Prelude.{◌≡◌, true, ◌*◌, ◌<◌, ◌≤◌, ◌∷◌, []};
+ghost use Rattle.network.specs.Stations.{unknown_in, number, coordinates, network_fits};
 ghost use Rattle.network.specs.RecordLaws.{Observed};
 ghost use Rattle.network.specs.Rules.{record_fits};
 ghost use Rattle.normals.specs.Equations.{EquationInRange, ends_of};
@@ -10,9 +10,10 @@ ghost use Rattle.normals.specs.ShareTerms.{pair_term, end_term};
 
 use super::equations::weighted_row;
 use super::{Equation, Exchange, Normals, ShareTerm, StationUnknowns};
-use network::{Network, Record, Station, Unit};
+use network::{Kind, Network, Record, Station, Unit};
 
 // Ends e and f, at their entry of N. Unknowns, coefficients and weights are lent, so that no turn copies an equation.
+// Stays: three slices in place of an equation, since a whole one would be asked to have its misclosures in range too.
 pub fn pair_term(
     at: &[usize; 6],
     coef: &[i64; 6],
@@ -35,9 +36,20 @@ pub fn end_term(q: Equation, e: usize) -> ShareTerm
     ensures { result ≡ end_term q e }
 {
     let entry = Normals::ENTRIES + q.at[e];
-    let p = weighted_row(q, e % 3);
+    let p = weighted_row(&q, e % 3);
     let amount = q.coef[e] * p;
     ShareTerm { entry, amount }
+}
+
+// 1 in each of E, N, U that is unknown at a station of the kind, else 0.
+fn unknowns_in(k: Kind) -> [usize; 3]
+    ensures { result ≡ unknown_in k 0 ∷ unknown_in k 1 ∷ unknown_in k 2 ∷ [] }
+{
+    [
+        network::unknown_in(k, 0),
+        network::unknown_in(k, 1),
+        network::unknown_in(k, 2),
+    ]
 }
 
 // How many unknowns stand before station s.
@@ -46,15 +58,10 @@ fn unknowns_before(stations: [Station; Unit::STATIONS], s: usize) -> usize
     ensures { result ≡ number stations (s * 3) }
 {
     let mut n = 0;
-    let mut k = 0;
-    while k < s {
+    for k in 0..s {
         let x = stations[k];
-        let kind = x.kind;
-        let e = network::unknown_in(kind, 0);
-        let f = network::unknown_in(kind, 1);
-        let u = network::unknown_in(kind, 2);
-        n = n + e + f + u;
-        k = k + 1;
+        let c = unknowns_in(x.kind);
+        n = n + c[0] + c[1] + c[2];
     }
     n
 }
@@ -66,16 +73,14 @@ fn unknowns_at(stations: [Station; Unit::STATIONS], s: usize) -> StationUnknowns
 {
     let n = unknowns_before(stations, s);
     let x = stations[s];
-    let kind = x.kind;
-    let e = network::unknown_in(kind, 0);
-    let f = network::unknown_in(kind, 1);
-    let u = network::unknown_in(kind, 2);
-    let at = [e * n, f * (n + e), u * (n + e + f)];
-    let unknown = [e as i64, f as i64, u as i64];
+    let c = unknowns_in(x.kind);
+    let at = [c[0] * n, c[1] * (n + c[0]), c[2] * (n + c[0] + c[1])];
+    let unknown = [c[0] as i64, c[1] as i64, c[2] as i64];
     StationUnknowns { at, unknown }
 }
 
 // The equations of a record over the station list, whose provisional coordinates are given.
+// Stays: `records::equation_of` is its twin over tables; N from scratch makes the tables once for 256 records, and an edit is faster without them (docs/PERFORMANCE.md).
 fn equation_over(
     stations: [Station; Unit::STATIONS],
     coordinate: &[i64; Unit::COMPONENTS],

@@ -1,5 +1,5 @@
 -- `add_records`, place by place. The loop's invariant: n and u are those of the places passed; one place more is `first_n-more`, `first_u-more`. Assumes nothing.
-use Prim.Native.Nat.{ℕ, ◌-◌, ◌≤◌}
+use Prim.Native.Nat.{ℕ}
 use mathlib.Core.Path.{◌≡◌}
 use mathlib.Core.List.{List}
 use lib.IntN.{ℤ}
@@ -18,7 +18,4 @@ Holds places at un co n u p =
     → (n ≡ first_n net.stations places p) × (u ≡ first_u net.stations places p)
 
 abbrev pub invariant-loop-p : goal.invariant-loop-p
-invariant-loop-p l = (l.p ≤ 256) × Holds (places_in l.places) l.at l.unknown l.coordinate l.n l.u l.p
-
-abbrev pub decreases-loop-p : goal.decreases-loop-p
-decreases-loop-p l = 256 - l.p
+invariant-loop-p l = Holds (places_in l.places) l.at l.unknown l.coordinate l.n l.u l.p

@@ -1,11 +1,11 @@
 -- `add_matrix` adds a record's share to N. The loop's invariant: the ends passed are added. Assumes nothing.
-use Prim.Native.Nat.{ℕ, ◌-◌, ◌≤◌}
+use Prim.Native.Nat.{ℕ}
 use mathlib.Core.Path.{◌≡◌}
 use lib.IntN.{ℤ}
 use Rattle.integers.specs.Sums.{sum}
 use Rattle.normals.specs.declared.Equation.{Equation}
 use Rattle.integers.specs.Tables.{plus}
-use Rattle.normals.specs.Equations.{ends_of, row_n}
+use Rattle.normals.specs.Equations.{row_n}
 use Rattle.normals.proofs.equations.add_matrix.Given as goal
 
 -- what the ends below e add
@@ -13,7 +13,4 @@ abbrev pub sofar : Equation → ℕ → ℕ → ℤ
 sofar q e k = sum e (λ x. row_n q x k)
 
 abbrev pub invariant-loop-e : goal.invariant-loop-e
-invariant-loop-e l = (l.e ≤ 6) × (l.n ≡ plus 2304 l.initial.n l.sign (sofar (ends_of l.at l.coef l.weight) l.e))
-
-abbrev pub decreases-loop-e : goal.decreases-loop-e
-decreases-loop-e l = 6 - l.e
+invariant-loop-e l = l.n ≡ plus 2304 l.initial.n l.sign (sofar l.equation l.e)

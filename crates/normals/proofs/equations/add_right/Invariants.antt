@@ -1,5 +1,5 @@
 -- `add_right` adds a record's share to u. The loop's invariant: the ends passed are added. Assumes nothing.
-use Prim.Native.Nat.{ℕ, ◌-◌, ◌%◌, ◌≤◌}
+use Prim.Native.Nat.{ℕ, ◌%◌}
 use mathlib.Core.Path.{◌≡◌}
 use lib.IntN.{ℤ, ◌*ℤ◌}
 use Rattle.integers.specs.Sums.{sum, δ}
@@ -13,7 +13,4 @@ abbrev pub sofar : Equation → ℕ → ℕ → ℤ
 sofar q e k = sum e (λ x. coef_of q x *ℤ weighted q (x % 3) *ℤ δ (at_of q x) k)
 
 abbrev pub invariant-loop-e : goal.invariant-loop-e
-invariant-loop-e l = (l.e ≤ 6) × (l.u ≡ plus 48 l.initial.u l.sign (sofar l.equation l.e))
-
-abbrev pub decreases-loop-e : goal.decreases-loop-e
-decreases-loop-e l = 6 - l.e
+invariant-loop-e l = l.u ≡ plus 48 l.initial.u l.sign (sofar l.equation l.e)
