@@ -1,4 +1,5 @@
 // The search for what chains of edges join to a start. An edge's ends, below 32, stand in one number: from · 32 + to.
+// Stays: the definition `edge` of specs/Chains, which `is_tied` rests on, gives an edge as that number.
 ghost use Rattle.std.specs.Prelude.{◌≡◌, ◌<◌};
 ghost use Rattle.network.specs.Units.{most_stations, place_count};
 ghost use Rattle.chains.specs.Search.{join, pass, Found};
@@ -28,11 +29,8 @@ fn one_pass(edges: &[usize; Unit::PLACES], w: u32) -> u32
     ensures { result ≡ pass (from_end edges.now) (to_end edges.now) place_count w }
 {
     let mut v = w;
-    let mut p: usize = 0;
-    while p < Unit::PLACES {
-        let e = edges[p];
-        v = join_ends(v, e / Unit::STATIONS, e % Unit::STATIONS);
-        p += 1;
+    for e in edges {
+        v = join_ends(v, *e / Unit::STATIONS, *e % Unit::STATIONS);
     }
     v
 }
@@ -43,6 +41,7 @@ pub fn search(edges: &[usize; Unit::PLACES], h: u32) -> u32
     ensures { Found (from_end edges.now) (to_end edges.now) place_count h result }
 {
     let mut w = h;
+    // Stays: a `for` is no plainer, since the number of passes is known only when one changes nothing.
     loop {
         let v = one_pass(edges, w);
         if v == w {

@@ -1,5 +1,5 @@
 // The chains of a book's records, and the first unknown without one.
-ghost use Rattle.std.specs.Prelude.{◌≡◌, true, cond, ◌<◌, ◌≤◌, eqb, length};
+ghost use Rattle.std.specs.Prelude.{◌≡◌, true, cond, ◌<◌, ◌≤◌, eqb, length, unwrap_or, IfSome};
 ghost use Rattle.network.specs.Units.{most_stations, most_components};
 ghost use Rattle.network.specs.Stations.{unknown_in};
 ghost use Rattle.network.specs.Records.{is_position, from_of, to_of};
@@ -30,12 +30,10 @@ fn edges_in(places: &[i64], c: usize) -> [usize; Unit::PLACES]
     ensures { result ≡ edges (places_in places.now) c }
 {
     let mut out = [0usize; Unit::PLACES];
-    let mut p: usize = 0;
-    while p < Unit::PLACES {
+    for p in 0..Unit::PLACES {
         let r = network::record_at(places, p);
         let e = edge_of(r, c);
         out[p] = e;
-        p += 1;
     }
     out
 }
@@ -57,12 +55,10 @@ fn with_stations_held(n: usize, stations: [Station; Unit::STATIONS], c: usize, w
     ensures { result ≡ put_in n (is_held stations c) (λ s. s) w }
 {
     let mut v = w;
-    let mut s: usize = 0;
-    while s < n {
+    for s in 0..n {
         let x = stations[s];
         let k = x.kind;
         v = with_held(v, s, k, c);
-        s += 1;
     }
     v
 }
@@ -84,11 +80,9 @@ fn positions_in(places: &[i64]) -> u32
     ensures { result ≡ position_set (places_in places.now) }
 {
     let mut w: u32 = 0;
-    let mut p: usize = 0;
-    while p < Unit::PLACES {
+    for p in 0..Unit::PLACES {
         let r = network::record_at(places, p);
         w = with_position(w, r);
-        p += 1;
     }
     w
 }
@@ -116,27 +110,27 @@ fn held_or_in(k: Kind, c: usize, w: u32, s: usize) -> bool
     has(w, s)
 }
 
-// The first component, by station and then E, N, U, that is neither held nor in its set; 96 where there is none.
-fn first_missing(stations: [Station; Unit::STATIONS], found: [u32; 3]) -> usize
-    ensures { result ≡ first_failing most_components (held_or_in stations found) }
+// The first component, by station and then E, N, U, that is neither held nor in its set.
+fn first_missing(stations: [Station; Unit::STATIONS], found: [u32; 3]) -> Option<usize>
+    ensures position { unwrap_or result most_components ≡ first_failing most_components (held_or_in stations found) }
+    ensures in_range { IfSome result (λ q. q < most_components) }
 {
-    let mut q: usize = 0;
-    while q < Unit::COMPONENTS {
+    for q in 0..Unit::COMPONENTS {
         let x = stations[q / 3];
         let k = x.kind;
         let w = found[q % 3];
         if !held_or_in(k, q % 3, w, q / 3) {
-            return q;
+            return Some(q);
         }
-        q += 1;
     }
-    Unit::COMPONENTS
+    None
 }
 
-// The first component, by station and then E, N, U, that is neither held nor tied; 96 where there is none.
-pub fn first_untied(net: Network, places: &[i64]) -> usize
+// The first component, by station and then E, N, U, that is neither held nor tied.
+pub fn first_untied(net: Network, places: &[i64]) -> Option<usize>
     requires { (places_length ≤ length places.now) × EndsInRange net (places_in places.now) }
-    ensures { result ≡ first_failing most_components (is_tied net (places_in places.now)) }
+    ensures position { unwrap_or result most_components ≡ first_failing most_components (is_tied net (places_in places.now)) }
+    ensures in_range { IfSome result (λ q. q < most_components) }
 {
     let positions = positions_in(places);
     let east = tied_in(net, places, 0, positions);

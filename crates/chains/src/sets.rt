@@ -1,4 +1,5 @@
 // Sets of numbers below 32, as the bits of a word.
+// Stays: a set of the library takes memory from the heap, which this project does without.
 ghost use Rattle.std.specs.Prelude.{◌≡◌, ◌<◌};
 ghost use Rattle.chains.specs.Bits.{bit, set_bit};
 

@@ -8,7 +8,7 @@ use Rattle.chains.specs.Chains.{edge}
 use Rattle.chains.proofs.records.edges_in.Goals as goal
 
 pub loop-p-init : goal.loop-p-init
-loop-p-init c = (search rules, starts 0 256 _ _ (search rules))
+loop-p-init c = starts 0 256 _ _ (search rules)
 
 pub edge_of-e-requires : goal.edge_of-e-requires
 edge_of-e-requires c =
@@ -18,7 +18,7 @@ edge_of-e-requires c =
     rw c.record_at-r.ensures (g.from p l, g.to p l)
 
 pub loop-p-preserved : goal.loop-p-preserved
-loop-p-preserved c = (search rules, goes_on 0 256 _ _ c.loop-p.out c.loop-p.p _ (omega arith) c.loop-p.invariant.1 (c.edge_of-e.ensures ∙ ap (λ (r : Record). edge c.args.c r) c.record_at-r.ensures))
+loop-p-preserved c = goes_on 0 256 _ _ c.loop-p.out c.loop-p.p _ (omega arith) c.loop-p.invariant (c.edge_of-e.ensures ∙ ap (λ (r : Record). edge c.args.c r) c.record_at-r.ensures)
 
 pub returns : goal.returns
-returns c = finish 0 256 _ _ c.loop-p.out c.loop-p.p (omega arith) c.loop-p.invariant.1
+returns c = finish 0 256 _ _ c.loop-p.out c.loop-p.p (omega arith) c.loop-p.invariant

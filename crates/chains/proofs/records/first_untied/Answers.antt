@@ -16,7 +16,7 @@ tied_in-north-requires c = (c.requires.0, c.requires.1, omega arith, c.positions
 pub tied_in-up-requires : goal.tied_in-up-requires
 tied_in-up-requires c = (c.requires.0, c.requires.1, omega arith, c.positions_in-positions.ensures)
 
-pub returns : goal.returns
-returns c =
-    c.first_missing.ensures
+pub returns-clause-position : goal.returns-clause-position
+returns-clause-position c =
+    c.first_missing.ensures.position
     ∙ first_found c.tied_in-east.ensures c.tied_in-north.ensures c.tied_in-up.ensures

@@ -1,12 +1,8 @@
 -- `with_stations_held` has put in the held among the first s stations at each turn. Assumes nothing.
-use Prim.Native.Nat.{◌≤◌, ◌-◌}
-use mathlib.Core.Path.{◌≡◌}
+use Rattle.std.specs.Prelude.{◌≡◌}
 use Rattle.chains.specs.Bits.{put_in}
 use Rattle.chains.specs.Chains.{is_held}
 use Rattle.chains.proofs.records.with_stations_held.Given as goal
 
 abbrev pub invariant-loop-s : goal.invariant-loop-s
-invariant-loop-s l = (l.s ≤ l.n) × (l.v ≡ put_in l.s (is_held l.stations l.c) (λ s'. s') l.w)
-
-abbrev pub decreases-loop-s : goal.decreases-loop-s
-decreases-loop-s l = l.n - l.s
+invariant-loop-s l = l.v ≡ put_in l.s (is_held l.stations l.c) (λ s'. s') l.w
