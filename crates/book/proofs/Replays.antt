@@ -10,17 +10,17 @@ use Rattle.words.specs.Bools.{clash}
 use Rattle.network.specs.Stations.{network_of, opens, open_no}
 use Rattle.network.specs.OpeningLaws.{opened-fits}
 use Rattle.book.specs.declared.Book.{Book}
-use Rattle.book.specs.declared.Edited.{Edited}
-use Rattle.book.specs.Book.{opened_book, opening, sound}
+use Rattle.book.specs.Outcome.{Outcome}
+use Rattle.book.specs.Book.{opened_book, opening}
 use Rattle.book.specs.Rows.{rows_in}
 use Rattle.book.specs.Demand3Holds.{demanded}
 use Rattle.book.specs.Replay.{Ran, row_count, Replayed}
 
-open_refusal : (t : Bool) (b c : Book) → (cond {A = Edited} t (record { refusal = 0; book = b }) (record { refusal = 1; book = c })).refusal ≡ cond t 0 1
+open_refusal : (t : Bool) (b c : Book) → (cond {A = Outcome} t (record { refusal = 0; book = b }) (record { refusal = 1; book = c })).refusal ≡ cond t 0 1
 open_refusal true b c = refl
 open_refusal false b c = refl
 
-open_book : (t : Bool) (b c : Book) → t ≡ true → (cond {A = Edited} t (record { refusal = 0; book = b }) (record { refusal = 1; book = c })).book ≡ b
+open_book : (t : Bool) (b c : Book) → t ≡ true → (cond {A = Outcome} t (record { refusal = 0; book = b }) (record { refusal = 1; book = c })).book ≡ b
 open_book true b c e = refl
 open_book false b c e = clash refl (sym e)
 
@@ -28,12 +28,12 @@ is_open : (t : Bool) → ◌≡◌ {A = ℕ} (cond t 0 1) 0 → t ≡ true
 is_open true e = refl
 is_open false e = absurd (let z : ◌≡◌ {A = ℕ} 1 0 = e in omega arith)
 
-module _ (list words before : List ℤ) (e : Edited) (o : e ≡ opening list) where
+module _ (list words before : List ℤ) (e : Outcome) (o : e ≡ opening list) where
   refusal_is : e.refusal ≡ open_no list
-  refusal_is = ap (λ (x : Edited). x.refusal) o ∙ open_refusal (opens list) (opened_book (network_of list)) (opened_book (network_of []))
+  refusal_is = ap (λ (x : Outcome). x.refusal) o ∙ open_refusal (opens list) (opened_book (network_of list)) (opened_book (network_of []))
 
   opened : opens list ≡ true → e.book ≡ opened_book (network_of list)
-  opened t = ap (λ (x : Edited). x.book) o ∙ open_book (opens list) (opened_book (network_of list)) (opened_book (network_of [])) t
+  opened t = ap (λ (x : Outcome). x.book) o ∙ open_book (opens list) (opened_book (network_of list)) (opened_book (network_of [])) t
 
   pub replay_refused : (e.refusal ≡ 0 → ⊥) → Replayed list words before before e
   replay_refused h =
@@ -54,6 +54,3 @@ module _ (list words before : List ℤ) (e : Edited) (o : e ≡ opening list) wh
         beyond = q.beyond;
         unopened = λ f. clash t f;
       }
-
-pub opened-sound : (list : List ℤ) (e : Edited) → (e ≡ opening list) × (opens list ≡ true → sound e.book ≡ true) → e.refusal ≡ 0 → sound e.book ≡ true
-opened-sound list e o z = o.1 (is_open (opens list) (sym (refusal_is list [] [] e o.0) ∙ z))

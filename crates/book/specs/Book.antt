@@ -13,7 +13,7 @@ use Rattle.normals.specs.Same.{same_normals}
 use Rattle.book.specs.declared.Reversal.{Reversal}
 use Rattle.book.specs.declared.Journal.{Journal}
 use Rattle.book.specs.declared.Book.{Book}
-use Rattle.book.specs.declared.Edited.{Edited}
+use Rattle.book.specs.Outcome.{Outcome}
 use Rattle.book.specs.declared.Call.{Call}
 use Rattle.book.specs.declared.Call.TheVariants.{Edit, Undo}
 use Rattle.book.specs.Calls.{place_of, changed, call_no, puts, unless}
@@ -30,7 +30,7 @@ opened_book net =
     }
 
 -- "A refused opening makes no book": it gives the book of no stations, which is not sound
-abbrev pub opening : List ℤ → Edited
+abbrev pub opening : List ℤ → Outcome
 opening list = cond (opens list) (record { refusal = 0; book = opened_book (network_of list) }) (record { refusal = 1; book = opened_book (network_of []) })
 
 -- ════ editing: the record r at place p, N and u worked out afresh
@@ -58,10 +58,10 @@ abbrev pub book_says : Book → Call → ℕ
 book_says b c = call_no b.network (record_at b.places) b.journal.count c
 
 -- what a call answers, and the book afterwards: a refusal gives the book back as it came
-abbrev pub settled : ℕ → Book → Book → Edited
+abbrev pub settled : ℕ → Book → Book → Outcome
 settled n b c = record { refusal = n; book = unless n b c }
 
-abbrev pub outcome : Book → Call → Edited
+abbrev pub outcome : Book → Call → Outcome
 outcome b c = settled (book_says b c) b (book_accepts b c)
 
 abbrev pub book_next : Book → Call → Book

@@ -1,7 +1,10 @@
+pub mod Outcome
+pub mod Refusals
 pub mod Calls
 pub mod Ledger
 pub mod Journal
 pub mod Book
+pub mod Outcomes
 pub mod Empties
 pub mod RulesFit
 pub mod Run

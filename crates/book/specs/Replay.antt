@@ -1,11 +1,10 @@
 -- What a replay of rows of words promises: a list that does not open is refused as an opening is, and otherwise the rows are answered and the
 -- book is left as demand 3 says. Assumes nothing.
-use Rattle.std.specs.Prelude.{ℕ, ◌/◌, min, ◌≡◌, true, false, List, ℤ, length, take, drop}
+use Rattle.std.specs.Prelude.{ℕ, ◌/◌, min, ◌≡◌, true, false, List, Option, ℤ, length, take, drop}
 use Rattle.network.specs.Stations.{network_of, opens, open_no}
-use Rattle.book.specs.declared.Edited.{Edited}
+use Rattle.book.specs.Outcome.{Outcome}
 use Rattle.book.specs.declared.Book.{Book}
-use Rattle.book.specs.declared.Answered.{Answered}
-use Rattle.book.specs.declared.Row.{Row}
+use Rattle.book.specs.declared.Call.{Call}
 use Rattle.book.specs.Run.{final, answers}
 use Rattle.book.specs.Book.{opening, book_says, book_next}
 use Rattle.book.specs.Book as spec
@@ -13,10 +12,10 @@ use Rattle.book.specs.Rows.{row_length, rows_in, row_next, row_says}
 use Rattle.book.specs.Demand3.{Demand, book_after}
 
 -- one row: its answer, and the book afterwards
-pub record Answers (b : Book) (row : Row) (a : Answered) : Type 0 where
-  pub answer : a.answer ≡ row_says book_says b row
-  pub left : a.book ≡ row_next book_next b row
-  pub sound : spec.sound a.book ≡ true
+pub record Answers (b : Book) (row : Option Call) (answer : ℤ) (left : Book) : Type 0 where
+  pub says : answer ≡ row_says book_says b row
+  pub leaves : left ≡ row_next book_next b row
+  pub sound : spec.sound left ≡ true
 
 -- the first n rows, answered in a list
 pub record Ran (b : Book) (words : List ℤ) (n : ℕ) (before after : List ℤ) (last : Book) : Type 0 where
@@ -29,7 +28,7 @@ abbrev pub row_count : List ℤ → List ℤ → ℕ
 row_count words answers = min (length words / row_length) (length answers)
 
 -- of a station list, the words of the rows, the answers before and after, and what is given back
-pub record Replayed (list words before after : List ℤ) (e : Edited) : Type 0 where
+pub record Replayed (list words before after : List ℤ) (e : Outcome) : Type 0 where
   pub refusal : e.refusal ≡ open_no list
   pub demand : opens list ≡ true →
       Demand (network_of list) (rows_in words (row_count words before)) (take (row_count words before) after)

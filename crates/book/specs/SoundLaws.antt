@@ -10,7 +10,7 @@ use Rattle.network.specs.declared.Place.{Place}
 use Rattle.network.specs.declared.Record.{Record}
 use Rattle.book.specs.declared.Reversal.{Reversal}
 use Rattle.book.specs.declared.Book.{Book}
-use Rattle.book.specs.declared.Edited.{Edited}
+use Rattle.book.specs.Outcome.{Outcome}
 use Rattle.book.specs.declared.Change.{Change}
 use Rattle.book.specs.declared.Change.TheVariants.{Enter, Strike}
 use Rattle.book.specs.declared.Call.{Call}
@@ -44,8 +44,8 @@ unfolding call_no
 edit_may_put b p c i r at is e = let x = first_zero (place_no p) _ e in rw (at, is) (change_may_put b (place_of p) (place_inside p x.0) c x.1)
 
 -- ════ no call on a book is answered with a number above 9
-pub refusal-small : (b : Book) (c : Call) (e : Edited) → e ≡ outcome b c → e.refusal ≤ 9
-refusal-small b c e w = subst (λ (x : Edited). x.refusal ≤ 9) (sym w) (call_small b.network (record_at b.places) b.journal.count c)
+pub refusal-small : (b : Book) (c : Call) (e : Outcome) → e ≡ outcome b c → e.refusal ≤ 9
+refusal-small b c e w = subst (λ (x : Outcome). x.refusal ≤ 9) (sym w) (call_small b.network (record_at b.places) b.journal.count c)
 
 -- ════ the journal's reversals over the same records, and fewer of them
 pub undoable-ext : (net : Network) (f g : ℕ → Record) (h : List Reversal) → ((k : ℕ) → f k ≡ g k) → undoable net f h ≡ undoable net g h

@@ -2,7 +2,7 @@
 ghost use Rattle.std.specs.Prelude.{◌≡◌, ◌<◌};
 ghost use Rattle.book.specs.Journal.{journal_size, slot_before, slot_after, age, one_more, pushed, popped, latest};
 
-use super::{Journal, Reversal};
+use super::{Journal, Record, Reversal};
 
 pub fn slot_after(slot: usize) -> usize
     requires { slot < journal_size }
@@ -30,11 +30,7 @@ pub(crate) fn slot_age(next: usize, slot: usize) -> usize
 pub fn one_more(count: usize) -> usize
     ensures { result ≡ one_more count }
 {
-    if count < Journal::SIZE {
-        count + 1
-    } else {
-        Journal::SIZE
-    }
+    count.min(Journal::SIZE - 1) + 1
 }
 
 impl Journal {
@@ -42,50 +38,34 @@ impl Journal {
     pub const SIZE: usize = 64;
 
     // An edit goes on; where the journal is full it pushes out the oldest.
-    pub fn push(self, e: Reversal) -> Journal
+    pub fn push(mut self, e: Reversal) -> Journal
         requires { self.next < journal_size }
         ensures { result ≡ pushed self e }
     {
-        let i = self.next;
-        let count = self.count;
-        let mut a = self.entries;
-        a[i] = e;
-        let next = slot_after(i);
-        let more = one_more(count);
-        Journal {
-            entries: a,
-            next,
-            count: more,
-        }
+        self.entries[self.next] = e;
+        self.next = slot_after(self.next);
+        self.count = one_more(self.count);
+        self
     }
 
     // The latest comes off, and its slot is blank again.
-    pub fn pop(self) -> Journal
+    pub fn pop(mut self) -> Journal
         requires { (0 < self.count) × (self.next < journal_size) }
         ensures { result ≡ popped self }
     {
-        let next = self.next;
-        let n = self.count;
-        let i = slot_before(next);
-        let mut a = self.entries;
-        let none = super::Record::Empty;
-        a[i] = Reversal {
+        self.next = slot_before(self.next);
+        self.entries[self.next] = Reversal {
             place: 0,
-            prior: none,
+            prior: Record::Empty,
         };
-        Journal {
-            entries: a,
-            next: i,
-            count: n - 1,
-        }
+        self.count -= 1;
+        self
     }
 
     pub fn last(self) -> Reversal
         requires { self.next < journal_size }
         ensures { result ≡ latest self }
     {
-        let next = self.next;
-        let i = slot_before(next);
-        self.entries[i]
+        self.entries[slot_before(self.next)]
     }
 }

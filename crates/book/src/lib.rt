@@ -5,12 +5,13 @@ mod edits;
 mod history;
 mod refusals;
 mod rows;
+mod rules;
 mod soundness;
 
 pub use history::{one_more, slot_after, slot_before};
-use network::{Network, Place, Record, Unit};
+use network::{Network, Place, Record, RecordRefusal, Unit};
 use normals::Normals;
-pub use refusals::{edit_no, puts_of};
+pub use refusals::{call_word, judge_edit, puts_of};
 pub use rows::replay;
 pub use soundness::{is_sound, rules_fit};
 
@@ -28,13 +29,6 @@ pub enum Call {
     Undo,
 }
 
-// What a row of words says: a call, or none.
-#[derive(Clone, Copy)]
-pub enum Row {
-    Names(Call),
-    Nameless,
-}
-
 // What an undo restores: a place, counted from 0, and what it held before.
 #[derive(Clone, Copy)]
 pub struct Reversal {
@@ -43,6 +37,7 @@ pub struct Reversal {
 }
 
 // Document 01's history: a ring of the latest edits.
+// Stays: a ring in fixed memory (no heap), whose counters stand in the bytes of a book; the definitions `pushed`, `popped` and what 25 tests speak of them.
 #[derive(Clone, Copy)]
 pub struct Journal {
     pub entries: [Reversal; Journal::SIZE],
@@ -59,16 +54,17 @@ pub struct Book {
     pub normals: Normals,
 }
 
-// The answer to an opening, an edit or an undo: a refusal's number or 0, and the book.
+// Why a call that opens or edits is refused, by document 01's table.
 #[derive(Clone, Copy)]
-pub struct Edited {
-    pub refusal: u64,
-    pub book: Book,
-}
-
-// What a row of a replay is answered, and the book afterwards.
-#[derive(Clone, Copy)]
-pub struct Answered {
-    pub answer: i64,
-    pub book: Book,
+pub enum Refusal {
+    // 1: the station list is not by the rules.
+    BadList,
+    // 2: the place is not 1 to 256.
+    BadPlace,
+    // 3 to 6: the record is not by the rules.
+    BadRecord(RecordRefusal),
+    // 7: a strike of an empty place.
+    EmptyPlace,
+    // 8: an undo with nothing on the history.
+    EmptyHistory,
 }

@@ -1,16 +1,8 @@
--- By whether the list opens: `opening_done`, or `opening-refused` over the network of an empty list. Assumes nothing.
-use mathlib.Core.Path.{sym, ap, ◌∙◌}
-use Rattle.book.specs.declared.Book.{Book}
+-- Where the list opens, the book is sound (`opening_done`). Assumes nothing.
+use Rattle.std.proofs.Common.{sym, ap, ◌∙◌}
 use Rattle.book.specs.Book.{opened_book}
-use Rattle.book.proofs.Done.{opening_done, opening-refused}
+use Rattle.book.proofs.Done.{opening_done}
 use Rattle.book.proofs.Book.open.Goals as goal
 
-pub returns-then-opens : goal.returns-then-opens
-returns-then-opens c =
-    opening_done c.args.list.now _ (sym c.opens.ensures ∙ c.if-opens.true)
-    (ap (λ (x : Book). record { refusal = 0; book = x }) (c.blank-book.ensures ∙ ap opened_book c.network_of-net.ensures))
-
-pub returns : goal.returns
-returns c =
-    opening-refused c.args.list.now _ (sym c.opens.ensures ∙ c.if-opens.false)
-    (ap (λ (x : Book). record { refusal = 1; book = x }) (c.blank-book-2.ensures ∙ ap opened_book c.network_of-none.ensures))
+pub returns-clause-sound : goal.returns-clause-sound
+returns-clause-sound c = (opening_done c.args.list.now _ (sym c.opens.ensures ∙ c.if-not-opens.false) (c.blank.ensures ∙ ap opened_book c.network_of.ensures)).1

@@ -1,43 +1,45 @@
--- Where there is no edit to take back, 8 and the same book; else the latest reversal may be put back (`latest-undoes`), and that is the undo (`undone-is`). Assumes nothing.
-use mathlib.Core.Path.{ap, ◌∙◌}
-use borrow.Author.Rules.{rules}
-use Prim.Native.Nat.{◌<◌}
+-- Where there is no edit to take back, the refusal and the same book; else the latest reversal may be put back (`latest-undoes`), and that is the undo (`undone-is`). Assumes nothing.
+use Rattle.std.proofs.Common.{rules, ◌<◌, ℕ, sym, ap}
 use Rattle.lists.specs.Filling.{length_mapped}
-use Rattle.book.specs.declared.Book.{Book}
 use Rattle.book.specs.declared.Call.TheVariants.{Undo}
-use Rattle.book.specs.Calls.{call_no}
-use Rattle.book.specs.Book.{book_accepts}
-use Rattle.book.specs.Sound.{SoundParts, sound-parts}
+use Rattle.book.specs.Calls.{unless}
+use Rattle.book.specs.Book.{book_accepts, settled}
+use Rattle.book.specs.Sound.{SoundParts}
 use Rattle.book.specs.SoundLaws.{latest-undoes}
-use Rattle.book.proofs.Done.{call_done, undone-is, undo_refused, undo_done}
+use Rattle.book.proofs.Done.{fresh, fresh-parts, undone-is, history_none, history_some, undo_done}
 use Rattle.book.proofs.Book.undo.Goals as goal
+use Rattle.book.proofs.Book.undo.Goals.{Else-self-eq0}
 
-pub returns-then-count-eq0 : goal.returns-then-count-eq0
-unfolding call_no book_accepts
-returns-then-count-eq0 c = (undo_refused _ _ _ c.if-count-eq0.true, c.requires)
+parts : (c : Else-self-eq0) → SoundParts (fresh c.args.self.now)
+parts c = fresh-parts c.args.self.now (search (rules, length_mapped)) (search (rules, length_mapped)) c.requires
+
+some : (c : Else-self-eq0) → 0 < c.args.self.now.journal.count
+some c = search rules
+
+pub returns-then-self-eq0-clause-outcome : goal.returns-then-self-eq0-clause-outcome
+unfolding unless
+returns-then-self-eq0-clause-outcome c =
+    let b = c.args.self.now in
+    sym (ap (λ (n : ℕ). settled n b (book_accepts b Undo)) (history_none b c.if-self-eq0.true))
 
 pub last-last-requires : goal.last-last-requires
-last-last-requires c =
-    let sound-self : SoundParts c.args.self = sound-parts _ (record { places = search (rules, length_mapped); entries = search (rules, length_mapped); matrix = search rules; right = search rules }) c.requires in
-    sound-self.journal.next
+last-last-requires c = (parts (goal.at.last-last-requires c).Else-self-eq0).journal.next
 
 pub pop-shorter-requires : goal.pop-shorter-requires
-pop-shorter-requires c =
-    let sound-self : SoundParts c.args.self = sound-parts _ (record { places = search (rules, length_mapped); entries = search (rules, length_mapped); matrix = search rules; right = search rules }) c.requires in
-    let some : 0 < c.args.self.journal.count = search rules in
-    (some, sound-self.journal.next)
+pop-shorter-requires c = let e = (goal.at.pop-shorter-requires c).Else-self-eq0 in (some e, (parts e).journal.next)
 
-pub put-book-requires : goal.put-book-requires
-put-book-requires c =
-    let sound-self : SoundParts c.args.self = sound-parts _ (record { places = search (rules, length_mapped); entries = search (rules, length_mapped); matrix = search rules; right = search rules }) c.requires in
-    let some : 0 < c.args.self.journal.count = search rules in
-    let m = latest-undoes c.args.self sound-self some in
-    rw c.last-last.ensures (m.inside, m.fits, sound-self)
+pub put-requires : goal.put-requires
+put-requires c =
+    let e = (goal.at.put-requires c).Else-self-eq0 in
+    let m = latest-undoes (fresh c.args.self.now) (parts e) (some e) in
+    rw c.last-last.ensures (m.inside, m.fits, c.requires)
 
-pub returns : goal.returns
-unfolding call_no book_accepts
-returns c =
-    let sound-self : SoundParts c.args.self = sound-parts _ (record { places = search (rules, length_mapped); entries = search (rules, length_mapped); matrix = search rules; right = search rules }) c.requires in
-    call_done c.args.self Undo _ sound-self
-    (ap (λ (x : Book). record { refusal = 0; book = x }) (undone-is c.args.self _ _ _ c.last-last.ensures c.pop-shorter.ensures c.put-book.ensures)
-    ∙ undo_done _ _ _ c.if-count-eq0.false)
+pub returns-clause-outcome : goal.returns-clause-outcome
+returns-clause-outcome c =
+    let e = (goal.at.returns-clause-outcome c).Else-self-eq0 in
+    (undo_done c.args.self.now _ (parts e) (history_some c.args.self.now c.if-self-eq0.false) (undone-is c.args.self.now _ _ _ c.last-last.ensures c.pop-shorter.ensures c.put.ensures)).0
+
+pub returns-clause-sound : goal.returns-clause-sound
+returns-clause-sound c =
+    let e = (goal.at.returns-clause-sound c).Else-self-eq0 in
+    (undo_done c.args.self.now _ (parts e) (history_some c.args.self.now c.if-self-eq0.false) (undone-is c.args.self.now _ _ _ c.last-last.ensures c.pop-shorter.ensures c.put.ensures)).1

@@ -1,5 +1,5 @@
 -- The loop's invariant: the book is that after the first k rows, and the first k answers are those to them.
-use Prim.Native.Nat.{ℕ, ◌-◌, ◌≤◌}
+use Prim.Native.Nat.{ℕ}
 use mathlib.Core.Path.{◌≡◌}
 use mathlib.Core.Bool.{true}
 use mathlib.Core.List.{List}
@@ -17,7 +17,4 @@ abbrev pub said : Book → List ℤ → ℕ → ℕ → ℤ
 said b w n k = get_or (answers (row_next book_next) (row_says book_says) b (rows_in w n)) k (pos 0)
 
 abbrev pub invariant-loop-k : goal.invariant-loop-k
-invariant-loop-k l = (l.k ≤ l.n) × Mapped (pos 0) (length l.initial.answers) (said l.initial.state l.calls l.n) l.initial.answers l.answers l.k × (l.state ≡ final (row_next book_next) l.initial.state (take l.k (rows_in l.calls l.n))) × (sound l.state ≡ true)
-
-abbrev pub decreases-loop-k : goal.decreases-loop-k
-decreases-loop-k l = l.n - l.k
+invariant-loop-k l = Mapped (pos 0) (length l.initial.answers) (said l.initial.book l.calls l.n) l.initial.answers l.answers l.k × (l.book ≡ final (row_next book_next) l.initial.book (take l.k (rows_in l.calls l.n))) × (sound l.book ≡ true)

@@ -12,5 +12,5 @@ pub returns : goal.returns
 returns c =
     let h = reversals c.args.journal in
     c.walks_back.ensures
-    ∙ ap (λ (e : List Bool). undoable_by c.args.net e h) c.empties_in-empty.ensures
-    ∙ by_empties c.args.net (places_in c.args.places.now) h
+    ∙ ap (λ (e : List Bool). undoable_by c.args.rules.now.network e h) c.empties_in-empty.ensures
+    ∙ by_empties c.args.rules.now.network (places_in c.args.places.now) h

@@ -9,10 +9,10 @@ use Rattle.network.specs.declared.Record.{Record}
 use Rattle.book.proofs.soundness.empties_in.Goals as goal
 
 pub loop-p-init : goal.loop-p-init
-loop-p-init c = (search rules, starts false 256 _ _ (search rules))
+loop-p-init c = starts false 256 _ _ (search rules)
 
 pub loop-p-preserved : goal.loop-p-preserved
-loop-p-preserved c = (search rules, goes_on false 256 _ _ c.loop-p.empty c.loop-p.p _ (omega arith) c.loop-p.invariant.1 (c.is_empty-none.ensures ∙ ap (λ (r : Record). is_empty r) c.record_at-r.ensures))
+loop-p-preserved c = goes_on false 256 _ _ c.loop-p.empty c.loop-p.p _ (omega arith) c.loop-p.invariant (c.is_empty.ensures ∙ ap (λ (r : Record). is_empty r) c.record_at-r.ensures)
 
 pub returns : goal.returns
-returns c = finish false 256 _ _ c.loop-p.empty c.loop-p.p (omega arith) c.loop-p.invariant.1
+returns c = finish false 256 _ _ c.loop-p.empty c.loop-p.p (omega arith) c.loop-p.invariant
