@@ -15,18 +15,15 @@ pub fn corrections_of(stations: [Station; Unit::STATIONS], x: &[i64]) -> [i64; U
     let number = network::numbers_of(stations);
     let unknown = network::unknowns_of(stations);
     let mut out = [0i64; Unit::COMPONENTS];
-    let mut q = 0;
-    while q < Unit::COMPONENTS {
+    for q in 0..Unit::COMPONENTS {
         let k = number[q];
-        let b = unknown[q];
-        let v = x[k];
-        out[q] = b * v;
-        q = q + 1;
+        out[q] = unknown[q] * x[k];
     }
     out
 }
 
 // The adjusted coordinate of component q: provisional plus correction.
+// Stays: a struct of the two tables would be no plainer, since a residual and a misclosure each take one of them.
 pub fn adjusted(
     coordinate: &[i64; Unit::COMPONENTS],
     correction: &[i64; Unit::COMPONENTS],

@@ -8,8 +8,8 @@ mod verdicts;
 
 pub use components::{adjusted, adjusted_station, corrections_of, residuals_of};
 pub use observations::verdicts_of;
-pub use variances::variances_of;
-pub use verdicts::{global_verdict, verdict_word};
+pub use variances::Covariances;
+pub use verdicts::global_verdict;
 
 // A verdict of the local test, or of the global one.
 #[derive(Clone, Copy)]

@@ -4,12 +4,11 @@ ghost use Rattle.integers.specs.Tables.{Within};
 ghost use Rattle.weights.specs.Quotients.{Quotient};
 ghost use Rattle.network.specs.Units.{most_stations};
 ghost use Rattle.network.specs.Records.{from_of, to_of};
-ghost use Rattle.residuals.specs.Components.{Lookup};
 ghost use Rattle.residuals.specs.Weights.{RecordWeights};
 ghost use Rattle.residuals.specs.Observations.{Divided, adjugate_entry, Observes, verdicts_in};
 
-use super::{Observation, variances};
-use network::{Record, Unit};
+use super::{Covariances, Observation};
+use network::Record;
 use weights::Adjugate;
 
 // What a record's variances are worked out from: of a matrix its adjugate and determinant, of a single weight 1 over it, and 0 over 1 where there is no record.
@@ -39,13 +38,11 @@ fn entry(w: Adjugate, a: usize) -> i64
     requires { (a < 3) × ((k : ℕ) → Quotient (adjugate_entry w k) w.determinant) }
     ensures { result ≡ adjugate_entry w a }
 {
-    if a == 0 {
-        return w.east;
+    match a {
+        0 => w.east,
+        1 => w.north,
+        _ => w.up,
     }
-    if a == 1 {
-        return w.north;
-    }
-    w.up
 }
 
 // Component a of a record with the residuals v.
@@ -69,28 +66,21 @@ fn observation_of(r: Record, w: Adjugate, v: [i64; 3], a: usize) -> Observation
 }
 
 // The verdicts in E, N, U of a record with the residuals v; 0 where it does not act. A record acts in U alone or in all three.
-pub fn verdicts_of(
-    r: Record,
-    v: [i64; 3],
-    number: &[usize; Unit::COMPONENTS],
-    unknown: &[i64; Unit::COMPONENTS],
-    m: &[i64],
-    n: usize,
-) -> [i64; 3]
-    requires { (from_of r < most_stations) × (to_of r < most_stations) × RecordWeights r × Within 3 300000 v × Lookup number.now unknown.now m.now n }
-    ensures { result ≡ verdicts_in number.now unknown.now m.now n r v }
+pub fn verdicts_of(r: Record, v: [i64; 3], c: Covariances) -> [i64; 3]
+    requires { (from_of r < most_stations) × (to_of r < most_stations) × RecordWeights r × Within 3 300000 v }
+    ensures { result ≡ verdicts_in c.entry.number.now c.entry.unknown.now c.entry.m.now c.entry.n r v }
 {
     if network::is_empty(r) {
         return [0, 0, 0];
     }
     let w = adjugate_in(r);
     let up = observation_of(r, w, v, 2);
-    let z = variances::verdict_at(up, number, unknown, m, n);
+    let z = c.verdict_at(up);
     if network::acts_in(r, 0) {
         let east = observation_of(r, w, v, 0);
-        let x = variances::verdict_at(east, number, unknown, m, n);
+        let x = c.verdict_at(east);
         let north = observation_of(r, w, v, 1);
-        let y = variances::verdict_at(north, number, unknown, m, n);
+        let y = c.verdict_at(north);
         return [x, y, z];
     }
     [0, 0, z]

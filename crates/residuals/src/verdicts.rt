@@ -129,16 +129,18 @@ const CHI_SQUARE: [Limits; 30] = [
 ];
 
 // The word that stands for a verdict on a sheet.
-pub fn verdict_word(v: Verdict) -> i64
-    ensures { result ≡ verdict_word v }
-{
-    match v {
-        Verdict::Pass => 0,
-        Verdict::Fail => 1,
-        Verdict::Loose => 2,
-        Verdict::Low => 3,
-        Verdict::High => 4,
-        Verdict::NoVerdict => 5,
+impl From<Verdict> for i64 {
+    ghost from_gives = { λ v w. w ≡ verdict_word v };
+
+    fn from(v: Verdict) -> i64 {
+        match v {
+            Verdict::Pass => 0,
+            Verdict::Fail => 1,
+            Verdict::Loose => 2,
+            Verdict::Low => 3,
+            Verdict::High => 4,
+            Verdict::NoVerdict => 5,
+        }
     }
 }
 
@@ -147,10 +149,10 @@ pub fn local_verdict(v: i64, q: i64) -> Verdict
     requires { (nat_abs v ≤ 300000) × (nat_abs q ≤ 2 ^ 40) }
     ensures { result ≡ local_verdict v q }
 {
-    if words::less(q, 16384) {
+    if q < 16384 {
         return Verdict::Loose;
     }
-    if words::less(60025 * q, v * v * 16777216) {
+    if 60025 * q < v * v * 16777216 {
         return Verdict::Fail;
     }
     Verdict::Pass
@@ -173,10 +175,10 @@ pub fn global_verdict(t: i64, d: i64) -> Verdict
         return Verdict::NoVerdict;
     }
     let pair = limits_at(k);
-    if words::less(t, 1000 * pair.lower) {
+    if t < 1000 * pair.lower {
         return Verdict::Low;
     }
-    if words::less(1000 * pair.upper, t) {
+    if 1000 * pair.upper < t {
         return Verdict::High;
     }
     Verdict::Pass

@@ -16,7 +16,7 @@ use Rattle.residuals.specs.Components.{unknown_index_below, correction_in}
 use Rattle.residuals.proofs.components.corrections_of.Goals as goal
 
 pub loop-q-init : goal.loop-q-init
-loop-q-init c = (search rules, starts (pos 0) 96 _ _ (search rules))
+loop-q-init c = starts (pos 0) 96 _ _ (search rules)
 
 pub offset_bounds-x-k : goal.offset_bounds-x-k
 offset_bounds-x-k c =
@@ -37,13 +37,11 @@ overflow_mul-out c =
 pub loop-q-preserved : goal.loop-q-preserved
 loop-q-preserved c =
     let bits : (q : ℕ) → q < 96 → nat_abs (get_or c.unknowns_of-unknown.result q (pos 0)) ≤ 1 = λ q h. rw (c.unknowns_of-unknown.ensures, get_d_tabulate 96 (λ i. pos (unknown c.args.stations i)) q (pos 0) h) (unknown-bit c.args.stations q) in
-    let b = bits c.loop-q.q (omega (arith, c.loop-q-test.true)) in let v = c.requires.1.bound (get_or c.numbers_of-number.result c.loop-q.q 0) in (
-      search rules,
-      goes_on (pos 0) 96 _ _ c.loop-q.out c.loop-q.q _ (omega (arith, c.loop-q-test.true)) c.loop-q.invariant.1
-          (ringm (get_or c.unknowns_of-unknown.result c.loop-q.q (pos 0) ∷ get_or c.args.x.now (get_or c.numbers_of-number.result c.loop-q.q 0) (pos 0) ∷ []) (search code_shapes depth 20) tt),
-    )
+    let b = bits c.loop-q.q (omega (arith, c.loop-q-test.true)) in let v = c.requires.1.bound (get_or c.numbers_of-number.result c.loop-q.q 0) in
+    goes_on (pos 0) 96 _ _ c.loop-q.out c.loop-q.q _ (omega (arith, c.loop-q-test.true)) c.loop-q.invariant
+    (ringm (get_or c.unknowns_of-unknown.result c.loop-q.q (pos 0) ∷ get_or c.args.x.now (get_or c.numbers_of-number.result c.loop-q.q 0) (pos 0) ∷ []) (search code_shapes depth 20) tt)
 
 pub returns : goal.returns
 returns c =
-    finish (pos 0) 96 _ _ c.loop-q.out c.loop-q.q (omega arith) c.loop-q.invariant.1
+    finish (pos 0) 96 _ _ c.loop-q.out c.loop-q.q (omega arith) c.loop-q.invariant
     ∙ tabulate-ext 96 _ (correction c.args.stations c.args.x.now) (pos 0) (λ q h. rw (c.unknowns_of-unknown.ensures, c.numbers_of-number.ensures) (correction_in c.args.stations c.args.x.now q h))

@@ -5,16 +5,16 @@ use Rattle.lists.specs.Stored.{back}
 use Rattle.residuals.specs.Observations.{adjugate_entry}
 use Rattle.residuals.proofs.observations.entry.Goals as goal
 
-pub returns-then-a-eq0 : goal.returns-then-a-eq0
+pub returns-in-0 : goal.returns-in-0
 unfolding adjugate_entry
-returns-then-a-eq0 c = rw c.if-a-eq0.true (back c.args.w.east (c.requires.1 0).small tt)
+returns-in-0 c = rw c.in-0.is (back c.args.w.east (c.requires.1 0).small tt)
 
-pub returns-then-a-eq1 : goal.returns-then-a-eq1
+pub returns-in-1 : goal.returns-in-1
 unfolding adjugate_entry
-returns-then-a-eq1 c = rw c.if-a-eq1.true (back c.args.w.north (c.requires.1 1).small tt)
+returns-in-1 c = rw c.in-1.is (back c.args.w.north (c.requires.1 1).small tt)
 
-pub returns : goal.returns
+pub returns-in_default : goal.returns-in_default
 unfolding adjugate_entry
-returns c =
-    let e : c.args.a ≡ 2 = omega (arith, c.requires.0, c.if-a-eq1.false, c.if-a-eq0.false) in
+returns-in_default c =
+    let e : c.args.a ≡ 2 = omega (arith, c.requires.0) in
     rw e (back c.args.w.up (c.requires.1 2).small tt)

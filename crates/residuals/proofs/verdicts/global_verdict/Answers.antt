@@ -46,12 +46,12 @@ overflow_mul-pair c =
     let q = small-lower c.args.t c.args.d c.index_in-k.result c.limits_at-pair.result c.ranges.t index (omega arith) c.limits_at-pair.ensures in
     fit (search code_bounds depth 20) tt
 
-pub returns-then-less : goal.returns-then-less
-returns-then-less c =
+pub returns-then-t-pair : goal.returns-then-t-pair
+returns-then-t-pair c =
     let index : c.index_in-k.result ≡ index_in c.args.d 30 = c.index_in-k.ensures ∙ ap (λ (z : ℤ). index_in z 30) (to_z-of_z w64 c.args.d c.ranges.d) in
     let inside : c.index_in-k.result < 30 = omega (arith, c.if-k-ge30.false) in
     sym (global_inside c.args.t c.args.d c.index_in-k.result index inside
-    ∙ rw (below c.args.t c.args.d c.index_in-k.result c.limits_at-pair.result c.ranges.t index inside c.limits_at-pair.ensures true (sym c.less.ensures ∙ c.if-less.true)))
+    ∙ rw (below c.args.t c.args.d c.index_in-k.result c.limits_at-pair.result c.ranges.t index inside c.limits_at-pair.ensures true c.if-t-pair.true))
 
 pub overflow_mul-pair-2 : goal.overflow_mul-pair-2
 overflow_mul-pair-2 c =
@@ -59,14 +59,14 @@ overflow_mul-pair-2 c =
     let q = small-upper c.args.t c.args.d c.index_in-k.result c.limits_at-pair.result c.ranges.t index (omega arith) c.limits_at-pair.ensures in
     fit (search code_bounds depth 20) tt
 
-pub returns-then-less-2 : goal.returns-then-less-2
-returns-then-less-2 c =
+pub returns-then-pair-t : goal.returns-then-pair-t
+returns-then-pair-t c =
     let index : c.index_in-k.result ≡ index_in c.args.d 30 = c.index_in-k.ensures ∙ ap (λ (z : ℤ). index_in z 30) (to_z-of_z w64 c.args.d c.ranges.d) in
     let inside : c.index_in-k.result < 30 = omega (arith, c.if-k-ge30.false) in
     sym (global_inside c.args.t c.args.d c.index_in-k.result index inside
     ∙ rw (
-      below c.args.t c.args.d c.index_in-k.result c.limits_at-pair.result c.ranges.t index inside c.limits_at-pair.ensures false (sym c.less.ensures ∙ c.if-less.false),
-      above c.args.t c.args.d c.index_in-k.result c.limits_at-pair.result c.ranges.t index inside c.limits_at-pair.ensures true (sym c.less-2.ensures ∙ c.if-less-2.true),
+      below c.args.t c.args.d c.index_in-k.result c.limits_at-pair.result c.ranges.t index inside c.limits_at-pair.ensures false c.if-t-pair.false,
+      above c.args.t c.args.d c.index_in-k.result c.limits_at-pair.result c.ranges.t index inside c.limits_at-pair.ensures true c.if-pair-t.true,
     ))
 
 pub returns : goal.returns
@@ -75,6 +75,6 @@ returns c =
     let inside : c.index_in-k.result < 30 = omega (arith, c.if-k-ge30.false) in
     sym (global_inside c.args.t c.args.d c.index_in-k.result index inside
     ∙ rw (
-      below c.args.t c.args.d c.index_in-k.result c.limits_at-pair.result c.ranges.t index inside c.limits_at-pair.ensures false (sym c.less.ensures ∙ c.if-less.false),
-      above c.args.t c.args.d c.index_in-k.result c.limits_at-pair.result c.ranges.t index inside c.limits_at-pair.ensures false (sym c.less-2.ensures ∙ c.if-less-2.false),
+      below c.args.t c.args.d c.index_in-k.result c.limits_at-pair.result c.ranges.t index inside c.limits_at-pair.ensures false c.if-t-pair.false,
+      above c.args.t c.args.d c.index_in-k.result c.limits_at-pair.result c.ranges.t index inside c.limits_at-pair.ensures false c.if-pair-t.false,
     ))

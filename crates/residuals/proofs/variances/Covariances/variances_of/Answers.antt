@@ -5,7 +5,7 @@ use mathlib.Core.List.{◌∷◌}
 use mir.Syntax.{w64}
 use mir.ValLaws.{to_z-of_z}
 use Rattle.residuals.specs.Components.{variances_in}
-use Rattle.residuals.proofs.variances.variances_of.Goals as goal
+use Rattle.residuals.proofs.variances.Covariances.variances_of.Goals as goal
 
 pub returns : goal.returns
 unfolding variances_in

@@ -1,6 +1,6 @@
 -- By the verdict. Assumes nothing.
 use Rattle.residuals.specs.Verdicts.{verdict_word}
-use Rattle.residuals.proofs.verdicts.verdict_word.Goals as goal
+use Rattle.residuals.proofs.verdicts.I64FromVerdict.from.Goals as goal
 
 pub returns-in-Pass : goal.returns-in-Pass
 unfolding verdict_word
