@@ -15,9 +15,8 @@ use Rattle.normals.specs.ByRules.{ByRules, record_sound}
 use Rattle.normals.specs.Formulas.{entry_n, entry_u, matrix_of, right_of}
 use Rattle.normals.specs.Entries.{matrix_at, right_at_lem, matrix_within, right_within}
 use Rattle.acceptance.specs.Tests.{at, by_rows, normal_residual, defect_small, residual_small, refinement_small}
-use Rattle.acceptance.specs.Judge.{judge}
+use Rattle.acceptance.specs.Judge.{Answer, judge}
 use Rattle.acceptance.specs.JudgeLaws.{BookInRange, all_same}
-use Rattle.acceptance.specs.declared.Answer.{Answer}
 
 -- ════ the answer on the book's own N = AᵀPA and u = AᵀPl
 unfoldable pub answer : Network → List Place → List ℤ → List ℤ → Bool → Answer

@@ -1,6 +1,6 @@
 -- The answer is that of the seven tests made in turn: the first that fails settles it, and it is accepted exactly when all are passed. Assumes nothing.
 use Prim.Native.Nat.{ℕ, zero, suc, ◌+◌, ◌<◌}
-use Rattle.std.specs.Prelude.{◌≡◌, Bool, true, false, ◌⊎◌, List, ℤ}
+use Rattle.std.specs.Prelude.{◌≡◌, Bool, true, false, ◌⊎◌, List, ℤ, Ok, Err}
 use Rattle.std.proofs.Math.Path.{refl}
 use Rattle.std.proofs.Common.{sym, ap, ◌∙◌, subst, inl, inr, arith}
 use Rattle.std.proofs.Math.Decide.{ℕ_discrete}
@@ -11,22 +11,20 @@ use Rattle.network.specs.Stations.{unknown_count}
 use Rattle.normals.specs.Formulas.{entry_n, entry_u}
 use Rattle.chains.specs.Chains.{all_tied, first_untied}
 use Rattle.acceptance.specs.Tests.{at, by_rows, lengths_fit, corrections_small, inverse_small, defect_small, residual_small, refinement_small}
-use Rattle.acceptance.specs.Judge.{refusal_number, answer_number, refuse_unless, judge_numbers, judge}
+use Rattle.acceptance.specs.Judge.{Answer, refusal_number, answer_number, refuse_unless, judge_numbers, judge}
 use Rattle.acceptance.specs.JudgeLaws.{refusal-least}
 use Rattle.acceptance.specs.Exactly.{answer}
-use Rattle.acceptance.specs.declared.Answer.{Answer}
-use Rattle.acceptance.specs.declared.Answer.TheVariants.{Accepted, Refused}
 use Rattle.acceptance.specs.declared.Refusal.{Refusal}
 use Rattle.acceptance.specs.declared.Refusal.TheVariants.{Lengths, Untied, Correction, Inverse, Defect, Residual, Refinement}
 
 -- ════ tests made in turn, from number k on
 unfoldable in_turn : (ℕ → Bool) → (ℕ → Refusal) → ℕ → ℕ → Answer
-in_turn test refusal k zero = Accepted
+in_turn test refusal k zero = Ok tt
 in_turn test refusal k (suc left) = refuse_unless (test k) (refusal k) (in_turn test refusal (suc k) left)
 
 pub data TestsAnswer (test : ℕ → Bool) (refusal : ℕ → Refusal) (all : ℕ) : Answer → Type 0 where
-  passes : ((j : ℕ) → j < all → test j ≡ true) → TestsAnswer test refusal all Accepted
-  fails : (k : ℕ) → k < all → ((j : ℕ) → j < k → test j ≡ true) → test k ≡ false → TestsAnswer test refusal all (Refused (refusal k))
+  passes : ((j : ℕ) → j < all → test j ≡ true) → TestsAnswer test refusal all (Ok tt)
+  fails : (k : ℕ) → k < all → ((j : ℕ) → j < k → test j ≡ true) → test k ≡ false → TestsAnswer test refusal all (Err (refusal k))
 
 tests-answer : (test : ℕ → Bool) (refusal : ℕ → Refusal) (all left k : ℕ) → k + left ≡ all → ((j : ℕ) → j < k → test j ≡ true) → TestsAnswer test refusal all (in_turn test refusal k left)
 unfolding in_turn
@@ -81,9 +79,9 @@ module _ (net : Network) (places : List Place) (x m : List ℤ) (room : Bool) wh
   number_is (suc (suc (suc (suc (suc (suc zero)))))) l = refl
   number_is (suc (suc (suc (suc (suc (suc (suc k))))))) l = absurd (omega arith)
 
-  pub accepted-tests : answer net places x m room ≡ Accepted → (k : ℕ) → k < 7 → computed k ≡ true
+  pub accepted-tests : answer net places x m room ≡ Ok tt → (k : ℕ) → k < 7 → computed k ≡ true
   accepted-tests e = go (answer net places x m room) answer-tested e
     where
-      go : (a : Answer) → TestsAnswer computed refusal 7 a → a ≡ Accepted → (k : ℕ) → k < 7 → computed k ≡ true
+      go : (a : Answer) → TestsAnswer computed refusal 7 a → a ≡ Ok tt → (k : ℕ) → k < 7 → computed k ≡ true
       go a (passes h) q = h
       go a (fails k l before fail) q = absurd (omega (arith, refusal-least (refusal k), ap answer_number q))

@@ -1,14 +1,16 @@
 -- The answer to a check before its sheet: the first of the seven tests that fails, or acceptance. Assumes nothing.
-use Rattle.std.specs.Prelude.{ℕ, Bool, true, false, List, ℤ}
+use Rattle.std.specs.Prelude.{ℕ, Bool, true, false, List, ℤ, Result, Ok, Err}
 use Rattle.network.specs.Stations.{unknown_count}
 use Rattle.network.specs.declared.Network.{Network}
 use Rattle.network.specs.declared.Place.{Place}
 use Rattle.chains.specs.Chains.{all_tied, first_untied}
 use Rattle.acceptance.specs.Tests.{at, by_rows, lengths_fit, corrections_small, inverse_small, defect_small, residual_small, refinement_small}
-use Rattle.acceptance.specs.declared.Answer.{Answer}
-use Rattle.acceptance.specs.declared.Answer.TheVariants.{Accepted, Refused}
 use Rattle.acceptance.specs.declared.Refusal.{Refusal}
 use Rattle.acceptance.specs.declared.Refusal.TheVariants.{Lengths, Untied, Correction, Inverse, Defect, Residual, Refinement, TooLarge}
+
+-- what a check answers: nothing more where the pair is accepted, else why it is refused
+abbrev pub Answer : Type 0
+Answer = Result (Unit {0}) Refusal
 
 -- ════ this paper's numbers
 -- "10..16 | check | test 1, 2, 3, 4, 5, 6, 7 fails, in that order"; 9: "an entry of N or u, or T, beyond ±2^62"
@@ -24,8 +26,8 @@ refusal_number TooLarge = 9
 
 -- 0 where "the call is not refused"
 abbrev pub answer_number : Answer → ℕ
-answer_number Accepted = 0
-answer_number (Refused refusal) = refusal_number refusal
+answer_number (Ok u) = 0
+answer_number (Err refusal) = refusal_number refusal
 
 -- "for 11 also the first unknown without a chain", by its number from 1; 0 in every other answer
 abbrev pub refusal_unknown : Refusal → ℕ
@@ -39,14 +41,14 @@ refusal_unknown Refinement = 0
 refusal_unknown TooLarge = 0
 
 abbrev pub answer_unknown : Answer → ℕ
-answer_unknown Accepted = 0
-answer_unknown (Refused refusal) = refusal_unknown refusal
+answer_unknown (Ok u) = 0
+answer_unknown (Err refusal) = refusal_unknown refusal
 
 -- ════ the tests in their order
 -- a test that fails settles the answer
 abbrev pub refuse_unless : Bool → Refusal → Answer → Answer
 refuse_unless true refusal next = next
-refuse_unless false refusal next = Refused refusal
+refuse_unless false refusal next = Err refusal
 
 -- tests 3 to 7; M by rows of n
 unfoldable pub judge_numbers : ℕ → (ℕ → ℕ → ℤ) → (ℕ → ℤ) → List ℤ → List ℤ → Answer
@@ -56,7 +58,7 @@ judge_numbers n N u x m =
     (refuse_unless (defect_small n N (by_rows n m)) Defect
     (refuse_unless (residual_small n N u (at x)) Residual
     (refuse_unless (refinement_small n N (by_rows n m) u (at x)) Refinement
-    Accepted))))
+    (Ok tt)))))
 
 -- all seven, with N and u of the book; room: the sheet, where one is lent, has room
 unfoldable pub judge : Network → List Place → (ℕ → ℕ → ℤ) → (ℕ → ℤ) → List ℤ → List ℤ → Bool → Answer

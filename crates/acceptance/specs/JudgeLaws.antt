@@ -1,7 +1,8 @@
 -- What the code of the answer cites: the sizes that a passed test gives to those after it, and tests 6 and 7 over a list that holds r.
-use Rattle.std.specs.Prelude.{ℕ, ◌*◌, ◌^◌, ◌<◌, ◌≤◌, ◌≡◌, Bool, true, List, eqb, length, ℤ, nat_abs, ◌*ℤ◌}
+use Rattle.std.specs.Prelude.{ℕ, ◌*◌, ◌^◌, ◌<◌, ◌≤◌, ◌≡◌, Bool, true, List, eqb, length, take, ℤ, pos, nat_abs, ◌*ℤ◌, Ok, Err}
 use Rattle.std.proofs.Common.{sym, ◌∙◌, arith, leb-true, eqb-true, lit≤}
 use Rattle.std.proofs.Math.Path.{ap}
+use Rattle.std.proofs.lemmas.List.{length-take-le, get_or-take}
 use Rattle.std.proofs.Math.Dec.{leb}
 use Rattle.integers.specs.Sums.{sum, sum-ext}
 use Rattle.integers.specs.Tables.{Within, within-inside}
@@ -15,9 +16,7 @@ use Rattle.normals.specs.Formulas.{matrix_length}
 use Rattle.chains.specs.ChainLaws.{EndsInRange}
 use Rattle.acceptance.specs.Tests.{at, by_rows, lengths_fit, corrections_small, inverse_small, normal_residual, residual_small, refinement_small}
 use Rattle.acceptance.specs.Loops.{Residuals}
-use Rattle.acceptance.specs.Judge.{refusal_number, answer_number}
-use Rattle.acceptance.specs.declared.Answer.{Answer}
-use Rattle.acceptance.specs.declared.Answer.TheVariants.{Accepted, Refused}
+use Rattle.acceptance.specs.Judge.{Answer, refusal_number, answer_number}
 use Rattle.acceptance.specs.declared.Refusal.{Refusal}
 use Rattle.acceptance.specs.declared.Refusal.TheVariants.{Lengths, Untied, Correction, Inverse, Defect, Residual, Refinement, TooLarge}
 
@@ -62,6 +61,12 @@ pub inverse-small : (m : List ℤ) → inverse_small m ≡ true → (k : ℕ) �
 unfolding inverse_small
 inverse-small m e = throughout m (2 ^ 34) e
 
+-- the first n of a list of 48
+pub front-is : (n : ℕ) → n ≤ most_unknowns → (r : List ℤ) → length r ≡ most_unknowns → all_below n (λ k. leb (nat_abs (at r k)) (2 ^ 23)) ≡ all_below (length (take n r)) (λ k. leb (nat_abs (at (take n r) k)) (2 ^ 23))
+front-is n few r long =
+    let e : length (take n r) ≡ n = length-take-le n r (rw long few) in
+    rw e (all_same n _ _ (λ k l. ap (λ (z : ℤ). leb (nat_abs z) (2 ^ 23)) (sym (get_or-take n r k (pos 0) l))))
+
 -- tests 6 and 7 over a list whose first n entries are r
 module _ (n : ℕ) (normal right x m r : List ℤ) (h : Residuals n (normal_residual n (by_rows most_unknowns normal) (at right) (at x)) r) where
   pub residual-is : all_below n (λ k. leb (nat_abs (at r k)) (2 ^ 23)) ≡ residual_small n (by_rows most_unknowns normal) (at right) (at x)
@@ -97,5 +102,5 @@ refusal_most Refinement = lit≤ tt
 refusal_most TooLarge = lit≤ tt
 
 pub number_most_lem : (a : Answer) → answer_number a ≤ 16
-number_most_lem Accepted = lit≤ tt
-number_most_lem (Refused r) = refusal_most r
+number_most_lem (Ok u) = lit≤ tt
+number_most_lem (Err r) = refusal_most r

@@ -8,34 +8,36 @@ ghost use Rattle.acceptance.specs.JudgeLaws.{BookInRange, NumbersInRange};
 
 use super::inverse::rows_near;
 use super::refinement::{normal_residual, refinements_within};
-use super::sizes::first_within;
-use super::{Answer, Refusal, limits};
+use super::sizes::all_within;
+use super::{Refusal, limits};
 use network::{Network, Unit};
 use normals::Normals;
 
 // Document 01's number of a refusal.
-fn refusal_number(refusal: Refusal) -> u64
-    ensures { result ≡ refusal_number refusal }
-{
-    match refusal {
-        Refusal::Lengths => 10,
-        Refusal::Untied(_) => 11,
-        Refusal::Correction => 12,
-        Refusal::Inverse => 13,
-        Refusal::Defect => 14,
-        Refusal::Residual => 15,
-        Refusal::Refinement => 16,
-        Refusal::TooLarge => 9,
+impl From<Refusal> for u64 {
+    ghost from_gives = { λ refusal n. n ≡ refusal_number refusal };
+
+    fn from(refusal: Refusal) -> u64 {
+        match refusal {
+            Refusal::Lengths => 10,
+            Refusal::Untied(_) => 11,
+            Refusal::Correction => 12,
+            Refusal::Inverse => 13,
+            Refusal::Defect => 14,
+            Refusal::Residual => 15,
+            Refusal::Refinement => 16,
+            Refusal::TooLarge => 9,
+        }
     }
 }
 
 // Document 01's number of an answer, 0 where the call is not refused.
-pub fn number(answer: Answer) -> u64
+pub fn number(answer: Result<(), Refusal>) -> u64
     ensures { result ≡ answer_number answer }
 {
     match answer {
-        Answer::Accepted => 0,
-        Answer::Refused(refusal) => refusal_number(refusal),
+        Ok(()) => 0,
+        Err(refusal) => u64::from(refusal),
     }
 }
 
@@ -44,24 +46,18 @@ fn refusal_unknown(refusal: Refusal) -> u64
     ensures { result ≡ refusal_unknown refusal }
 {
     match refusal {
-        Refusal::Lengths => 0,
         Refusal::Untied(unknown) => unknown,
-        Refusal::Correction => 0,
-        Refusal::Inverse => 0,
-        Refusal::Defect => 0,
-        Refusal::Residual => 0,
-        Refusal::Refinement => 0,
-        Refusal::TooLarge => 0,
+        _ => 0,
     }
 }
 
 // The unknown of refusal 11, by its number from 1; 0 in every other answer.
-pub fn unknown(answer: Answer) -> u64
+pub fn unknown(answer: Result<(), Refusal>) -> u64
     ensures { result ≡ answer_unknown answer }
 {
     match answer {
-        Answer::Accepted => 0,
-        Answer::Refused(refusal) => refusal_unknown(refusal),
+        Ok(()) => 0,
+        Err(refusal) => refusal_unknown(refusal),
     }
 }
 
@@ -70,12 +66,7 @@ fn lengths_fit(x: usize, m: usize, n: usize, room: bool) -> bool
     requires { n ≤ most_unknowns }
     ensures { result ≡ (eqb x n && eqb m (n * n) && room) }
 {
-    if x == n {
-        if m == n * n {
-            return room;
-        }
-    }
-    false
+    x == n && m == n * n && room
 }
 
 // Tests 3 to 7.
@@ -85,27 +76,27 @@ fn judge_numbers(
     x: &[i64],
     m: &[i64],
     n: usize,
-) -> Answer
+) -> Result<(), Refusal>
     requires { NumbersInRange n normal.now right.now x.now m.now }
     ensures { result ≡ judge_numbers n (by_rows most_unknowns normal.now) (at right.now) x.now m.now }
 {
-    if !first_within(x, x.len(), limits::CORRECTION) {
-        return Answer::Refused(Refusal::Correction);
+    if !all_within(x, limits::CORRECTION) {
+        return Err(Refusal::Correction);
     }
-    if !first_within(m, m.len(), limits::INVERSE) {
-        return Answer::Refused(Refusal::Inverse);
+    if !all_within(m, limits::INVERSE) {
+        return Err(Refusal::Inverse);
     }
     if !rows_near(m, normal, n) {
-        return Answer::Refused(Refusal::Defect);
+        return Err(Refusal::Defect);
     }
     let r = normal_residual(normal, right, x, n);
-    if !first_within(&r, n, limits::RESIDUAL) {
-        return Answer::Refused(Refusal::Residual);
+    if !all_within(&r[..n], limits::RESIDUAL) {
+        return Err(Refusal::Residual);
     }
     if !refinements_within(m, &r, n) {
-        return Answer::Refused(Refusal::Refinement);
+        return Err(Refusal::Refinement);
     }
-    Answer::Accepted
+    Ok(())
 }
 
 // The seven tests of x and M against the book's stations, lent places, N and u; `room`: the sheet, where one is lent, has room.
@@ -117,19 +108,18 @@ pub fn accept(
     x: &[i64],
     m: &[i64],
     room: bool,
-) -> Answer
+) -> Result<(), Refusal>
     requires { (places_length ≤ length places.now) × BookInRange net (places_in places.now) normal.now right.now }
     ensures { result ≡ judge net (places_in places.now) (by_rows most_unknowns normal.now) (at right.now) x.now m.now room }
 {
     let stations = net.stations;
     let n = network::number_of(stations, Unit::COMPONENTS);
     if !lengths_fit(x.len(), m.len(), n, room) {
-        return Answer::Refused(Refusal::Lengths);
+        return Err(Refusal::Lengths);
     }
-    let q = chains::first_untied(net, places);
-    if q < Unit::COMPONENTS {
+    if let Some(q) = chains::first_untied(net, places) {
         let first = network::number_of(stations, q) + 1;
-        return Answer::Refused(Refusal::Untied(first as u64));
+        return Err(Refusal::Untied(first as u64));
     }
     judge_numbers(normal, right, x, m, n)
 }

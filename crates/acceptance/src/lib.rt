@@ -30,10 +30,3 @@ pub enum Refusal {
     // Refusal 9, where no test fails: an entry of N or u, or T, beyond ±2^62.
     TooLarge,
 }
-
-// What a check answers.
-#[derive(Clone, Copy)]
-pub enum Answer {
-    Accepted,
-    Refused(Refusal),
-}

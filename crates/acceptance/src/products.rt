@@ -10,10 +10,8 @@ pub fn dot(a: &[i64], row: usize, b: &[i64], column: usize, stride: usize, n: us
     ensures { result ≡ sum n (λ k. at a.now (row + k) *ℤ at b.now (column + k * stride)) }
 {
     let mut sum: i64 = 0;
-    let mut k: usize = 0;
-    while k < n {
+    for k in 0..n {
         sum += a[row + k] * b[column + k * stride];
-        k += 1;
     }
     sum
 }

@@ -21,12 +21,10 @@ pub fn normal_residual(
     ensures { Residuals n (normal_residual n (by_rows most_unknowns normal.now) (at right.now) (at x.now)) result }
 {
     let mut out = [0i64; Normals::ROW];
-    let mut i: usize = 0;
-    while i < n {
+    for i in 0..n {
         let d = dot(normal, i * Normals::ROW, x, 0, 1, n);
         let r = right[i] - d;
         out[i] = r;
-        i += 1;
     }
     out
 }
@@ -36,15 +34,11 @@ pub fn refinements_within(m: &[i64], r: &[i64; Normals::ROW], n: usize) -> bool
     requires { RefinementRange n m.now r.now }
     ensures { result ≡ all_below n (λ i. leb (nat_abs (sum n (λ k. by_rows n m.now i k *ℤ at r.now k))) (15 * 2 ^ 26)) }
 {
-    let mut row: usize = 0;
-    let mut i: usize = 0;
-    while i < n {
-        let d = dot(m, row, r, 0, 1, n);
-        if !words::within(d, limits::REFINEMENT) {
+    for i in 0..n {
+        let d = dot(m, i * n, r, 0, 1, n);
+        if d.unsigned_abs() > limits::REFINEMENT {
             return false;
         }
-        row += n;
-        i += 1;
     }
     true
 }

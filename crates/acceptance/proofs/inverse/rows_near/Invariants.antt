@@ -1,5 +1,5 @@
 -- `rows_near` stops at the first row that fails; all before it pass. Assumes nothing.
-use Prim.Native.Nat.{◌≤◌, ◌-◌, ◌*◌, ◌^◌}
+use Prim.Native.Nat.{◌^◌}
 use mathlib.Core.Path.{◌≡◌}
 use mathlib.Core.Bool.{true}
 use lib.Dec.{leb}
@@ -11,7 +11,4 @@ use Rattle.acceptance.specs.Tests.{by_rows}
 use Rattle.acceptance.proofs.inverse.rows_near.Given as goal
 
 abbrev pub invariant-loop-i : goal.invariant-loop-i
-invariant-loop-i l = (l.i ≤ l.n) × ((l.row ≡ l.i * l.n) × (all_below l.i (λ i'. leb (sum_n l.n (λ j. nat_abs (defect l.n (by_rows 48 l.normal) (by_rows l.n l.m) i' j))) (2 ^ 26)) ≡ true))
-
-abbrev pub decreases-loop-i : goal.decreases-loop-i
-decreases-loop-i l = l.n - l.i
+invariant-loop-i l = all_below l.i (λ i'. leb (sum_n l.n (λ j. nat_abs (defect l.n (by_rows 48 l.normal) (by_rows l.n l.m) i' j))) (2 ^ 26)) ≡ true

@@ -10,7 +10,7 @@ use Rattle.chains.specs.ChainLaws.{untied_by, tied_by, untied_number}
 use Rattle.acceptance.specs.Tests.{lengths_fit}
 use Rattle.acceptance.specs.Judge.{judge}
 use Rattle.acceptance.specs.JudgeLaws.{lengths_of}
-use Rattle.acceptance.specs.declared.Answer.TheVariants.{Refused}
+use Rattle.std.specs.Prelude.{Err}
 use Rattle.acceptance.specs.declared.Refusal.TheVariants.{Untied}
 use Rattle.acceptance.proofs.judge.accept.Goals as goal
 
@@ -24,25 +24,25 @@ returns-then-not-lengths_fit c =
     → lengths_fit (unknown_count c.args.net.stations) c.args.x.now c.args.m.now c.args.room ≡ b = λ b e. sym (rw c.number_of-n.ensures at c.lengths_fit.ensures) ∙ e in
     rw (one false c.if-not-lengths_fit.true)
 
-pub first_untied-q-requires : goal.first_untied-q-requires
-first_untied-q-requires c = (c.requires.0, c.requires.1.ends)
+pub first_untied-requires : goal.first_untied-requires
+first_untied-requires c = (c.requires.0, c.requires.1.ends)
 
 pub overflow_add-first : goal.overflow_add-first
 overflow_add-first c =
-    let l = number_small c.args.net.stations c.first_untied-q.result in
-    record { fits = omega (arith, c.number_of-first.ensures, c.if-q-lt-COMPONENTS.true) }
+    let l = number_small c.args.net.stations c.in-Some.q in
+    record { fits = omega (arith, c.number_of-first.ensures, c.in-Some.ensures.in_range) }
 
-pub returns-then-q-lt-COMPONENTS : goal.returns-then-q-lt-COMPONENTS
+pub returns-in-Some : goal.returns-in-Some
 unfolding judge lengths_fit
-returns-then-q-lt-COMPONENTS c =
+returns-in-Some c =
     let one : (b : Bool) → c.lengths_fit.result ≡ b
     → lengths_fit (unknown_count c.args.net.stations) c.args.x.now c.args.m.now c.args.room ≡ b = λ b e. sym (rw c.number_of-n.ensures at c.lengths_fit.ensures) ∙ e in
-    let u = c.first_untied-q.ensures in
+    let u = c.in-Some.ensures.position in
     rw (
       one true c.if-not-lengths_fit.false,
-      untied_by c.args.net (places_in c.args.places.now) u c.if-q-lt-COMPONENTS.true,
+      untied_by c.args.net (places_in c.args.places.now) u c.in-Some.ensures.in_range,
     )
-    (ap (λ (k : ℕ). Refused (Untied k)) (ap (λ (k : ℕ). k + 1) c.number_of-first.ensures ∙ sym (untied_number c.args.net (places_in c.args.places.now) u)))
+    (ap (λ (k : ℕ). Err (Untied k)) (ap (λ (k : ℕ). k + 1) c.number_of-first.ensures ∙ sym (untied_number c.args.net (places_in c.args.places.now) u)))
 
 pub judge_numbers-requires : goal.judge_numbers-requires
 unfolding lengths_fit
@@ -66,6 +66,6 @@ returns c =
     → lengths_fit (unknown_count c.args.net.stations) c.args.x.now c.args.m.now c.args.room ≡ b = λ b e. sym (rw c.number_of-n.ensures at c.lengths_fit.ensures) ∙ e in
     rw (
       one true c.if-not-lengths_fit.false,
-      tied_by c.args.net (places_in c.args.places.now) c.first_untied-q.ensures c.if-q-lt-COMPONENTS.false,
+      tied_by c.args.net (places_in c.args.places.now) c.in_default.ensures.position (omega arith),
     )
     (rw c.number_of-n.ensures at c.judge_numbers.ensures)

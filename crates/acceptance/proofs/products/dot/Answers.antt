@@ -10,7 +10,7 @@ use Rattle.acceptance.specs.Tests.{at}
 use Rattle.acceptance.proofs.products.dot.Goals as goal
 
 pub loop-k-init : goal.loop-k-init
-loop-k-init c = (omega arith, sym (sum_zero _))
+loop-k-init c = sym (sum_zero _)
 
 pub overflow_add-sum : goal.overflow_add-sum
 overflow_add-sum c = omega (arith, c.requires.along)
@@ -47,7 +47,7 @@ overflow_mul-sum-in-loop-k c =
     let right : ℕ → ℤ = λ k. at c.args.b.now (c.args.column + k * c.args.stride) in
     let this-turn : Turn (left c.loop-k.k) (right c.loop-k.k)
     c.loop-k.sum-bits
-    (Sum (c.loop-k.k + 1) (λ k. left k *ℤ right k)) = turn (factors c.requires) c.loop-k-test.true c.loop-k.invariant.1 in
+    (Sum (c.loop-k.k + 1) (λ k. left k *ℤ right k)) = turn (factors c.requires) c.loop-k-test.true c.loop-k.invariant in
     this-turn.mul
 
 pub overflow_add-sum-in-loop-k-2 : goal.overflow_add-sum-in-loop-k-2
@@ -56,14 +56,8 @@ overflow_add-sum-in-loop-k-2 c =
     let right : ℕ → ℤ = λ k. at c.args.b.now (c.args.column + k * c.args.stride) in
     let this-turn : Turn (left c.loop-k.k) (right c.loop-k.k)
     c.loop-k.sum-bits
-    (Sum (c.loop-k.k + 1) (λ k. left k *ℤ right k)) = turn (factors c.requires) c.loop-k-test.true c.loop-k.invariant.1 in
+    (Sum (c.loop-k.k + 1) (λ k. left k *ℤ right k)) = turn (factors c.requires) c.loop-k-test.true c.loop-k.invariant in
     this-turn.add
-
-pub overflow_add-k : goal.overflow_add-k
-overflow_add-k c = omega arith
-
-pub loop-k-smaller : goal.loop-k-smaller
-loop-k-smaller c = omega arith
 
 pub loop-k-preserved : goal.loop-k-preserved
 loop-k-preserved c =
@@ -71,10 +65,10 @@ loop-k-preserved c =
     let right : ℕ → ℤ = λ k. at c.args.b.now (c.args.column + k * c.args.stride) in
     let this-turn : Turn (left c.loop-k.k) (right c.loop-k.k)
     c.loop-k.sum-bits
-    (Sum (c.loop-k.k + 1) (λ k. left k *ℤ right k)) = turn (factors c.requires) c.loop-k-test.true c.loop-k.invariant.1 in
-    (omega arith, this-turn.next)
+    (Sum (c.loop-k.k + 1) (λ k. left k *ℤ right k)) = turn (factors c.requires) c.loop-k-test.true c.loop-k.invariant in
+    this-turn.next
 
 pub returns : goal.returns
 returns c =
     let e : c.loop-k.k ≡ c.args.n = omega arith in
-    c.loop-k.invariant.1 ∙ rw e
+    c.loop-k.invariant ∙ rw e

@@ -10,7 +10,7 @@ use Rattle.acceptance.specs.Loops.{normal-factors, vector_dot, dot_small, Differ
 use Rattle.acceptance.proofs.refinement.normal_residual.Goals as goal
 
 pub loop-i-init : goal.loop-i-init
-loop-i-init c = (omega arith, starts (pos 0) 48 _ _ (search rules))
+loop-i-init c = starts (pos 0) 48 _ _ (search rules)
 
 pub overflow_mul-i : goal.overflow_mul-i
 overflow_mul-i c = let f = c.requires.few in omega arith
@@ -34,13 +34,11 @@ pub loop-i-preserved : goal.loop-i-preserved
 loop-i-preserved c =
     let small : nat_abs c.dot-d.result ≤ 48 * 2 ^ 57 = rw c.dot-d.ensures (dot_small (normal-factors c.requires c.loop-i.i c.loop-i-test.true)) in
     let less : Difference (at c.args.right.now c.loop-i.i) c.dot-d.result = let b = c.requires.absolute.bound c.loop-i.i in difference _ _ (omega (arith, small)) in
-    let f = c.requires.few in (
-      omega arith,
-      goes_on (pos 0) 48 _ _ c.loop-i.out c.loop-i.i _ (omega arith) c.loop-i.invariant.1
-          (less.is
-          ∙ ap (λ (z : ℤ). at c.args.right.now c.loop-i.i -ℤ z)
-          (c.dot-d.ensures ∙ vector_dot c.args.n c.args.normal.now c.args.x.now (c.loop-i.i * 48) c.loop-i.i 48 refl)),
-    )
+    let f = c.requires.few in
+    goes_on (pos 0) 48 _ _ c.loop-i.out c.loop-i.i _ (omega arith) c.loop-i.invariant
+    (less.is
+    ∙ ap (λ (z : ℤ). at c.args.right.now c.loop-i.i -ℤ z)
+    (c.dot-d.ensures ∙ vector_dot c.args.n c.args.normal.now c.args.x.now (c.loop-i.i * 48) c.loop-i.i 48 refl))
 
 pub returns : goal.returns
-returns c = record { room = c.loop-i.invariant.1.long; is = λ k h. c.loop-i.invariant.1.done k (omega arith) }
+returns c = record { room = c.loop-i.invariant.long; is = λ k h. c.loop-i.invariant.done k (omega arith) }

@@ -1,12 +1,8 @@
 -- `normal_residual` has the first i entries of u − Nx at each turn. Assumes nothing.
-use Prim.Native.Nat.{◌≤◌, ◌-◌}
 use lib.IntN.{pos}
 use Rattle.lists.specs.Filling.{Mapped}
 use Rattle.acceptance.specs.Tests.{at, by_rows, normal_residual}
 use Rattle.acceptance.proofs.refinement.normal_residual.Given as goal
 
 abbrev pub invariant-loop-i : goal.invariant-loop-i
-invariant-loop-i l = (l.i ≤ l.n) × Mapped (pos 0) 48 (normal_residual l.n (by_rows 48 l.normal) (at l.right) (at l.x)) l.initial.out l.out l.i
-
-abbrev pub decreases-loop-i : goal.decreases-loop-i
-decreases-loop-i l = l.n - l.i
+invariant-loop-i l = Mapped (pos 0) 48 (normal_residual l.n (by_rows 48 l.normal) (at l.right) (at l.x)) l.initial.out l.out l.i

@@ -1,5 +1,5 @@
 -- `refinements_within` stops at the first row that fails; all before it are within. Assumes nothing.
-use Prim.Native.Nat.{◌≤◌, ◌-◌, ◌*◌, ◌^◌}
+use Prim.Native.Nat.{◌*◌, ◌^◌}
 use mathlib.Core.Path.{◌≡◌}
 use mathlib.Core.Bool.{true}
 use lib.Dec.{leb}
@@ -10,7 +10,4 @@ use Rattle.acceptance.specs.Tests.{at, by_rows}
 use Rattle.acceptance.proofs.refinement.refinements_within.Given as goal
 
 abbrev pub invariant-loop-i : goal.invariant-loop-i
-invariant-loop-i l = (l.i ≤ l.n) × ((l.row ≡ l.i * l.n) × (all_below l.i (λ i'. leb (nat_abs (sum l.n (λ k. by_rows l.n l.m i' k *ℤ at l.r k))) (15 * 2 ^ 26)) ≡ true))
-
-abbrev pub decreases-loop-i : goal.decreases-loop-i
-decreases-loop-i l = l.n - l.i
+invariant-loop-i l = all_below l.i (λ i'. leb (nat_abs (sum l.n (λ k. by_rows l.n l.m i' k *ℤ at l.r k))) (15 * 2 ^ 26)) ≡ true
