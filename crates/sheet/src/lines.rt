@@ -55,14 +55,9 @@ pub fn put_record(
     requires { (at + line_length r ≤ length sheet.old) × (p < place_count) }
     ensures { (result ≡ at + line_length r) × (sheet.new ≡ pasted sheet.old at (line_of (observations r) p v w)) }
 {
-    let n = network::observations_of(r);
-    if n == 0 {
-        return at;
+    match network::observations_of(r) {
+        0 => at,
+        1 => put_line(sheet, at, &three_words(p, v, w)),
+        _ => put_line(sheet, at, &seven_words(p, v, w)),
     }
-    if n == 1 {
-        let short = three_words(p, v, w);
-        return put_line(sheet, at, &short);
-    }
-    let line = seven_words(p, v, w);
-    put_line(sheet, at, &line)
 }

@@ -8,29 +8,30 @@ ghost use Rattle.sheet.specs.Sheet.{station_lines_words, record_lines_words, she
 ghost use Rattle.sheet.specs.Totals.{word_count};
 ghost use Rattle.residuals.specs.Verdicts.{verdict_word, global_verdict};
 
-use super::{lines, totals};
+use super::{lines, tables, totals};
 use network::{Network, Unit};
+use residuals::Covariances;
 
 // The stations' lines, stored from index `from` on.
 fn put_stations(sheet: &mut [i64], from: usize, net: Network, x: &[i64], m: &[i64])
     requires { Moved net x.now × Inverse net m.now × (from + 7 * net.count ≤ length sheet.old) }
     ensures { sheet.new ≡ pasted sheet.old from (station_lines_words net.stations x.now m.now net.count) }
 {
-    let stations = net.stations;
-    let count = net.count;
-    let n = network::number_of(stations, Unit::COMPONENTS);
-    let number = network::numbers_of(stations);
-    let unknown = network::unknowns_of(stations);
-    let coordinate = network::coordinates_of(stations);
-    let correction = residuals::corrections_of(stations, x);
+    let t = tables::tables_of(net.stations, x);
+    let coordinate = &t.coordinate;
+    let correction = &t.correction;
+    let covariances = Covariances {
+        number: &t.number,
+        unknown: &t.unknown,
+        m,
+        n: t.n,
+    };
     let mut at = from;
-    let mut s = 0;
-    while s < count {
-        let x = residuals::adjusted_station(&coordinate, &correction, s);
-        let e = residuals::variances_of(&number, &unknown, m, n, s);
+    for s in 0..net.count {
+        let x = residuals::adjusted_station(coordinate, correction, s);
+        let e = covariances.variances_of(s);
         let line = lines::seven_words(s, x, e);
         at = lines::put_line(sheet, at, &line);
-        s = s + 1;
     }
 }
 
@@ -39,20 +40,21 @@ fn put_records(sheet: &mut [i64], from: usize, net: Network, places: &[i64], x: 
     requires { (places_length ≤ length places.now) × Solved net (places_in places.now) x.now × Inverse net m.now × (from + word_count (places_in places.now) ≤ length sheet.old) }
     ensures { sheet.new ≡ pasted sheet.old from (record_lines_words net.stations x.now m.now (places_in places.now) place_count) }
 {
-    let stations = net.stations;
-    let n = network::number_of(stations, Unit::COMPONENTS);
-    let number = network::numbers_of(stations);
-    let unknown = network::unknowns_of(stations);
-    let coordinate = network::coordinates_of(stations);
-    let correction = residuals::corrections_of(stations, x);
+    let t = tables::tables_of(net.stations, x);
+    let coordinate = &t.coordinate;
+    let correction = &t.correction;
+    let covariances = Covariances {
+        number: &t.number,
+        unknown: &t.unknown,
+        m,
+        n: t.n,
+    };
     let mut at = from;
-    let mut p = 0;
-    while p < Unit::PLACES {
+    for p in 0..Unit::PLACES {
         let r = network::record_at(places, p);
-        let v = residuals::residuals_of(&coordinate, &correction, r);
-        let w = residuals::verdicts_of(r, v, &number, &unknown, m, n);
+        let v = residuals::residuals_of(coordinate, correction, r);
+        let w = residuals::verdicts_of(r, v, covariances);
         at = lines::put_record(sheet, at, p, r, v, w);
-        p = p + 1;
     }
 }
 
@@ -70,7 +72,7 @@ fn count_line(records: usize, n: usize) -> [i64; 2]
 fn global_line(t: i64, d: i64) -> [i64; 3]
     ensures { result ≡ t ∷ d ∷ verdict_word (global_verdict t d) ∷ [] }
 {
-    let w = residuals::verdict_word(residuals::global_verdict(t, d));
+    let w = i64::from(residuals::global_verdict(t, d));
     [t, d, w]
 }
 

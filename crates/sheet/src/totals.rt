@@ -2,6 +2,7 @@
 ghost use Rattle.std.specs.Prelude.{◌≡◌, ◌+◌, ◌*◌, ◌<◌, ◌≤◌, pos, ◌*ℤ◌, get_or, length};
 ghost use Rattle.integers.specs.Sums.{sum};
 ghost use Rattle.integers.specs.Tables.{Within};
+ghost use Rattle.words.specs.Signed.{eq_z};
 ghost use Rattle.network.specs.Units.{most_stations, most_components};
 ghost use Rattle.network.specs.Places.{places_length, places_in};
 ghost use Rattle.network.specs.Records.{from_of, to_of};
@@ -23,7 +24,7 @@ pub struct Counts {
 fn is_record(r: Record) -> usize
     ensures { result ≡ is_record r }
 {
-    if network::is_empty(r) { 0 } else { 1 }
+    usize::from(!network::is_empty(r))
 }
 
 // The words of a record's line: the place, and a residual and a verdict for each component that the record observes.
@@ -40,14 +41,20 @@ pub fn counts_of(places: &[i64]) -> Counts
 {
     let mut records = 0;
     let mut words = 0;
-    let mut p = 0;
-    while p < Unit::PLACES {
+    for p in 0..Unit::PLACES {
         let r = network::record_at(places, p);
-        records = records + is_record(r);
-        words = words + words_in(r);
-        p = p + 1;
+        records += is_record(r);
+        words += words_in(r);
     }
     Counts { records, words }
+}
+
+// Whether component q is an unknown.
+fn is_unknown(unknown: &[i64; Unit::COMPONENTS], q: usize) -> bool
+    requires { q < most_components }
+    ensures { result ≡ eq_z (get_or unknown.now q (pos 0)) (pos 1) }
+{
+    unknown[q] == 1
 }
 
 // Whether a record is in the adjustment: an end has an unknown in a component in which the record acts. It is enough to look at U, since every record acts in U and every station with
@@ -58,7 +65,7 @@ fn in_adjustment(unknown: &[i64; Unit::COMPONENTS], r: Record) -> bool
 {
     let from = network::from_of(r) * 3 + 2;
     let to = network::to_of(r) * 3 + 2;
-    network::acts_in(r, 2) & (words::same(unknown[from], 1) | words::same(unknown[to], 1))
+    network::acts_in(r, 2) & (is_unknown(unknown, from) | is_unknown(unknown, to))
 }
 
 // What a record adds to D.
@@ -91,11 +98,9 @@ pub fn d_of(net: Network, places: &[i64]) -> i64
     let n = network::number_of(stations, Unit::COMPONENTS);
     let unknown = network::unknowns_of(stations);
     let mut observed = 0;
-    let mut p = 0;
-    while p < Unit::PLACES {
+    for p in 0..Unit::PLACES {
         let r = network::record_at(places, p);
-        observed = observed + share_of_d(&unknown, r);
-        p = p + 1;
+        observed += share_of_d(&unknown, r);
     }
     freedom_of(observed, n)
 }
@@ -142,6 +147,7 @@ fn share_of_t(
 }
 
 // T, the weighted squares of the residuals of the records in the adjustment.
+// Stays: `tables_of` would number the unknowns too, which T has no use for; D has none for coordinates and corrections either.
 pub fn t_of(net: Network, places: &[i64], x: &[i64]) -> i64
     requires { (places_length ≤ length places.now) × Solved net (places_in places.now) x.now }
     ensures { result ≡ T net.stations (places_in places.now) x.now }
@@ -151,11 +157,9 @@ pub fn t_of(net: Network, places: &[i64], x: &[i64]) -> i64
     let coordinate = network::coordinates_of(stations);
     let correction = residuals::corrections_of(stations, x);
     let mut t: i64 = 0;
-    let mut p = 0;
-    while p < Unit::PLACES {
+    for p in 0..Unit::PLACES {
         let r = network::record_at(places, p);
-        t = t + share_of_t(&unknown, &coordinate, &correction, r);
-        p = p + 1;
+        t += share_of_t(&unknown, &coordinate, &correction, r);
     }
     t
 }

@@ -10,4 +10,4 @@ use Rattle.sheet.proofs.sheet.global_line.Goals as goal
 pub returns : goal.returns
 returns c =
     let t = to_z-of_z w64 c.args.t c.ranges.t in let d = to_z-of_z w64 c.args.d c.ranges.d in
-    ap₂ ◌∷◌ t (ap₂ ◌∷◌ d (ap₂ ◌∷◌ (to_z-of_z w64 c.verdict_word-w.result (sfits_of c.verdict_word-w.type_inv) ∙ c.verdict_word-w.ensures ∙ ap verdict_word c.global_verdict.ensures ∙ rw (t, d)) refl))
+    ap₂ ◌∷◌ t (ap₂ ◌∷◌ d (ap₂ ◌∷◌ (to_z-of_z w64 c.from-w.result (sfits_of c.from-w.type_inv) ∙ c.from-w.ensures ∙ ap verdict_word c.global_verdict.ensures ∙ rw (t, d)) refl))

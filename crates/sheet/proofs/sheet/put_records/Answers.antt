@@ -19,15 +19,17 @@ use Rattle.sheet.specs.Lines.{line_of, record_line_words_in, record_length_lem, 
 use Rattle.sheet.proofs.RecordLines.{record_words-room, records_in}
 use Rattle.sheet.proofs.sheet.put_records.Goals as goal
 
-pub corrections_of-correction-requires : goal.corrections_of-correction-requires
-corrections_of-correction-requires c = (some_unknowns c.requires.1.moved, c.requires.1.moved.corrections)
+pub tables_of-t-requires : goal.tables_of-t-requires
+tables_of-t-requires c = (some_unknowns c.requires.1.moved, c.requires.1.moved.corrections)
+
+pub invariant_of-covariances : goal.invariant_of-covariances
+invariant_of-covariances c = record { looked_up = rw (c.tables_of-t.ensures.number, c.tables_of-t.ensures.unknown, c.tables_of-t.ensures.n) (lookup c.requires.1.moved c.args.m.now c.requires.2) }
 
 pub loop-p-init : goal.loop-p-init
 loop-p-init c = (
-  omega arith,
   refl,
   subst (λ (w : List ℤ). Put c.args.sheet.now c.args.from w c.args.sheet.now c.args.from)
-      (sym (record_words-none c.coordinates_of-coordinate.result c.corrections_of-correction.result c.numbers_of-number.result c.unknowns_of-unknown.result c.args.m.now c.number_of-n.result (places_in c.args.places.now)))
+      (sym (record_words-none c.tables_of-t.result.coordinate c.tables_of-t.result.correction c.tables_of-t.result.number c.tables_of-t.result.unknown c.args.m.now c.tables_of-t.result.n (places_in c.args.places.now)))
       (put_none c.args.sheet.now c.args.from),
 )
 
@@ -38,21 +40,20 @@ pub residuals_of-v-requires : goal.residuals_of-v-requires
 residuals_of-v-requires c =
     let places_of : List Place = places_in c.args.places.now in
     let now-at : Record = record_at places_of c.loop-p.p in
-    let closes : c.loop-p.p < 256 → Closes c.coordinates_of-coordinate.result c.corrections_of-correction.result now-at = λ h. rw (c.coordinates_of-coordinate.ensures, c.corrections_of-correction.ensures) (closes_at c.requires.1 c.loop-p.p h) in
+    let closes : c.loop-p.p < 256 → Closes c.tables_of-t.result.coordinate c.tables_of-t.result.correction now-at = λ h. rw (c.tables_of-t.ensures.coordinate, c.tables_of-t.ensures.correction) (closes_at c.requires.1 c.loop-p.p h) in
     rw c.record_at-r.ensures (closes c.loop-p-test.true)
 
 pub verdicts_of-w-requires : goal.verdicts_of-w-requires
 verdicts_of-w-requires c =
     let places_of : List Place = places_in c.args.places.now in
     let now-at : Record = record_at places_of c.loop-p.p in
-    let closes : c.loop-p.p < 256 → Closes c.coordinates_of-coordinate.result c.corrections_of-correction.result now-at = λ h. rw (c.coordinates_of-coordinate.ensures, c.corrections_of-correction.ensures) (closes_at c.requires.1 c.loop-p.p h) in
+    let closes : c.loop-p.p < 256 → Closes c.tables_of-t.result.coordinate c.tables_of-t.result.correction now-at = λ h. rw (c.tables_of-t.ensures.coordinate, c.tables_of-t.ensures.correction) (closes_at c.requires.1 c.loop-p.p h) in
     let h = c.loop-p-test.true in let g = sound-at c.requires.1 c.loop-p.p h in
     rw (c.residuals_of-v.ensures, c.record_at-r.ensures) (
       g.from,
       g.to,
       record_quotients c.args.net now-at (c.requires.1.records c.loop-p.p h),
       residuals_within (closes h),
-      rw (c.numbers_of-number.ensures, c.unknowns_of-unknown.ensures, c.number_of-n.ensures) (lookup c.requires.1.moved c.args.m.now c.requires.2),
     )
 
 pub put_record-at-requires : goal.put_record-at-requires
@@ -60,7 +61,7 @@ put_record-at-requires c =
     let places_of : List Place = places_in c.args.places.now in
     let h = c.loop-p-test.true in (
       subst (λ (r : Record). c.loop-p.at + line_length r ≤ length c.loop-p.sheet) (sym c.record_at-r.ensures)
-          (record_words-room c.coordinates_of-coordinate.result c.corrections_of-correction.result c.numbers_of-number.result c.unknowns_of-unknown.result c.args.m.now c.number_of-n.result places_of c.args.from c.loop-p.at (length c.loop-p.sheet) c.loop-p.p (rw c.loop-p.invariant.1 c.requires.3) c.loop-p.invariant.2.next h),
+          (record_words-room c.tables_of-t.result.coordinate c.tables_of-t.result.correction c.tables_of-t.result.number c.tables_of-t.result.unknown c.args.m.now c.tables_of-t.result.n places_of c.args.from c.loop-p.at (length c.loop-p.sheet) c.loop-p.p (rw c.loop-p.invariant.0 c.requires.3) c.loop-p.invariant.1.next h),
       h,
     )
 
@@ -69,22 +70,21 @@ unfolding record_line_words_in
 loop-p-preserved c =
     let places_of : List Place = places_in c.args.places.now in
     let now-at : Record = record_at places_of c.loop-p.p in
-    let line_at : Record → List ℤ = λ r. record_line_words_in c.numbers_of-number.result c.unknowns_of-unknown.result c.args.m.now c.number_of-n.result c.loop-p.p r (residuals_in c.coordinates_of-coordinate.result c.corrections_of-correction.result r) in
+    let line_at : Record → List ℤ = λ r. record_line_words_in c.tables_of-t.result.number c.tables_of-t.result.unknown c.args.m.now c.tables_of-t.result.n c.loop-p.p r (residuals_in c.tables_of-t.result.coordinate c.tables_of-t.result.correction r) in
     let line : line_of (observations c.record_at-r.result) c.loop-p.p c.residuals_of-v.result c.verdicts_of-w.result ≡ line_at now-at = let v = c.residuals_of-v in let a = c.record_at-r in rw (c.verdicts_of-w.ensures, v.ensures, a.ensures) in
     let q = c.put_record-at in (
-      omega (arith, c.loop-p-test.true),
-      q.auto.sheet ∙ c.loop-p.invariant.1,
-      subst (λ (l : List ℤ). Put c.args.sheet.now c.args.from l q.new.sheet q.result) (sym (record_words-more c.coordinates_of-coordinate.result c.corrections_of-correction.result c.numbers_of-number.result c.unknowns_of-unknown.result c.args.m.now c.number_of-n.result places_of c.loop-p.p))
-          (put_more c.loop-p.invariant.2 (line_at now-at) q.new.sheet q.result (q.ensures.1 ∙ ap (pasted c.loop-p.sheet c.loop-p.at) line)
+      q.auto.sheet ∙ c.loop-p.invariant.0,
+      subst (λ (l : List ℤ). Put c.args.sheet.now c.args.from l q.new.sheet q.result) (sym (record_words-more c.tables_of-t.result.coordinate c.tables_of-t.result.correction c.tables_of-t.result.number c.tables_of-t.result.unknown c.args.m.now c.tables_of-t.result.n places_of c.loop-p.p))
+          (put_more c.loop-p.invariant.1 (line_at now-at) q.new.sheet q.result (q.ensures.1 ∙ ap (pasted c.loop-p.sheet c.loop-p.at) line)
           (q.ensures.0 ∙ ap (λ (r : Record). c.loop-p.at + line_length r) c.record_at-r.ensures ∙ ap (λ (k : ℕ). c.loop-p.at + k)
-          (sym (record_length_lem c.numbers_of-number.result c.unknowns_of-unknown.result c.args.m.now c.number_of-n.result c.loop-p.p now-at (residuals_in c.coordinates_of-coordinate.result c.corrections_of-correction.result now-at))))),
+          (sym (record_length_lem c.tables_of-t.result.number c.tables_of-t.result.unknown c.args.m.now c.tables_of-t.result.n c.loop-p.p now-at (residuals_in c.tables_of-t.result.coordinate c.tables_of-t.result.correction now-at))))),
     )
 
 pub returns : goal.returns
 returns c =
     let places_of : List Place = places_in c.args.places.now in
-    let e : c.loop-p.p ≡ 256 = omega (arith, c.loop-p-test.false, c.loop-p.invariant.0) in
-    c.loop-p.invariant.2.holds
+    let e : c.loop-p.p ≡ 256 = omega arith in
+    c.loop-p.invariant.1.holds
     ∙ ap (pasted c.args.sheet.now c.args.from)
-    (rw (c.coordinates_of-coordinate.ensures, c.corrections_of-correction.ensures, c.numbers_of-number.ensures, c.unknowns_of-unknown.ensures, c.number_of-n.ensures, e)
+    (rw (c.tables_of-t.ensures.coordinate, c.tables_of-t.ensures.correction, c.tables_of-t.ensures.number, c.tables_of-t.ensures.unknown, c.tables_of-t.ensures.n, e)
     (records_in c.args.net.stations c.args.x.now c.args.m.now places_of (λ p h. let g = sound-at c.requires.1 p h in (g.from, g.to))))

@@ -11,15 +11,17 @@ use Rattle.residuals.specs.Ranges.{some_unknowns, corrections_within, lookup}
 use Rattle.sheet.specs.Lines.{seven_words, station_line_words_in, station-length, station_lines_words_in, station_words-none, station_words-more, station_words-length, stations_in, Put, put_none, put_more}
 use Rattle.sheet.proofs.sheet.put_stations.Goals as goal
 
-pub corrections_of-correction-requires : goal.corrections_of-correction-requires
-corrections_of-correction-requires c = (some_unknowns c.requires.0, c.requires.0.corrections)
+pub tables_of-t-requires : goal.tables_of-t-requires
+tables_of-t-requires c = (some_unknowns c.requires.0, c.requires.0.corrections)
+
+pub invariant_of-covariances : goal.invariant_of-covariances
+invariant_of-covariances c = record { looked_up = rw (c.tables_of-t.ensures.number, c.tables_of-t.ensures.unknown, c.tables_of-t.ensures.n) (lookup c.requires.0 c.args.m.now c.requires.1) }
 
 pub loop-s-init : goal.loop-s-init
 loop-s-init c = (
-  omega arith,
   refl,
   subst (λ (w : List ℤ). Put c.args.sheet.now c.args.from w c.args.sheet.now c.args.from)
-      (sym (station_words-none c.coordinates_of-coordinate.result c.corrections_of-correction.result c.numbers_of-number.result c.unknowns_of-unknown.result c.args.m.now c.number_of-n.result))
+      (sym (station_words-none c.tables_of-t.result.coordinate c.tables_of-t.result.correction c.tables_of-t.result.number c.tables_of-t.result.unknown c.args.m.now c.tables_of-t.result.n))
       (put_none c.args.sheet.now c.args.from),
 )
 
@@ -27,14 +29,14 @@ pub adjusted_station-x-requires : goal.adjusted_station-x-requires
 adjusted_station-x-requires c =
     let few : c.loop-s.s < 32 = omega (arith, c.loop-s-test.true, network_few c.args.net c.requires.0.network) in (
       few,
-      rw c.coordinates_of-coordinate.ensures (sound-stations c.args.net c.requires.0.network).provisional,
-      rw c.corrections_of-correction.ensures (corrections_within c.requires.0),
+      rw c.tables_of-t.ensures.coordinate (sound-stations c.args.net c.requires.0.network).provisional,
+      rw c.tables_of-t.ensures.correction (corrections_within c.requires.0),
     )
 
 pub variances_of-e-requires : goal.variances_of-e-requires
 variances_of-e-requires c =
     let few : c.loop-s.s < 32 = omega (arith, c.loop-s-test.true, network_few c.args.net c.requires.0.network) in
-    (few, rw (c.numbers_of-number.ensures, c.unknowns_of-unknown.ensures, c.number_of-n.ensures) (lookup c.requires.0 c.args.m.now c.requires.1))
+    few
 
 pub seven_words-line-requires : goal.seven_words-line-requires
 seven_words-line-requires c =
@@ -44,34 +46,28 @@ seven_words-line-requires c =
 pub put_line-at-requires : goal.put_line-at-requires
 unfolding station_line_words_in
 put_line-at-requires c =
-    let linesAt : ℕ → List ℤ = station_lines_words_in c.coordinates_of-coordinate.result c.corrections_of-correction.result c.numbers_of-number.result c.unknowns_of-unknown.result c.args.m.now c.number_of-n.result in
-    let long : length (linesAt c.loop-s.s) ≡ 7 * c.loop-s.s = station_words-length c.coordinates_of-coordinate.result c.corrections_of-correction.result c.numbers_of-number.result c.unknowns_of-unknown.result c.args.m.now c.number_of-n.result c.loop-s.s in
-    let line_at : ℕ → List ℤ = station_line_words_in c.coordinates_of-coordinate.result c.corrections_of-correction.result c.numbers_of-number.result c.unknowns_of-unknown.result c.args.m.now c.number_of-n.result in
+    let linesAt : ℕ → List ℤ = station_lines_words_in c.tables_of-t.result.coordinate c.tables_of-t.result.correction c.tables_of-t.result.number c.tables_of-t.result.unknown c.args.m.now c.tables_of-t.result.n in
+    let long : length (linesAt c.loop-s.s) ≡ 7 * c.loop-s.s = station_words-length c.tables_of-t.result.coordinate c.tables_of-t.result.correction c.tables_of-t.result.number c.tables_of-t.result.unknown c.args.m.now c.tables_of-t.result.n c.loop-s.s in
+    let line_at : ℕ → List ℤ = station_line_words_in c.tables_of-t.result.coordinate c.tables_of-t.result.correction c.tables_of-t.result.number c.tables_of-t.result.unknown c.args.m.now c.tables_of-t.result.n in
     let line : c.seven_words-line.result ≡ line_at c.loop-s.s = c.seven_words-line.ensures ∙ ap₂ (seven_words c.loop-s.s) c.adjusted_station-x.ensures c.variances_of-e.ensures in
-    let line_long : length c.seven_words-line.result ≡ 7 = ap length line ∙ station-length c.coordinates_of-coordinate.result c.corrections_of-correction.result c.numbers_of-number.result c.unknowns_of-unknown.result c.args.m.now c.number_of-n.result c.loop-s.s in
-    omega (arith, line_long, long, c.loop-s.invariant.2.next, c.loop-s.invariant.1, c.requires.2, c.loop-s-test.true)
-
-pub overflow_add-s : goal.overflow_add-s
-overflow_add-s c =
-    let few : c.loop-s.s < 32 = omega (arith, c.loop-s-test.true, network_few c.args.net c.requires.0.network) in
-    omega (arith, few)
+    let line_long : length c.seven_words-line.result ≡ 7 = ap length line ∙ station-length c.tables_of-t.result.coordinate c.tables_of-t.result.correction c.tables_of-t.result.number c.tables_of-t.result.unknown c.args.m.now c.tables_of-t.result.n c.loop-s.s in
+    omega (arith, line_long, long, c.loop-s.invariant.1.next, c.loop-s.invariant.0, c.requires.2, c.loop-s-test.true)
 
 pub loop-s-preserved : goal.loop-s-preserved
 unfolding station_line_words_in
 loop-s-preserved c =
-    let line_at : ℕ → List ℤ = station_line_words_in c.coordinates_of-coordinate.result c.corrections_of-correction.result c.numbers_of-number.result c.unknowns_of-unknown.result c.args.m.now c.number_of-n.result in
+    let line_at : ℕ → List ℤ = station_line_words_in c.tables_of-t.result.coordinate c.tables_of-t.result.correction c.tables_of-t.result.number c.tables_of-t.result.unknown c.args.m.now c.tables_of-t.result.n in
     let line : c.seven_words-line.result ≡ line_at c.loop-s.s = c.seven_words-line.ensures ∙ ap₂ (seven_words c.loop-s.s) c.adjusted_station-x.ensures c.variances_of-e.ensures in
     let q = c.put_line-at in (
-      omega (arith, c.loop-s-test.true),
-      q.auto.sheet ∙ c.loop-s.invariant.1,
-      subst (λ (w : List ℤ). Put c.args.sheet.now c.args.from w q.new.sheet q.result) (sym (station_words-more c.coordinates_of-coordinate.result c.corrections_of-correction.result c.numbers_of-number.result c.unknowns_of-unknown.result c.args.m.now c.number_of-n.result c.loop-s.s))
-          (put_more c.loop-s.invariant.2 (line_at c.loop-s.s) q.new.sheet q.result
+      q.auto.sheet ∙ c.loop-s.invariant.0,
+      subst (λ (w : List ℤ). Put c.args.sheet.now c.args.from w q.new.sheet q.result) (sym (station_words-more c.tables_of-t.result.coordinate c.tables_of-t.result.correction c.tables_of-t.result.number c.tables_of-t.result.unknown c.args.m.now c.tables_of-t.result.n c.loop-s.s))
+          (put_more c.loop-s.invariant.1 (line_at c.loop-s.s) q.new.sheet q.result
           (q.ensures.1 ∙ ap (pasted c.loop-s.sheet c.loop-s.at) line) (q.ensures.0 ∙ ap (λ (l : List ℤ). c.loop-s.at + length l) line)),
     )
 
 pub returns : goal.returns
 returns c =
-    let e : c.loop-s.s ≡ c.args.net.count = omega (arith, c.loop-s-test.false, c.loop-s.invariant.0) in
-    c.loop-s.invariant.2.holds
+    let e : c.loop-s.s ≡ c.args.net.count = omega arith in
+    c.loop-s.invariant.1.holds
     ∙ ap (pasted c.args.sheet.now c.args.from)
-    (rw (c.coordinates_of-coordinate.ensures, c.corrections_of-correction.ensures, c.numbers_of-number.ensures, c.unknowns_of-unknown.ensures, c.number_of-n.ensures, e) (stations_in c.args.net.stations c.args.x.now c.args.m.now c.args.net.count (network_few c.args.net c.requires.0.network)))
+    (rw (c.tables_of-t.ensures.coordinate, c.tables_of-t.ensures.correction, c.tables_of-t.ensures.number, c.tables_of-t.ensures.unknown, c.tables_of-t.ensures.n, e) (stations_in c.args.net.stations c.args.x.now c.args.m.now c.args.net.count (network_few c.args.net c.requires.0.network)))

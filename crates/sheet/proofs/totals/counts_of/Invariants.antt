@@ -1,11 +1,7 @@
 -- The loop counts the records and words of the places passed (`Counted`). Assumes nothing.
-use Prim.Native.Nat.{◌-◌, ◌≤◌}
 use Rattle.network.specs.Places.{places_in}
 use Rattle.sheet.specs.Totals.{Counted}
 use Rattle.sheet.proofs.totals.counts_of.Given as goal
 
 abbrev pub invariant-loop-p : goal.invariant-loop-p
-invariant-loop-p l = (l.p ≤ 256) × Counted (places_in l.places) l.records l.words l.p
-
-abbrev pub decreases-loop-p : goal.decreases-loop-p
-decreases-loop-p l = 256 - l.p
+invariant-loop-p l = Counted (places_in l.places) l.records l.words l.p

@@ -1,12 +1,14 @@
 -- `is_record`, by whether the record is empty. Assumes nothing.
-use mathlib.Core.Path.{sym, ◌∙◌}
+use Rattle.std.proofs.Common.{◌≡◌, refl, ap, ◌∙◌, Bool, true, false}
+use mir.Val.{bool_byte}
+use Rattle.std.specs.Prelude.{cond, not}
 use Rattle.residuals.specs.Residuals.{is_record}
 use Rattle.sheet.proofs.totals.is_record.Goals as goal
 
-pub returns-then-is_empty : goal.returns-then-is_empty
-unfolding is_record
-returns-then-is_empty c = rw (sym c.is_empty.ensures ∙ c.if-is_empty.true)
+counted : (empty : Bool) → bool_byte (not empty) ≡ cond empty 0 1
+counted true = refl
+counted false = refl
 
-pub returns-else-is_empty : goal.returns-else-is_empty
+pub returns : goal.returns
 unfolding is_record
-returns-else-is_empty c = rw (sym c.is_empty.ensures ∙ c.if-is_empty.false)
+returns c = c.from.ensures ∙ counted _ ∙ ap (λ (empty : Bool). cond empty 0 1) c.is_empty.ensures
