@@ -1,5 +1,6 @@
 // What 25 tests of bytes: the layout, part by part, and then the book's rules.
-ghost use Rattle.std.specs.Prelude.{◌≡◌, ℕ, ◌+◌, ◌*◌, ◌≤◌, ◌<◌, length};
+ghost use Rattle.std.specs.Prelude.{◌≡◌, ℕ, ◌+◌, ◌*◌, ◌≤◌, ◌<◌, length, get_or, pos};
+ghost use Rattle.words.specs.Signed.{eq_z};
 ghost use Rattle.words.specs.Runs.{words_at};
 ghost use Rattle.lists.specs.All.{all_below};
 ghost use Rattle.lists.specs.Same.{same_entries};
@@ -27,7 +28,7 @@ fn record_laid(s: &[u8], k: usize) -> bool
     let w = reading::record_at(s, k);
     let r = network::record_in(&w, 0);
     let v = network::record_words(r);
-    lists::same_entries(&w, &v)
+    w == v
 }
 
 // n records, `step` words from one to the next.
@@ -35,12 +36,10 @@ fn records_laid(s: &[u8], at: usize, step: usize, n: usize) -> bool
     requires { (book_bytes ≤ length s.now) × (n ≤ 256) × ((p : ℕ) → p < n → at + p * step + record_length ≤ book_length) }
     ensures { result ≡ all_below n (λ p. record_laid (words_of s.now) (at + p * step)) }
 {
-    let mut p: usize = 0;
-    while p < n {
+    for p in 0..n {
         if !record_laid(s, at + p * step) {
             return false;
         }
-        p += 1;
     }
     true
 }
@@ -50,30 +49,33 @@ fn stations_laid(s: &[u8]) -> bool
     ensures { result ≡ all_below 32 (station_laid (words_of s.now)) }
 {
     let net = reading::network_in(s);
-    let count = net.count;
-    let stations = net.stations;
     let list = reading::stations_at(s);
-    let mut k: usize = 0;
-    while k < 32 {
-        let x = stations[k];
-        let v = station_part(count, k, x);
-        let a = k * 4;
-        let e = a + 4;
-        if !lists::same_entries(&list[a..e], &v) {
+    for k in 0..Unit::STATIONS {
+        let v = station_part(net.count, k, net.stations[k]);
+        let a = k * Layout::STATION_LENGTH;
+        let laid = &list[a..a + Layout::STATION_LENGTH];
+        let right = laid == v.as_slice();
+        if !right {
             return false;
         }
-        k += 1;
     }
     true
+}
+
+// Word k is x.
+fn word_is(s: &[u8], k: usize, x: i64) -> bool
+    requires { (book_bytes ≤ length s.now) × (k < book_length) }
+    ensures { result ≡ eq_z (get_or (words_of s.now) k (pos 0)) x }
+{
+    reading::word_in(s, k) == x
 }
 
 fn laid_out(s: &[u8]) -> bool
     requires { book_bytes ≤ length s.now }
     ensures { result ≡ laid_out s.now }
 {
-    let first = reading::word_in(s, 0);
     let prior = Layout::ENTRIES_START + 1;
-    words::same(first, Layout::NUMBER)
+    word_is(s, 0, Layout::NUMBER)
         & stations_laid(s)
         & records_laid(s, Layout::PLACES_START, Record::LENGTH, Unit::PLACES)
         & records_laid(s, prior, Layout::REVERSAL_LENGTH, Journal::SIZE)
@@ -84,13 +86,10 @@ fn same_words(s: &[u8], k: usize, w: &[i64]) -> bool
     requires { (book_bytes ≤ length s.now) × (k + length w.now ≤ book_length) }
     ensures { result ≡ same_entries (length w.now) (words_at s.now (8 * k) (length w.now)) w.now }
 {
-    let mut i = 0;
-    while i < w.len() {
-        let x = reading::word_in(s, k + i);
-        if !words::same(x, w[i]) {
+    for i in 0..w.len() {
+        if !word_is(s, k + i, w[i]) {
             return false;
         }
-        i = i + 1;
     }
     true
 }

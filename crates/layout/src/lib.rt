@@ -11,7 +11,7 @@ mod writing;
 
 pub use laid::holds_book;
 pub use offsets::Layout;
-pub use patching::put;
+pub use patching::{JournalChange, put};
 pub use reading::{
     journal_count_in, matrix_in, network_in, next_in, places_in, record_in, right_in, row_in,
     slot_in, stations_at,

@@ -13,10 +13,15 @@ impl Layout {
     // The words of a slot of the journal: the place, and the record to restore.
     pub const REVERSAL_LENGTH: usize = 1 + Record::LENGTH;
 
-    // The station list follows the layout's number and the station count: 4 words a station.
+    // The words of a station, and of the station list.
+    pub const STATION_LENGTH: usize = 4;
+
+    pub const STATIONS_LENGTH: usize = Unit::STATIONS * Layout::STATION_LENGTH;
+
+    // The station list follows the layout's number and the station count.
     pub const STATIONS_START: usize = 2;
 
-    pub const PLACES_START: usize = Layout::STATIONS_START + Unit::STATIONS * 4;
+    pub const PLACES_START: usize = Layout::STATIONS_START + Layout::STATIONS_LENGTH;
     // The journal's counters: next, then count.
     pub const COUNTS_START: usize = Layout::PLACES_START + Unit::PLACES * Record::LENGTH;
 

@@ -28,17 +28,16 @@ fn add_to_word(s: &mut [u8], k: usize, v: i64)
 }
 
 // To N, the pairs of end e with each of the six.
+// Stays: three slices in place of an equation, as `pair_term` takes them.
 fn add_pairs(s: &mut [u8], at: &[usize; 6], coef: &[i64; 6], weight: &[i64; 9], e: usize, sign: i64)
     requires { (book_bytes ≤ length s.old) × (e < 6) × EquationInRange (ends_of at.now coef.now weight.now) × (nat_abs sign ≤ 1) × Within book_length (2 ^ 41) (words_of s.old) }
     ensures { s.new ≡ put_words s.old 0 (plus book_length (words_of s.old) sign (pairs_from matrix_start (ends_of at.now coef.now weight.now) e 6)) }
 {
-    let mut f = 0;
-    while f < 6 {
+    for f in 0..6 {
         let t = normals::pair_term(at, coef, weight, e, f);
         let k = Layout::MATRIX_START + t.entry;
         let v = sign * t.amount;
         add_to_word(s, k, v);
-        f = f + 1;
     }
 }
 
@@ -46,13 +45,8 @@ fn add_rows(s: &mut [u8], equation: Equation, sign: i64)
     requires { (book_bytes ≤ length s.old) × EquationInRange equation × (nat_abs sign ≤ 1) × Within book_length (2 ^ 40) (words_of s.old) }
     ensures { s.new ≡ put_words s.old 0 (plus book_length (words_of s.old) sign (rows_from matrix_start equation 6)) }
 {
-    let at = equation.at;
-    let coef = equation.coef;
-    let weight = equation.weight;
-    let mut e = 0;
-    while e < 6 {
-        add_pairs(s, &at, &coef, &weight, e, sign);
-        e = e + 1;
+    for e in 0..6 {
+        add_pairs(s, &equation.at, &equation.coef, &equation.weight, e, sign);
     }
 }
 
@@ -61,13 +55,11 @@ fn add_ends(s: &mut [u8], equation: Equation, sign: i64)
     requires { (book_bytes ≤ length s.old) × EquationInRange equation × (nat_abs sign ≤ 1) × Within book_length (2 ^ 41) (words_of s.old) }
     ensures { s.new ≡ put_words s.old 0 (plus book_length (words_of s.old) sign (ends_from matrix_start equation 6)) }
 {
-    let mut e = 0;
-    while e < 6 {
+    for e in 0..6 {
         let t = normals::end_term(equation, e);
         let k = Layout::MATRIX_START + t.entry;
         let v = sign * t.amount;
         add_to_word(s, k, v);
-        e = e + 1;
     }
 }
 
@@ -87,28 +79,27 @@ fn exchange(s: &mut [u8], net: Network, i: usize, r: Record)
 {
     let old = reading::record_in(s, i);
     let x = normals::exchange_of(net, old, r);
-    let off = x.off;
-    let on = x.on;
-    add_share(s, off, -1);
-    add_share(s, on, 1);
+    add_share(s, x.off, -1);
+    add_share(s, x.on, 1);
 }
 
-// The book's core edit: r at place i, N and u with it, u in a slot of the journal, and its counters.
-pub fn put(
-    s: &mut [u8],
-    net: Network,
-    i: usize,
-    r: Record,
-    slot: usize,
-    u: Reversal,
-    next: usize,
-    count: usize,
-)
-    requires { (bytes_fit s.old ≡ true) × (net ≡ (book_of s.old).network) × (i < 256) × (record_fits (book_of s.old).network r ≡ true) × (slot < journal_size) }
-    ensures { s.new ≡ put_book s.old (with_entry (book_of s.old) i r (record { entries = set (book_of s.old).journal.entries slot u; next = next; count = count })) }
+// What an edit or an undo makes of the journal: what one slot holds, and the counters.
+#[derive(Clone, Copy)]
+pub struct JournalChange {
+    pub slot: usize,
+    pub holds: Reversal,
+    pub next: usize,
+    pub count: usize,
+}
+
+// The book's core edit: r at place i, N and u with it, and the journal as the change has it.
+pub fn put(s: &mut [u8], net: Network, i: usize, r: Record, change: JournalChange)
+    requires { (bytes_fit s.old ≡ true) × (net ≡ (book_of s.old).network) × (i < 256) × (record_fits (book_of s.old).network r ≡ true) × (change.slot < journal_size) }
+    ensures { s.new ≡ put_book s.old (with_entry (book_of s.old) i r (record { entries = set (book_of s.old).journal.entries change.slot change.holds; next = change.next; count = change.count })) }
 {
     exchange(s, net, i, r);
     writing::put_record(s, Layout::PLACES_START + i * Record::LENGTH, r);
-    writing::put_reversal(s, Layout::ENTRIES_START + slot * Layout::REVERSAL_LENGTH, u);
-    writing::put_counts(s, next, count);
+    let slot = Layout::ENTRIES_START + change.slot * Layout::REVERSAL_LENGTH;
+    writing::put_reversal(s, slot, change.holds);
+    writing::put_counts(s, change.next, change.count);
 }

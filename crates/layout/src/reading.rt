@@ -11,7 +11,7 @@ ghost use Rattle.layout.specs.Bytes.{words_of, book_of};
 
 use super::offsets::Layout;
 use book::{Journal, Reversal};
-use network::{Network, Place, Record};
+use network::{Network, Place, Record, Unit};
 use normals::Normals;
 
 // Word k.
@@ -44,14 +44,22 @@ pub fn journal_count_in(s: &[u8]) -> usize
     count_in(s, Layout::COUNTS_START + 1)
 }
 
+// N words, the first of them word k.
+fn words_in<const N: usize>(s: &[u8], k: usize) -> [i64; N]
+    requires { (book_bytes ≤ length s.now) × (k + N ≤ book_length) }
+    ensures { result ≡ words_at s.now (8 * k) N }
+{
+    let mut w = [0i64; N];
+    words::read_words(s, 8 * k, &mut w);
+    w
+}
+
 // The words of the station list.
-pub fn stations_at(s: &[u8]) -> [i64; 128]
+pub fn stations_at(s: &[u8]) -> [i64; Layout::STATIONS_LENGTH]
     requires { book_bytes ≤ length s.now }
     ensures { result ≡ take 128 (drop stations_start (words_of s.now)) }
 {
-    let mut w = [0i64; 128];
-    words::read_words(s, 8 * Layout::STATIONS_START, &mut w);
-    w
+    words_in(s, Layout::STATIONS_START)
 }
 
 pub fn network_in(s: &[u8]) -> Network
@@ -70,9 +78,7 @@ pub fn record_at(s: &[u8], k: usize) -> [i64; Record::LENGTH]
     requires { (book_bytes ≤ length s.now) × (k + words.record_length ≤ book_length) }
     ensures { result ≡ words_at s.now (8 * k) words.record_length }
 {
-    let mut w = [0i64; Record::LENGTH];
-    words::read_words(s, 8 * k, &mut w);
-    w
+    words_in(s, k)
 }
 
 fn entry_in(s: &[u8], k: usize) -> Record
@@ -88,9 +94,8 @@ pub fn record_in(s: &[u8], p: usize) -> Record
     requires { book_bytes ≤ length s.now }
     ensures { result ≡ record_at (book_of s.now).places p }
 {
-    if p < 256 {
-        let r = entry_in(s, Layout::PLACES_START + p * Record::LENGTH);
-        return r;
+    if p < Unit::PLACES {
+        return entry_in(s, Layout::PLACES_START + p * Record::LENGTH);
     }
     Record::Empty
 }
@@ -100,9 +105,7 @@ pub fn places_in(s: &[u8]) -> [i64; Place::LENGTH]
     requires { book_bytes ≤ length s.now }
     ensures { places_in result ≡ (book_of s.now).places }
 {
-    let mut w = [0i64; Place::LENGTH];
-    words::read_words(s, 8 * Layout::PLACES_START, &mut w);
-    w
+    words_in(s, Layout::PLACES_START)
 }
 
 // What slot k of the journal holds.
@@ -121,10 +124,9 @@ pub fn journal_in(s: &[u8]) -> Journal
     requires { book_bytes ≤ length s.now }
     ensures { result ≡ journal_in (words_of s.now) }
 {
-    let none = Record::Empty;
     let free = Reversal {
         place: 0,
-        prior: none,
+        prior: Record::Empty,
     };
     let next = next_in(s);
     let count = journal_count_in(s);
@@ -133,11 +135,8 @@ pub fn journal_in(s: &[u8]) -> Journal
         next,
         count,
     };
-    let mut k: usize = 0;
-    while k < Journal::SIZE {
-        let u = slot_in(s, k);
-        journal.entries[k] = u;
-        k += 1;
+    for k in 0..Journal::SIZE {
+        journal.entries[k] = slot_in(s, k);
     }
     journal
 }
@@ -146,9 +145,7 @@ pub fn matrix_in(s: &[u8]) -> [i64; Normals::ENTRIES]
     requires { book_bytes ≤ length s.now }
     ensures { result ≡ (book_of s.now).normals.matrix }
 {
-    let mut matrix = [0i64; Normals::ENTRIES];
-    words::read_words(s, 8 * Layout::MATRIX_START, &mut matrix);
-    matrix
+    words_in(s, Layout::MATRIX_START)
 }
 
 // Row i of N, counted from 0.
@@ -156,16 +153,12 @@ pub fn row_in(s: &[u8], i: usize) -> [i64; Normals::ROW]
     requires { (book_bytes ≤ length s.now) × (i < most_unknowns) }
     ensures { result ≡ words_at s.now (8 * (matrix_start + i * most_unknowns)) most_unknowns }
 {
-    let mut row = [0i64; Normals::ROW];
-    words::read_words(s, 8 * (Layout::MATRIX_START + i * Normals::ROW), &mut row);
-    row
+    words_in(s, Layout::MATRIX_START + i * Normals::ROW)
 }
 
 pub fn right_in(s: &[u8]) -> [i64; Normals::ROW]
     requires { book_bytes ≤ length s.now }
     ensures { result ≡ (book_of s.now).normals.right }
 {
-    let mut right = [0i64; Normals::ROW];
-    words::read_words(s, 8 * Layout::RIGHT_START, &mut right);
-    right
+    words_in(s, Layout::RIGHT_START)
 }

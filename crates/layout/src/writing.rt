@@ -13,32 +13,29 @@ ghost use Rattle.layout.specs.Bytes.{book_of, put_book, bytes_fit};
 
 use super::offsets::Layout;
 use book::{Book, Journal, Reversal};
-use network::{Network, Place, Record, Station};
+use network::{Network, Place, Record, Station, Unit};
 use normals::Normals;
 
 // The words of station k, which is x, of a list of `count`: 0 beyond it.
-pub fn station_part(count: usize, k: usize, x: Station) -> [i64; 4]
+pub fn station_part(count: usize, k: usize, x: Station) -> [i64; Layout::STATION_LENGTH]
     ensures { result ≡ cond (ltb k count) (station_words x) (pos 0 ∷ pos 0 ∷ pos 0 ∷ pos 0 ∷ []) }
 {
     if k < count {
         return network::station_words(x);
     }
-    [0; 4]
+    [0; Layout::STATION_LENGTH]
 }
 
+// Stays: the three that put stations, places and slots are not one generic function. Each is a loop of one line or three, and a closure for a part's words would hold a
+// slot's words in an array of their own, where `put_reversal`, which an edit calls too, puts them straight into the bytes.
 fn put_stations(s: &mut [u8], net: Network)
     requires { book_bytes ≤ length s.old }
     ensures { s.new ≡ put_words s.old (8 * stations_start) (concat_below 32 (station_part net)) }
 {
-    let count = net.count;
-    let stations = net.stations;
-    let mut k: usize = 0;
-    while k < 32 {
-        let x = stations[k];
-        let v = station_part(count, k, x);
-        let at = Layout::STATIONS_START + k * 4;
+    for k in 0..Unit::STATIONS {
+        let v = station_part(net.count, k, net.stations[k]);
+        let at = Layout::STATIONS_START + k * Layout::STATION_LENGTH;
         words::write_words(s, 8 * at, &v);
-        k += 1;
     }
 }
 
@@ -51,16 +48,16 @@ pub fn put_record(s: &mut [u8], k: usize, r: Record)
     words::write_words(s, 8 * k, &v);
 }
 
-fn put_places(s: &mut [u8], places: [Place; 256])
+fn put_places(s: &mut [u8], places: [Place; Unit::PLACES])
     requires { book_bytes ≤ length s.old }
     ensures { s.new ≡ put_words s.old (8 * places_start) (concat_below 256 (λ p. record_words (record_at places p))) }
 {
-    let mut p: usize = 0;
-    while p < 256 {
-        let q = places[p];
-        let r = q.entry;
-        put_record(s, Layout::PLACES_START + p * Record::LENGTH, r);
-        p += 1;
+    for p in 0..Unit::PLACES {
+        put_record(
+            s,
+            Layout::PLACES_START + p * Record::LENGTH,
+            places[p].entry,
+        );
     }
 }
 
@@ -77,19 +74,19 @@ pub fn put_reversal(s: &mut [u8], k: usize, u: Reversal)
 {
     let place = count_word(u.place);
     words::put_word(s, 8 * k, place);
-    let r = u.prior;
-    put_record(s, k + 1, r);
+    put_record(s, k + 1, u.prior);
 }
 
 fn put_entries(s: &mut [u8], entries: [Reversal; Journal::SIZE])
     requires { book_bytes ≤ length s.old }
     ensures { s.new ≡ put_words s.old (8 * entries_start) (concat_below journal_size (λ k. reversal_words (get_or entries k free))) }
 {
-    let mut k: usize = 0;
-    while k < Journal::SIZE {
-        let u = entries[k];
-        put_reversal(s, Layout::ENTRIES_START + k * Layout::REVERSAL_LENGTH, u);
-        k += 1;
+    for k in 0..Journal::SIZE {
+        put_reversal(
+            s,
+            Layout::ENTRIES_START + k * Layout::REVERSAL_LENGTH,
+            entries[k],
+        );
     }
 }
 
@@ -126,20 +123,13 @@ pub fn write_book(s: &mut [u8], book: Book)
     requires { book_bytes ≤ length s.old }
     ensures { s.new ≡ put_book s.old book }
 {
-    let net = book.network;
-    let count = count_word(net.count);
+    let count = count_word(book.network.count);
     put_pair(s, 0, Layout::NUMBER, count);
-    put_stations(s, net);
-    let places = book.places;
-    put_places(s, places);
-    let journal = book.journal;
-    put_counts(s, journal.next, journal.count);
-    let entries = journal.entries;
-    put_entries(s, entries);
-    let normals = book.normals;
-    let matrix = normals.matrix;
-    let right = normals.right;
-    put_normals(s, &matrix, &right);
+    put_stations(s, book.network);
+    put_places(s, book.places);
+    put_counts(s, book.journal.next, book.journal.count);
+    put_entries(s, book.journal.entries);
+    put_normals(s, &book.normals.matrix, &book.normals.right);
 }
 
 // The bytes of a sound book by value, to lend.

@@ -8,11 +8,10 @@ use Rattle.network.specs.RecordWords.{record_length}
 use Rattle.layout.specs.Laid.{record_laid}
 use Rattle.layout.specs.Bytes.{words_of}
 use Rattle.layout.specs.Layout.{book_length}
-use borrow.Author.Rules.{rules}
 use Rattle.layout.proofs.laid.records_laid.Goals as goal
 
 pub loop-p-init : goal.loop-p-init
-loop-p-init c = (search rules, all_none _)
+loop-p-init c = all_none _
 
 pub overflow_mul-p : goal.overflow_mul-p
 overflow_mul-p c =
@@ -37,9 +36,9 @@ returns-then-not-record_laid c =
 pub loop-p-preserved : goal.loop-p-preserved
 loop-p-preserved c =
     let test : ℕ → Bool = λ q. record_laid (words_of c.args.s.now) (c.args.at + q * c.args.step) in
-    (search rules, all_more _ test c.loop-p.invariant.1 (sym c.record_laid.ensures ∙ c.if-not-record_laid.false))
+    all_more _ test c.loop-p.invariant (sym c.record_laid.ensures ∙ c.if-not-record_laid.false)
 
 pub returns : goal.returns
 returns c =
     let test : ℕ → Bool = λ q. record_laid (words_of c.args.s.now) (c.args.at + q * c.args.step) in
-    all_done c.args.n test c.loop-p.p c.loop-p.invariant.0 (omega arith) c.loop-p.invariant.1
+    all_done c.args.n test c.loop-p.p c.loop-p.auto.p-end (omega arith) c.loop-p.invariant

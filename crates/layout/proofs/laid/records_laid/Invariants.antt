@@ -1,5 +1,5 @@
 -- `records_laid` tests the words of n records. The loop's invariant: those passed are laid out. Assumes nothing.
-use Prim.Native.Nat.{◌+◌, ◌*◌, ◌-◌, ◌≤◌}
+use Prim.Native.Nat.{◌+◌, ◌*◌}
 use mathlib.Core.Path.{◌≡◌}
 use mathlib.Core.Bool.{true}
 use Rattle.lists.specs.All.{all_below}
@@ -8,7 +8,4 @@ use Rattle.layout.specs.Bytes.{words_of}
 use Rattle.layout.proofs.laid.records_laid.Given as goal
 
 abbrev pub invariant-loop-p : goal.invariant-loop-p
-invariant-loop-p l = (l.p ≤ l.n) × (all_below l.p (λ q. record_laid (words_of l.s) (l.at + q * l.step)) ≡ true)
-
-abbrev pub decreases-loop-p : goal.decreases-loop-p
-decreases-loop-p l = l.n - l.p
+invariant-loop-p l = all_below l.p (λ q. record_laid (words_of l.s) (l.at + q * l.step)) ≡ true

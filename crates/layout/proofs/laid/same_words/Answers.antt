@@ -17,29 +17,25 @@ use Rattle.layout.proofs.laid.same_words.Goals as goal
 pub loop-i-init : goal.loop-i-init
 loop-i-init c =
     let here : List ℤ = words_at c.args.s.now (8 * c.args.k) (length c.args.w.now) in
-    (search rules, same_none here c.args.w.now)
+    same_none here c.args.w.now
 
-pub returns-then-not-same : goal.returns-then-not-same
-returns-then-not-same c =
+pub returns-then-not-word_is : goal.returns-then-not-word_is
+returns-then-not-word_is c =
     let here : List ℤ = words_at c.args.s.now (8 * c.args.k) (length c.args.w.now) in
-    let compared : c.same.result ≡ eq_z (get_or here c.loop-i.i (pos 0)) (get_or c.args.w.now c.loop-i.i (pos 0)) = c.same.ensures
-    ∙ ap₂ eq_z
-    (to_z-of_z {w = w64} (search rules) ∙ c.word_in-x.ensures ∙ sym (run_word-is c.args.s.now c.args.k (length c.args.w.now) c.requires.1 c.loop-i.i (omega arith)))
-    (to_z-of_z {w = w64} (search rules)) in
-    sym (same_not here c.args.w.now (length c.args.w.now) c.loop-i.i (omega arith) (sym compared ∙ c.if-not-same.true))
+    let compared : c.word_is.result ≡ eq_z (get_or here c.loop-i.i (pos 0)) (get_or c.args.w.now c.loop-i.i (pos 0)) =
+    c.word_is.ensures ∙ ap₂ eq_z (sym (run_word-is c.args.s.now c.args.k (length c.args.w.now) c.requires.1 c.loop-i.i (omega arith))) (to_z-of_z {w = w64} (search rules)) in
+    sym (same_not here c.args.w.now (length c.args.w.now) c.loop-i.i (omega arith) (sym compared ∙ c.if-not-word_is.true))
 
 pub loop-i-preserved : goal.loop-i-preserved
 loop-i-preserved c =
     let here : List ℤ = words_at c.args.s.now (8 * c.args.k) (length c.args.w.now) in
-    let compared : c.same.result ≡ eq_z (get_or here c.loop-i.i (pos 0)) (get_or c.args.w.now c.loop-i.i (pos 0)) = c.same.ensures
-    ∙ ap₂ eq_z
-    (to_z-of_z {w = w64} (search rules) ∙ c.word_in-x.ensures ∙ sym (run_word-is c.args.s.now c.args.k (length c.args.w.now) c.requires.1 c.loop-i.i (omega arith)))
-    (to_z-of_z {w = w64} (search rules)) in
-    (search rules, same_more here c.args.w.now c.loop-i.i c.loop-i.invariant.1 (sym compared ∙ c.if-not-same.false))
+    let compared : c.word_is.result ≡ eq_z (get_or here c.loop-i.i (pos 0)) (get_or c.args.w.now c.loop-i.i (pos 0)) =
+    c.word_is.ensures ∙ ap₂ eq_z (sym (run_word-is c.args.s.now c.args.k (length c.args.w.now) c.requires.1 c.loop-i.i (omega arith))) (to_z-of_z {w = w64} (search rules)) in
+    same_more here c.args.w.now c.loop-i.i c.loop-i.invariant (sym compared ∙ c.if-not-word_is.false)
 
 pub returns : goal.returns
 returns c =
     let here : List ℤ = words_at c.args.s.now (8 * c.args.k) (length c.args.w.now) in
     let l = c.loop-i in
     let all : l.i ≡ length c.args.w.now = omega arith in
-    sym l.invariant.1 ∙ ap (λ (n : ℕ). same_entries n here c.args.w.now) all
+    sym l.invariant ∙ ap (λ (n : ℕ). same_entries n here c.args.w.now) all

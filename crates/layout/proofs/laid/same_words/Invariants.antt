@@ -1,5 +1,5 @@
 -- `same_words` compares word by word. The loop's invariant: those passed are equal. Assumes nothing.
-use Prim.Native.Nat.{◌*◌, ◌-◌, ◌≤◌}
+use Prim.Native.Nat.{◌*◌}
 use mathlib.Core.Path.{◌≡◌}
 use mathlib.Core.Bool.{true}
 use lib.ListN.{length}
@@ -8,7 +8,4 @@ use Rattle.lists.specs.Same.{same_entries}
 use Rattle.layout.proofs.laid.same_words.Given as goal
 
 abbrev pub invariant-loop-i : goal.invariant-loop-i
-invariant-loop-i l = (l.i ≤ length l.w) × (same_entries l.i (words_at l.s (8 * l.k) (length l.w)) l.w ≡ true)
-
-abbrev pub decreases-loop-i : goal.decreases-loop-i
-decreases-loop-i l = length l.w - l.i
+invariant-loop-i l = same_entries l.i (words_at l.s (8 * l.k) (length l.w)) l.w ≡ true

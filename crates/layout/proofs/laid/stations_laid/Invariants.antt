@@ -1,5 +1,4 @@
 -- `stations_laid` tests the words of the stations. The loop's invariant: those passed are laid out. Assumes nothing.
-use Prim.Native.Nat.{◌-◌, ◌≤◌}
 use mathlib.Core.Path.{◌≡◌}
 use mathlib.Core.Bool.{true}
 use Rattle.lists.specs.All.{all_below}
@@ -8,7 +7,4 @@ use Rattle.layout.specs.Bytes.{words_of}
 use Rattle.layout.proofs.laid.stations_laid.Given as goal
 
 abbrev pub invariant-loop-k : goal.invariant-loop-k
-invariant-loop-k l = (l.k ≤ 32) × (all_below l.k (station_laid (words_of l.s)) ≡ true)
-
-abbrev pub decreases-loop-k : goal.decreases-loop-k
-decreases-loop-k l = 32 - l.k
+invariant-loop-k l = all_below l.k (station_laid (words_of l.s)) ≡ true

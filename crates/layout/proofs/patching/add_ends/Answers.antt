@@ -1,5 +1,4 @@
 -- `add_ends` adds the terms of u to the words of bytes. The loop's invariant: those of the ends passed are added. Assumes nothing.
-use borrow.Author.Rules.{rules}
 use Prim.Native.Nat.{ℕ, ◌+◌}
 use mathlib.Core.Path.{◌≡◌, refl, sym, ap, ap₂, ◌∙◌}
 use native.Mathlib.Nat.{le_trans}
@@ -22,7 +21,7 @@ use Rattle.layout.proofs.patching.add_ends.Goals as goal
 pub loop-e-init : goal.loop-e-init
 loop-e-init c =
     let bytes : Bytes c.args.s.now = λ i. let h = c.slice_known-1.given i in omega arith in
-    (search rules, refl, none_added _ _ _ bytes (λ k. sum_zero _))
+    (refl, none_added _ _ _ bytes (λ k. sum_zero _))
 
 pub overflow_add-k : goal.overflow_add-k
 overflow_add-k c =
@@ -41,11 +40,11 @@ add_to_word-requires c =
     let small : Small c.end_term-t.result = rw c.end_term-t.ensures (end_small c.args.equation c.requires.1 c.loop-e.e) in
     let l = c.loop-e in
     let room = c.requires.0 in
-    let long = l.invariant.1 in
+    let long = l.invariant.0 in
     let h = small in (
       omega arith,
       omega arith,
-      in_range_lem _ room _ (kept c.args.sign c.requires.2 tt) c.requires.3 _ (λ k. le_trans (ends_size matrix_start c.args.equation c.requires.1 _ k l.invariant.0) (lit≤ tt)) l.s l.invariant.2 _,
+      in_range_lem _ room _ (kept c.args.sign c.requires.2 tt) c.requires.3 _ (λ k. le_trans (ends_size matrix_start c.args.equation c.requires.1 _ k l.auto.e-end) (lit≤ tt)) l.s l.invariant.1 _,
       amount_small c.args.sign c.end_term-t.result.amount c.requires.2 h.amount,
     )
 
@@ -55,9 +54,8 @@ loop-e-preserved c =
     let l = c.loop-e in
     let h = small in
     let sign = c.args.sign in (
-      search rules,
-      c.add_to_word.auto.s ∙ l.invariant.1,
-      one_added _ c.requires.0 _ (kept sign c.requires.2 tt) c.requires.3 _ (λ k. le_trans (ends_size matrix_start c.args.equation c.requires.1 _ k l.invariant.0) (lit≤ tt)) l.s l.invariant.2 (ends_from matrix_start c.args.equation (l.e + 1)) _ _ _ c.end_term-t.result.amount (omega arith)
+      c.add_to_word.auto.s ∙ l.invariant.0,
+      one_added _ c.requires.0 _ (kept sign c.requires.2 tt) c.requires.3 _ (λ k. le_trans (ends_size matrix_start c.args.equation c.requires.1 _ k l.auto.e-end) (lit≤ tt)) l.s l.invariant.1 (ends_from matrix_start c.args.equation (l.e + 1)) _ _ _ c.end_term-t.result.amount (omega arith)
           (amount_stored sign c.end_term-t.result.amount c.requires.2 h.amount)
           (λ k. sum-+1 l.e _ ∙ ap (λ (x : ShareTerm). ends_from matrix_start c.args.equation l.e k +ℤ x.amount *ℤ δ (matrix_start + x.entry) k) (sym c.end_term-t.ensures))
           c.add_to_word.ensures,
@@ -67,5 +65,5 @@ pub returns : goal.returns
 returns c =
     let l = c.loop-e in
     let all : l.e ≡ 6 = omega arith in
-    l.invariant.2
+    l.invariant.1
     ∙ ap₂ (λ (z : ℤ) (m : ℕ). put_words c.args.s.now 0 (plus book_length (words_of c.args.s.now) z (ends_from matrix_start c.args.equation m))) (back c.args.sign c.requires.2 tt) all

@@ -1,5 +1,4 @@
 -- `add_ends` adds the terms of u to the words of bytes. The loop's invariant: those of the ends passed are added. Assumes nothing.
-use Prim.Native.Nat.{◌-◌, ◌≤◌}
 use mathlib.Core.Path.{◌≡◌}
 use lib.ListN.{length}
 use Rattle.integers.specs.Tables.{plus}
@@ -10,7 +9,4 @@ use Rattle.layout.specs.Bytes.{words_of}
 use Rattle.layout.proofs.patching.add_ends.Given as goal
 
 abbrev pub invariant-loop-e : goal.invariant-loop-e
-invariant-loop-e l = (l.e ≤ 6) × (length l.s ≡ length l.initial.s) × (l.s ≡ put_words l.initial.s 0 (plus book_length (words_of l.initial.s) l.sign (ends_from matrix_start l.equation l.e)))
-
-abbrev pub decreases-loop-e : goal.decreases-loop-e
-decreases-loop-e l = 6 - l.e
+invariant-loop-e l = (length l.s ≡ length l.initial.s) × (l.s ≡ put_words l.initial.s 0 (plus book_length (words_of l.initial.s) l.sign (ends_from matrix_start l.equation l.e)))

@@ -1,5 +1,4 @@
 -- `add_pairs` adds the terms of N of one end to the words of bytes. The loop's invariant: those of the pairs passed are added. Assumes nothing.
-use borrow.Author.Rules.{rules}
 use Prim.Native.Nat.{ℕ, ◌+◌}
 use mathlib.Core.Path.{◌≡◌, refl, sym, ap, ap₂, ◌∙◌}
 use native.Mathlib.Nat.{le_trans}
@@ -24,7 +23,7 @@ use Rattle.layout.proofs.patching.add_pairs.Goals as goal
 pub loop-f-init : goal.loop-f-init
 loop-f-init c =
     let bytes : Bytes c.args.s.now = λ i. let h = c.slice_known-1.given i in omega arith in
-    (search rules, refl, none_added _ _ _ bytes (λ k. sum_zero _))
+    (refl, none_added _ _ _ bytes (λ k. sum_zero _))
 
 pub overflow_add-k : goal.overflow_add-k
 overflow_add-k c =
@@ -46,11 +45,11 @@ add_to_word-requires c =
     let small : Small c.pair_term-t.result = rw c.pair_term-t.ensures (pair_small lent c.requires.2 c.args.e c.loop-f.f) in
     let l = c.loop-f in
     let room = c.requires.0 in
-    let long = l.invariant.1 in
+    let long = l.invariant.0 in
     let h = small in (
       omega arith,
       omega arith,
-      in_range_lem _ room _ (kept c.args.sign c.requires.3 tt) c.requires.4 _ (λ k. le_trans (pairs_size matrix_start lent c.requires.2 _ _ k l.invariant.0) (lit≤ tt)) l.s l.invariant.2 _,
+      in_range_lem _ room _ (kept c.args.sign c.requires.3 tt) c.requires.4 _ (λ k. le_trans (pairs_size matrix_start lent c.requires.2 _ _ k l.auto.f-end) (lit≤ tt)) l.s l.invariant.1 _,
       amount_small c.args.sign c.pair_term-t.result.amount c.requires.3 h.amount,
     )
 
@@ -61,9 +60,8 @@ loop-f-preserved c =
     let l = c.loop-f in
     let h = small in
     let sign = c.args.sign in (
-      search rules,
-      c.add_to_word.auto.s ∙ l.invariant.1,
-      one_added _ c.requires.0 _ (kept sign c.requires.3 tt) c.requires.4 _ (λ k. le_trans (pairs_size matrix_start lent c.requires.2 _ _ k l.invariant.0) (lit≤ tt)) l.s l.invariant.2 (pairs_from matrix_start lent c.args.e (l.f + 1)) _ _ _ c.pair_term-t.result.amount (omega arith)
+      c.add_to_word.auto.s ∙ l.invariant.0,
+      one_added _ c.requires.0 _ (kept sign c.requires.3 tt) c.requires.4 _ (λ k. le_trans (pairs_size matrix_start lent c.requires.2 _ _ k l.auto.f-end) (lit≤ tt)) l.s l.invariant.1 (pairs_from matrix_start lent c.args.e (l.f + 1)) _ _ _ c.pair_term-t.result.amount (omega arith)
           (amount_stored sign c.pair_term-t.result.amount c.requires.3 h.amount)
           (λ k. sum-+1 l.f _ ∙ ap (λ (x : ShareTerm). pairs_from matrix_start lent c.args.e l.f k +ℤ x.amount *ℤ δ (matrix_start + x.entry) k) (sym c.pair_term-t.ensures))
           c.add_to_word.ensures,
@@ -74,5 +72,5 @@ returns c =
     let lent : Equation = ends_of c.args.at.now c.args.coef.now c.args.weight.now in
     let l = c.loop-f in
     let all : l.f ≡ 6 = omega arith in
-    l.invariant.2
+    l.invariant.1
     ∙ ap₂ (λ (z : ℤ) (m : ℕ). put_words c.args.s.now 0 (plus book_length (words_of c.args.s.now) z (pairs_from matrix_start lent c.args.e m))) (back c.args.sign c.requires.3 tt) all

@@ -43,5 +43,5 @@ returns c =
     let t = c.args.s.now in
     let b = book_of t in
     let x = with_record b c.args.i c.args.r in
-    put_edit t room b (read_sized t) x.matrix x.right (length-tabulate 2304 _) (length-tabulate 48 _) c.args.i c.args.r c.args.slot c.args.u c.args.next c.args.count c.requires.2 c.requires.4
+    put_edit t room b (read_sized t) x.matrix x.right (length-tabulate 2304 _) (length-tabulate 48 _) c.args.i c.args.r c.args.change.slot c.args.change.holds c.args.change.next c.args.change.count c.requires.2 c.requires.4
     _ _ _ _ c.exchange.ensures c.put_record.ensures c.put_reversal.ensures c.put_counts.ensures

@@ -11,18 +11,18 @@ use Rattle.layout.specs.Bytes.{words_of}
 use Rattle.layout.proofs.reading.journal_in.Goals as goal
 
 pub loop-k-init : goal.loop-k-init
-loop-k-init c = (search rules, refl, refl, starts free journal_size _ _ (search rules))
+loop-k-init c = (refl, refl, starts free journal_size _ _ (search rules))
 
 pub loop-k-preserved : goal.loop-k-preserved
 loop-k-preserved c =
     let s = c.args.s.now in
-    (search rules, c.loop-k.invariant.1, c.loop-k.invariant.2, goes_on free journal_size _ _ c.loop-k.journal.entries c.loop-k.k _ (omega arith) c.loop-k.invariant.3 (c.slot_in-u.ensures ∙ reversal_in_lem (words_of s) (length_words s 0 book_length) c.loop-k.k (omega arith)))
+    (c.loop-k.invariant.0, c.loop-k.invariant.1, goes_on free journal_size _ _ c.loop-k.journal.entries c.loop-k.k _ (omega arith) c.loop-k.invariant.2 (c.slot_in.ensures ∙ reversal_in_lem (words_of s) (length_words s 0 book_length) c.loop-k.k (omega arith)))
 
 pub returns : goal.returns
 unfolding book_in
 returns c =
     λ i. record {
-      entries = finish free journal_size _ _ c.loop-k.journal.entries c.loop-k.k (omega arith) c.loop-k.invariant.3 i;
-      next = (c.loop-k.invariant.1 ∙ c.next_in-next.ensures) i;
-      count = (c.loop-k.invariant.2 ∙ c.journal_count_in-count.ensures) i;
+      entries = finish free journal_size _ _ c.loop-k.journal.entries c.loop-k.k (omega arith) c.loop-k.invariant.2 i;
+      next = (c.loop-k.invariant.0 ∙ c.next_in-next.ensures) i;
+      count = (c.loop-k.invariant.1 ∙ c.journal_count_in-count.ensures) i;
     }

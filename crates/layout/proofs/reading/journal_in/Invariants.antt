@@ -1,5 +1,5 @@
 -- `journal_in` reads the journal's counters, and its slots one by one. The loop's invariant: the slots passed are read, and the counters stay. Assumes nothing.
-use Prim.Native.Nat.{◌+◌, ◌*◌, ◌-◌, ◌≤◌}
+use Prim.Native.Nat.{◌+◌, ◌*◌}
 use mathlib.Core.Path.{◌≡◌}
 use Rattle.lists.specs.Filling.{Mapped}
 use Rattle.book.specs.Journal.{journal_size, free}
@@ -8,10 +8,6 @@ use Rattle.layout.specs.Bytes.{words_of}
 use Rattle.layout.proofs.reading.journal_in.Given as goal
 
 abbrev pub invariant-loop-k : goal.invariant-loop-k
-invariant-loop-k l = (l.k ≤ journal_size)
-    × (l.journal.next ≡ l.next)
+invariant-loop-k l = (l.journal.next ≡ l.next)
     × (l.journal.count ≡ l.count)
     × Mapped free journal_size (λ i. reversal_in (words_of l.s) (entries_start + i * reversal_length)) l.initial.journal.entries l.journal.entries l.k
-
-abbrev pub decreases-loop-k : goal.decreases-loop-k
-decreases-loop-k l = journal_size - l.k

@@ -8,4 +8,4 @@ use Rattle.layout.proofs.reading.places_in.Goals as goal
 
 pub returns : goal.returns
 unfolding book_in
-returns c = ap places_in (c.read_words.ensures ∙ sym (part_at c.args.s.now 0 book_length places_start places_length (omega arith)))
+returns c = ap places_in (c.words_in.ensures ∙ sym (part_at c.args.s.now 0 book_length places_start places_length (omega arith)))

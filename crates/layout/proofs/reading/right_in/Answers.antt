@@ -7,4 +7,4 @@ use Rattle.layout.proofs.reading.right_in.Goals as goal
 
 pub returns : goal.returns
 unfolding book_in
-returns c = c.read_words.ensures ∙ sym (part_at c.args.s.now 0 book_length right_start 48 (omega arith))
+returns c = c.words_in.ensures ∙ sym (part_at c.args.s.now 0 book_length right_start 48 (omega arith))

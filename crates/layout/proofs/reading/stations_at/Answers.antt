@@ -6,4 +6,4 @@ use Rattle.layout.specs.Layout.{book_length, stations_start}
 use Rattle.layout.proofs.reading.stations_at.Goals as goal
 
 pub returns : goal.returns
-returns c = c.read_words.ensures ∙ sym (part_at c.args.s.now 0 book_length stations_start 128 (omega arith))
+returns c = c.words_in.ensures ∙ sym (part_at c.args.s.now 0 book_length stations_start 128 (omega arith))

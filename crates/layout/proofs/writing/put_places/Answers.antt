@@ -10,13 +10,12 @@ use Rattle.layout.specs.Layout.{places_start}
 use Rattle.layout.proofs.writing.put_places.Goals as goal
 
 pub loop-p-init : goal.loop-p-init
-loop-p-init c = (parts_none _ (8 * places_start) _, refl, omega arith)
+loop-p-init c = (parts_none _ (8 * places_start) _, refl)
 
 pub loop-p-preserved : goal.loop-p-preserved
 loop-p-preserved c = (
   parts_more c.args.s.now c.loop-p.s _ (8 * places_start) record_length c.loop-p.p _ (λ q. record_words (record_at c.args.places q)) (λ i. length_record _) (omega arith) c.loop-p.invariant.0 c.put_record.ensures,
   c.put_record.auto.s ∙ c.loop-p.invariant.1,
-  omega arith,
 )
 
 pub returns : goal.returns

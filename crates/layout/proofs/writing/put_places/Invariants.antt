@@ -1,5 +1,5 @@
 -- `put_places` puts the places. The loop's invariant: those passed stand in their order. Assumes nothing.
-use Prim.Native.Nat.{◌-◌, ◌≤◌, ◌*◌}
+use Prim.Native.Nat.{◌*◌}
 use mathlib.Core.Path.{◌≡◌}
 use lib.ListN.{length}
 use Rattle.words.specs.Runs.{put_words}
@@ -10,7 +10,4 @@ use Rattle.layout.specs.Layout.{places_start}
 use Rattle.layout.proofs.writing.put_places.Given as goal
 
 abbrev pub invariant-loop-p : goal.invariant-loop-p
-invariant-loop-p l = (l.s ≡ put_words l.initial.s (8 * places_start) (concat_below l.p (λ q. record_words (record_at l.places q)))) × (length l.s ≡ length l.initial.s) × (l.p ≤ 256)
-
-abbrev pub decreases-loop-p : goal.decreases-loop-p
-decreases-loop-p l = 256 - l.p
+invariant-loop-p l = (l.s ≡ put_words l.initial.s (8 * places_start) (concat_below l.p (λ q. record_words (record_at l.places q)))) × (length l.s ≡ length l.initial.s)

@@ -11,7 +11,7 @@ use borrow.Author.Rules.{rules}
 use Rattle.layout.proofs.writing.put_stations.Goals as goal
 
 pub loop-k-init : goal.loop-k-init
-loop-k-init c = (parts_none _ (8 * stations_start) _, refl, omega arith)
+loop-k-init c = (parts_none _ (8 * stations_start) _, refl)
 
 pub write_words-requires : goal.write_words-requires
 write_words-requires c =
@@ -24,7 +24,6 @@ loop-k-preserved c = (
   parts_more c.args.s.now c.loop-k.s _ (8 * stations_start) 4 c.loop-k.k _ (station_part c.args.net) (length-station c.args.net) (omega arith) c.loop-k.invariant.0
       (c.write_words.ensures ∙ ap (put_words c.loop-k.s (8 * (stations_start + c.loop-k.k * 4))) c.station_part-v.ensures),
   c.write_words.auto.s ∙ c.loop-k.invariant.1,
-  omega arith,
 )
 
 pub returns : goal.returns
