@@ -13,9 +13,9 @@ use Rattle.book.specs.declared.Change.{Change}
 use Rattle.book.specs.declared.Call.{Call}
 use Rattle.book.specs.declared.Call.TheVariants as call
 use Rattle.book.specs.Calls.{place_of, puts, undo_no, call_no, unless}
-use Rattle.book.specs.SoundLaws.{MayPut, edit_may_put}
+use Rattle.book.specs.CallLaws.{unless_some}
 use Rattle.book.specs.Book.{with_entry, edited, undone, book_accepts, book_says, outcome}
-use Rattle.layout.specs.Bytes.{book_of, put_book}
+use Rattle.layout.specs.Bytes.{put_book}
 use Rattle.lent_edits.specs.LentEdits.{bytes_left}
 
 -- ════ the core edit, with the journal that goes with it
@@ -46,10 +46,14 @@ module _ (s : List ℕ) (b : Book) where
   changed : (c : Call) (n : ℕ) (t : List ℕ) → n ≡ book_says b c → t ≡ unless n s (put_book s (book_accepts b c)) → (n ≡ book_says b c) × (t ≡ bytes_left s (outcome b c))
   changed c n t e q = (e, q ∙ ap (λ (k : ℕ). unless k s (put_book s (book_accepts b c))) e ∙ written (book_says b c) (book_accepts b c))
 
-  pub edit_changed : (p : ℤ) (c : Change) (n i : ℕ) (r : Record) (t : List ℕ) → n ≡ book_says b (call.Edit p c) → i ≡ place_of p → r ≡ puts c
-      → t ≡ unless n s (put_book s (edited b i r)) → (n ≡ book_says b (call.Edit p c)) × (t ≡ bytes_left s (outcome b (call.Edit p c)))
-  unfolding book_accepts
-  edit_changed p c n i r t e at is h = changed (call.Edit p c) n t e (h ∙ (λ k. unless n s (put_book s (edited b (at k) (is k)))))
+  -- a refused call leaves the bytes
+  pub edit_refused : (c : Call) (n : ℕ) → n ≡ book_says b c → (book_says b c ≡ 0 → ⊥) → (n ≡ book_says b c) × (s ≡ bytes_left s (outcome b c))
+  edit_refused c n e h = changed c n s e (sym (unless_some n s _ (λ z. h (sym e ∙ z))))
+
+  pub edit_changed : (p : ℤ) (c : Change) (i : ℕ) (r : Record) (t : List ℕ) → book_says b (call.Edit p c) ≡ 0 → i ≡ place_of p → r ≡ puts c
+      → t ≡ put_book s (edited b i r) → (0 ≡ book_says b (call.Edit p c)) × (t ≡ bytes_left s (outcome b (call.Edit p c)))
+  unfolding book_accepts unless
+  edit_changed p c i r t e at is h = changed (call.Edit p c) 0 t (sym e) (h ∙ (λ k. put_book s (edited b (at k) (is k))))
 
   pub undo_none : (count : ℕ) → count ≡ b.journal.count → count ≡ 0 → (8 ≡ book_says b call.Undo) × (s ≡ bytes_left s (outcome b call.Undo))
   unfolding call_no undo_no unless
@@ -59,7 +63,3 @@ module _ (s : List ℕ) (b : Book) where
   unfolding call_no undo_no unless book_accepts
   undo_done zero t e z h = absurd (z refl)
   undo_done (suc count) t e z h = changed call.Undo 0 t (ap undo_no e) h
-
--- ════ what the code of an edit has at hand: the number, the place's index, and the record
-pub settle_ready : (s : List ℕ) (p : ℤ) (c : Change) (n i : ℕ) (r : Record) → n ≡ book_says (book_of s) (call.Edit p c) → i ≡ place_of p → r ≡ puts c → n ≡ 0 → MayPut (book_of s) i r
-settle_ready s p c n i r e at is z = edit_may_put (book_of s) p c i r at is (sym e ∙ z)

@@ -11,7 +11,7 @@ use Rattle.network.specs.Stations as stations
 use Rattle.network.specs.OpeningLaws.{opened-fits}
 use Rattle.network.specs.declared.Network.{Network}
 use Rattle.book.specs.declared.Book.{Book}
-use Rattle.book.specs.declared.Edited.{Edited}
+use Rattle.book.specs.Outcome.{Outcome}
 use Rattle.book.specs.declared.Call.{Call}
 use Rattle.book.specs.declared.Call.TheVariants.{Edit, Undo}
 use Rattle.book.specs.Calls.{unless}
@@ -76,8 +76,8 @@ module _ (s : List ℕ) (room : book_bytes ≤ length s) where
   opened list t o q =
       let h = opened-holds list o in
       let e : opening list ≡ record { refusal = 0; book = opened_book (network_of list) } = rw o in
-      let w : t ≡ put_book s (opened_book (network_of list)) = q ∙ ap (λ (x : Edited). bytes_left s x) e in
-      (ap bytes_fit w ∙ h.fits, ap (λ (x : List ℕ). book_of x) w ∙ h.reads ∙ sym (ap (λ (x : Edited). x.book) e))
+      let w : t ≡ put_book s (opened_book (network_of list)) = q ∙ ap (λ (x : Outcome). bytes_left s x) e in
+      (ap bytes_fit w ∙ h.fits, ap (λ (x : List ℕ). book_of x) w ∙ h.reads ∙ sym (ap (λ (x : Outcome). x.book) e))
 
   pub open_opens : (list : List ℤ) (n : ℕ) (t : List ℕ) → n ≡ (opening list).refusal → t ≡ bytes_left s (opening list) → Opens list s n t
   open_opens list n t e q = go (true_or_false (stations.opens list))
@@ -85,5 +85,5 @@ module _ (s : List ℕ) (room : book_bytes ≤ length s) where
       go : (stations.opens list ≡ true) ⊎ (stations.opens list ≡ false) → Opens list s n t
       go (inl o) = let w = opened list t o q in record { number = e; bytes = q; fits = λ z. w.0; reads = λ z. w.1 }
       go (inr o) =
-          let one : n ≡ 1 = e ∙ ap (λ (b : Bool). (cond {A = Edited} b (record { refusal = 0; book = opened_book (network_of list) }) (record { refusal = 1; book = opened_book (network_of []) })).refusal) o in
+          let one : n ≡ 1 = e ∙ ap (λ (b : Bool). (cond {A = Outcome} b (record { refusal = 0; book = opened_book (network_of list) }) (record { refusal = 1; book = opened_book (network_of []) })).refusal) o in
           record { number = e; bytes = q; fits = λ z. absurd (omega arith); reads = λ z. absurd (omega arith) }

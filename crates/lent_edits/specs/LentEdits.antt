@@ -1,13 +1,13 @@
 -- Openings, edits and undos on lent bytes: the number, and the bytes afterwards. Assumes nothing.
 use Rattle.std.specs.Prelude.{ℕ, ◌≡◌, true, List, ℤ}
-use Rattle.book.specs.declared.Edited.{Edited}
+use Rattle.book.specs.Outcome.{Outcome}
 use Rattle.book.specs.declared.Call.{Call}
 use Rattle.book.specs.Calls.{unless}
 use Rattle.book.specs.Book.{opening, outcome}
 use Rattle.layout.specs.Bytes.{book_of, put_book, bytes_fit}
 
 -- the bytes that a call leaves: its book is written where the call is not refused
-abbrev pub bytes_left : List ℕ → Edited → List ℕ
+abbrev pub bytes_left : List ℕ → Outcome → List ℕ
 bytes_left s e = unless e.refusal s (put_book s e.book)
 
 -- an edit or an undo on bytes s that hold a book: its number n, and the bytes t afterwards, which hold the book that the call leaves

@@ -9,8 +9,8 @@ use Rattle.layout.specs.Layout.{book_bytes}
 use Rattle.lent_edits.proofs.Changed.{edit_made}
 use Rattle.lent_edits.proofs.changes.make_edit.Goals as goal
 
-pub record_in-old-requires : goal.record_in-old-requires
-record_in-old-requires c =
+pub record_in-requires : goal.record_in-requires
+record_in-requires c =
     let room : book_bytes ≤ length c.args.s.now = fits-room c.args.s.now c.requires.0 in
     room
 
@@ -19,8 +19,8 @@ next_in-next-requires c =
     let room : book_bytes ≤ length c.args.s.now = fits-room c.args.s.now c.requires.0 in
     room
 
-pub slot_after-after-requires : goal.slot_after-after-requires
-slot_after-after-requires c =
+pub slot_after-requires : goal.slot_after-requires
+slot_after-requires c =
     let small : c.next_in-next.result < journal_size = subst (λ (k : ℕ). k < journal_size) (sym c.next_in-next.ensures) (fits-sound c.args.s.now c.requires.0).journal.next in
     small
 
@@ -37,4 +37,4 @@ put-requires c =
 pub returns : goal.returns
 returns c =
     c.put.ensures
-    ∙ edit_made c.args.s.now (book_of c.args.s.now) c.args.i _ _ _ _ c.args.r _ c.record_in-old.ensures c.next_in-next.ensures c.journal_count_in.ensures c.slot_after-after.ensures c.one_more-count.ensures
+    ∙ edit_made c.args.s.now (book_of c.args.s.now) c.args.i _ _ _ _ c.args.r _ c.record_in.ensures c.next_in-next.ensures c.journal_count_in.ensures c.slot_after.ensures c.one_more.ensures
