@@ -1,5 +1,5 @@
 -- What a sound book and an acceptance give: the ranges that the sheet's code asks for, and that 9 never comes.
-use Rattle.std.specs.Prelude.{ℕ, ◌*◌, ◌<◌, ◌≤◌, ◌≡◌, Bool, true, ◌&&◌, List, ◌++◌, eqb, length, drop, ℤ}
+use Rattle.std.specs.Prelude.{ℕ, ◌*◌, ◌<◌, ◌≤◌, ◌≡◌, Bool, true, ◌&&◌, List, ◌++◌, eqb, length, drop, ℤ, Ok, Err}
 use Rattle.std.proofs.Math.Path.{refl}
 use Rattle.std.proofs.Common.{ap, arith, le-leb, leb-true}
 use Rattle.words.specs.Bools.{and_both, and_right}
@@ -12,12 +12,10 @@ use Rattle.normals.specs.Sizes.{never_9}
 use Rattle.normals.specs.Formulas.{matrix_of, right_of}
 use Rattle.acceptance.specs.Tests.{at, by_rows, lengths_fit}
 use Rattle.acceptance.specs.JudgeLaws.{BookInRange, lengths_of, corrections_small_lem, inverse-small}
-use Rattle.acceptance.specs.Judge.{judge}
+use Rattle.acceptance.specs.Judge.{judge, Answer}
 use Rattle.acceptance.specs.Exactly.{answer, book_in_range}
 use Rattle.acceptance.proofs.SameAnswer.{kept-answer}
 use Rattle.acceptance.specs.InTurn.{computed, accepted-tests}
-use Rattle.acceptance.specs.declared.Answer.{Answer}
-use Rattle.acceptance.specs.declared.Answer.TheVariants.{Accepted, Refused}
 use Rattle.acceptance.specs.declared.Refusal.{Refusal}
 use Rattle.book.specs.declared.Book.{Book}
 use Rattle.book.specs.Book.{sound}
@@ -54,7 +52,7 @@ module _ (b : Book) (g : Parts.SoundParts b) where
 
 module _ (b : Book) (sure : sound b ≡ true) where
   module _ (x m : List ℤ) (r : Bool) where
-    module _ (e : answer b.network b.places x m r ≡ Accepted) where
+    module _ (e : answer b.network b.places x m r ≡ Ok tt) where
       tests : (k : ℕ) → k < 7 → computed b.network b.places x m r k ≡ true
       tests = accepted-tests b.network b.places x m r e
 
@@ -87,19 +85,19 @@ module _ (b : Book) (sure : sound b ≡ true) where
     checked-is = go (answer b.network b.places x m r) refl
       where
         go : (a : Answer) → answer b.network b.places x m r ≡ a → then_nine (answer b.network b.places x m r) (sizes_fit b.network b.places x) ≡ answer b.network b.places x m r
-        go Accepted e = rw (e, sizes-fit e)
-        go (Refused refusal) e = rw e
+        go (Ok u) e = rw (e, sizes-fit e)
+        go (Err refusal) e = rw e
 
   -- the words afterwards, by the answer
   module _ (x m sheet : List ℤ) where
-    pub after-accepted : answer b.network b.places x m (has_room b sheet) ≡ Accepted
+    pub after-accepted : answer b.network b.places x m (has_room b sheet) ≡ Ok tt
         → sheet_words b.network b.places x m ++ drop (room b.network b.places) sheet ≡ sheet_after b x m sheet
     unfolding sheet_after on_acceptance
     after-accepted e = rw (checked-is x m (has_room b sheet), e)
 
-    pub after-refused : (refusal : Refusal) → answer b.network b.places x m (has_room b sheet) ≡ Refused refusal → sheet ≡ sheet_after b x m sheet
+    pub after-refused : (refusal : Refusal) → answer b.network b.places x m (has_room b sheet) ≡ Err refusal → sheet ≡ sheet_after b x m sheet
     unfolding sheet_after on_acceptance
     after-refused refusal e = rw (checked-is x m (has_room b sheet), e)
 
-    pub room-enough : answer b.network b.places x m (has_room b sheet) ≡ Accepted → room b.network b.places ≤ length sheet
+    pub room-enough : answer b.network b.places x m (has_room b sheet) ≡ Ok tt → room b.network b.places ≤ length sheet
     room-enough e = leb-true _ _ (has_room_lem x m (has_room b sheet) e)

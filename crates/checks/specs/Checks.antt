@@ -1,11 +1,10 @@
 -- The answer to a check, and the sheet afterwards. Assumes nothing.
-use Rattle.std.specs.Prelude.{◌^◌, Bool, cond, ◌&&◌, List, ◌++◌, leb, length, drop, ℤ, nat_abs}
+use Rattle.acceptance.specs.Judge.{Answer}
+use Rattle.std.specs.Prelude.{◌^◌, Bool, cond, ◌&&◌, List, ◌++◌, leb, length, drop, ℤ, nat_abs, Ok, Err}
 use Rattle.network.specs.declared.Network.{Network}
 use Rattle.network.specs.declared.Place.{Place}
 use Rattle.normals.specs.Formulas.{entries_fit}
 use Rattle.acceptance.specs.Exactly.{answer}
-use Rattle.acceptance.specs.declared.Answer.{Answer}
-use Rattle.acceptance.specs.declared.Answer.TheVariants.{Accepted, Refused}
 use Rattle.acceptance.specs.declared.Refusal.TheVariants.{TooLarge}
 use Rattle.book.specs.declared.Book.{Book}
 use Rattle.residuals.specs.Residuals.{T}
@@ -17,8 +16,8 @@ sizes_fit net places x = entries_fit net.stations places && leb (nat_abs (T net.
 
 -- "A failed test outranks a 9 in a check."
 unfoldable pub then_nine : Answer → Bool → Answer
-then_nine Accepted fits = cond fits Accepted (Refused TooLarge)
-then_nine (Refused refusal) fits = Refused refusal
+then_nine (Ok u) fits = cond fits (Ok tt) (Err TooLarge)
+then_nine (Err refusal) fits = Err refusal
 
 -- ════ the answer; room: the sheet, where one is lent, has room. Its number and values are acceptance's number_of and unknown_of
 unfoldable pub checked : Book → List ℤ → List ℤ → Bool → Answer
@@ -30,8 +29,8 @@ has_room b sheet = leb (room b.network b.places) (length sheet)
 
 -- ════ the lent words afterwards: "Words beyond stay." "A refusal … changes neither book, history nor sheet."
 unfoldable pub on_acceptance : Answer → List ℤ → List ℤ → List ℤ
-on_acceptance Accepted new old = new
-on_acceptance (Refused refusal) new old = old
+on_acceptance (Ok u) new old = new
+on_acceptance (Err refusal) new old = old
 
 unfoldable pub sheet_after : Book → List ℤ → List ℤ → List ℤ → List ℤ
 sheet_after b x m sheet =

@@ -18,10 +18,9 @@ use Rattle.network.specs.Records.{record_at, acts}
 use Rattle.normals.specs.Formulas.{entry_n, entry_u}
 use Rattle.chains.specs.Chains.{EachTied, FirstWithoutChain}
 use Rattle.acceptance.specs.Tests.{at, by_rows, lengths_fit, corrections_small, inverse_small, defect_small, residual_small, refinement_small}
-use Rattle.acceptance.specs.Judge.{answer_number, answer_unknown}
+use Rattle.acceptance.specs.Judge.{answer_number, answer_unknown, Answer}
 use Rattle.acceptance.specs.Follows.{Solves, RoundedAnswer, RoundedInverse}
 use Rattle.acceptance.specs.Exact.{Solution}
-use Rattle.acceptance.specs.declared.Answer.{Answer}
 use Rattle.book.specs.declared.Book.{Book}
 use Rattle.book.specs.Book.{sound}
 use Rattle.residuals.specs.Residuals.{adjusted, variance, D, residual_variance}

@@ -1,6 +1,6 @@
 -- Demand 2 holds. The answer is that of seven tests made in turn, so its number is that of the first that fails; what follows from acceptance follows from the tests. Assumes nothing.
 use Prim.Native.Nat.{ℕ, zero, suc, ◌+◌, ◌*◌, ◌<◌}
-use Rattle.std.specs.Prelude.{◌≡◌, Bool, false, List, ℤ, pos, nat_abs, ◌-ℤ◌, ◌*ℤ◌}
+use Rattle.std.specs.Prelude.{◌≡◌, Bool, false, List, ℤ, pos, nat_abs, ◌-ℤ◌, ◌*ℤ◌, Ok, Err}
 use Rattle.std.proofs.Math.Path.{refl}
 use Rattle.std.proofs.Common.{sym, ap, ◌∙◌, subst, le_trans, arith, lit≤}
 use Rattle.std.proofs.Math.Bool.{true}
@@ -15,14 +15,12 @@ use Rattle.chains.specs.Chains.{FirstWithoutChain}
 use Rattle.chains.specs.ChainLaws.{EndsInRange, all_tied_lem, tied_all, first_untied_lem}
 use Rattle.integers.specs.Inverses.{S}
 use Rattle.acceptance.specs.Tests.{at, defect_small, refinement_small}
-use Rattle.acceptance.specs.Judge.{refusal_number, refusal_unknown, answer_number}
+use Rattle.acceptance.specs.Judge.{refusal_number, refusal_unknown, answer_number, Answer}
 use Rattle.acceptance.specs.JudgeLaws.{refusal-least}
 use Rattle.acceptance.specs.Follows.{RoundedAnswer, RoundedInverse, Moderate, correction_bound, column_bound, rounded_defect, rounded_residual, rounded_refinement}
 use Rattle.acceptance.specs.Exact.{exists, unique}
 use Rattle.acceptance.specs.Exactly.{answer, book_in_range}
 use Rattle.acceptance.specs.InTurn.{TestsAnswer, passes, fails, computed, refusal, answer-tested, number_is}
-use Rattle.acceptance.specs.declared.Answer.{Answer}
-use Rattle.acceptance.specs.declared.Answer.TheVariants.{Accepted, Refused}
 use Rattle.acceptance.specs.declared.Refusal.{Refusal}
 use Rattle.book.specs.declared.Book.{Book}
 use Rattle.book.specs.Book.{sound}
@@ -167,8 +165,8 @@ module _ (b : Book) (sure : sound b ≡ true) (x m : List ℤ) where
 
   written : (sheet : List ℤ) (a : Answer) → checked b x m (has_room b sheet) ≡ a → SheetDemand b x m sheet (sheet_after b x m sheet) (answer_number a)
   unfolding sheet_after on_acceptance
-  written sheet Accepted e = record { written = λ z. rw e; long = sheet_length b.network b.places x m; kept = λ z. absurd (z refl) }
-  written sheet (Refused r) e = record { written = λ z. absurd (omega (arith, refusal-least r)); long = sheet_length b.network b.places x m; kept = λ z. rw e }
+  written sheet (Ok u) e = record { written = λ z. rw e; long = sheet_length b.network b.places x m; kept = λ z. absurd (z refl) }
+  written sheet (Err r) e = record { written = λ z. absurd (omega (arith, refusal-least r)); long = sheet_length b.network b.places x m; kept = λ z. rw e }
 
 pub demand_2 : Demand2
 demand_2 b sure x m = (judged_by b sure x m, (λ sheet. written b sure x m sheet (checked b x m (has_room b sheet)) refl))

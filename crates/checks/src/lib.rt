@@ -8,12 +8,19 @@ ghost use Rattle.layout.specs.Bytes.{book_of, bytes_fit};
 ghost use Rattle.sheet.specs.Sheet.{room};
 ghost use Rattle.checks.specs.Checks.{checked, has_room, sheet_after};
 
-use acceptance::Answer;
+use acceptance::Refusal;
 use book::Book;
 use network::Network;
 
 // The seven tests on bytes that hold a book, whose stations and places are read already; N and u are read here, so that no more than the tests holds them.
-fn judge_in(s: &[u8], net: Network, places: &[i64], x: &[i64], m: &[i64], room: bool) -> Answer
+fn judge_in(
+    s: &[u8],
+    net: Network,
+    places: &[i64],
+    x: &[i64],
+    m: &[i64],
+    room: bool,
+) -> Result<(), Refusal>
     requires { (bytes_fit s.now ≡ true) × (places_length ≤ length places.now) × (net ≡ (book_of s.now).network) × (places_in places.now ≡ (book_of s.now).places) }
     ensures { result ≡ checked (book_of s.now) x.now m.now room }
 {
@@ -23,7 +30,7 @@ fn judge_in(s: &[u8], net: Network, places: &[i64], x: &[i64], m: &[i64], room: 
 }
 
 // The answer to a pair (x, M) where no sheet is lent, on bytes that hold a book.
-pub fn check_in(s: &[u8], x: &[i64], m: &[i64]) -> Answer
+pub fn check_in(s: &[u8], x: &[i64], m: &[i64]) -> Result<(), Refusal>
     requires { bytes_fit s.now ≡ true }
     ensures { result ≡ checked (book_of s.now) x.now m.now true }
 {
@@ -33,7 +40,7 @@ pub fn check_in(s: &[u8], x: &[i64], m: &[i64]) -> Answer
 }
 
 // The same on a book by value.
-pub fn check(book: Book, x: &[i64], m: &[i64]) -> Answer
+pub fn check(book: Book, x: &[i64], m: &[i64]) -> Result<(), Refusal>
     requires { sound book ≡ true }
     ensures { result ≡ checked book x.now m.now true }
 {
@@ -59,7 +66,7 @@ fn has_room(words: usize, long: usize) -> bool
 }
 
 // The answer, and on acceptance the sheet at the front of the lent words, on bytes that hold a book. A refusal leaves every word.
-pub fn check_sheet_in(s: &[u8], x: &[i64], m: &[i64], sheet: &mut [i64]) -> Answer
+pub fn check_sheet_in(s: &[u8], x: &[i64], m: &[i64], sheet: &mut [i64]) -> Result<(), Refusal>
     requires { bytes_fit s.now ≡ true }
     ensures answer { result ≡ checked (book_of s.now) x.now m.now (has_room (book_of s.now) sheet.old) }
     ensures words { sheet.new ≡ sheet_after (book_of s.now) x.now m.now sheet.old }
@@ -67,18 +74,13 @@ pub fn check_sheet_in(s: &[u8], x: &[i64], m: &[i64], sheet: &mut [i64]) -> Answ
     let net = layout::network_in(s);
     let places = layout::places_in(s);
     let room = has_room(sheet::room_of(net, &places), sheet.len());
-    let answer = judge_in(s, net, &places, x, m, room);
-    match answer {
-        Answer::Accepted => {
-            sheet::write_sheet(net, &places, x, m, sheet);
-            Answer::Accepted
-        }
-        Answer::Refused(refusal) => Answer::Refused(refusal),
-    }
+    judge_in(s, net, &places, x, m, room)?;
+    sheet::write_sheet(net, &places, x, m, sheet);
+    Ok(())
 }
 
 // The same on a book by value.
-pub fn check_sheet(book: Book, x: &[i64], m: &[i64], sheet: &mut [i64]) -> Answer
+pub fn check_sheet(book: Book, x: &[i64], m: &[i64], sheet: &mut [i64]) -> Result<(), Refusal>
     requires { sound book ≡ true }
     ensures answer { result ≡ checked book x.now m.now (has_room book sheet.old) }
     ensures words { sheet.new ≡ sheet_after book x.now m.now sheet.old }
