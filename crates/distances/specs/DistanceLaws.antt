@@ -1,5 +1,5 @@
 -- What the tests of a check distance give: the sizes of its values, how large the number of an answer is, and the answer itself. Assumes nothing.
-use Rattle.std.specs.Prelude.{◌≤◌, ◌≡◌, Bool, true, false, cond, ◌&&◌, [], ◌∷◌, pos, nat_abs}
+use Rattle.std.specs.Prelude.{◌≤◌, ◌≡◌, Bool, true, false, cond, ◌&&◌, [], ◌∷◌, pos, nat_abs, Ok, Err}
 use Rattle.std.proofs.Common.{arith, lit≤}
 use Rattle.std.specs.Int.Signed.{le_z, lt_z}
 use Rattle.words.specs.SignedLaws.{between-size}
@@ -7,14 +7,12 @@ use Rattle.lists.specs.All.{each}
 use Rattle.network.specs.Rules.{ends_fit, height_above_mark_fits}
 use Rattle.network.specs.declared.Network.{Network}
 use Rattle.acceptance.specs.JudgeLaws.{refusal-least, refusal_most}
-use Rattle.acceptance.specs.declared.Answer.{Answer}
-use Rattle.acceptance.specs.declared.Answer.TheVariants.{Accepted}
-use Rattle.distances.specs.Distances.{distance_in_range, on_pair, unless_refused, distance_number, agreement_number}
+use Rattle.acceptance.specs.Judge.{Answer}
+use Rattle.distances.specs.Distances.{DistanceAnswer, distance_in_range, on_pair, unless_refused, distance_number, agreement_number}
 use Rattle.distances.specs.declared.CheckDistance.{CheckDistance}
 use Rattle.distances.specs.declared.DistanceRefusal.{DistanceRefusal}
 use Rattle.distances.specs.declared.DistanceRefusal.TheVariants.{Ends, Range, Pair}
-use Rattle.distances.specs.declared.Agreement.{Agreement}
-use Rattle.distances.specs.declared.Agreement.TheVariants.{Agrees, Disagrees, Refused}
+use Rattle.distances.specs.declared.Agreement.TheVariants.{Agrees, Disagrees}
 
 -- ════ sizes
 pub record InRange (d : CheckDistance) : Type 0 where
@@ -48,27 +46,27 @@ distance_most Ends = lit≤ tt
 distance_most Range = lit≤ tt
 distance_most (Pair r) = omega (arith, refusal_most r)
 
-pub agreement_most : (a : Agreement) → nat_abs (agreement_number a) ≤ 17
-agreement_most Agrees = lit≤ tt
-agreement_most Disagrees = lit≤ tt
-agreement_most (Refused r) = distance_most r
+pub agreement_most : (a : DistanceAnswer) → nat_abs (agreement_number a) ≤ 17
+agreement_most (Ok Agrees) = lit≤ tt
+agreement_most (Ok Disagrees) = lit≤ tt
+agreement_most (Err r) = distance_most r
 
 -- ════ the answer by its tests
 module _ (net : Network) (d : CheckDistance) where
-  pub ends_refused : (next : Agreement) → ends_fit net.count d.from d.to ≡ false → Refused Ends ≡ unless_refused net d next
+  pub ends_refused : (next : DistanceAnswer) → ends_fit net.count d.from d.to ≡ false → Err Ends ≡ unless_refused net d next
   unfolding unless_refused
   ends_refused next e = rw e
 
   module _ (e : ends_fit net.count d.from d.to ≡ true) where
-    pub range_refused : (next : Agreement) → distance_in_range d ≡ false → Refused Range ≡ unless_refused net d next
+    pub range_refused : (next : DistanceAnswer) → distance_in_range d ≡ false → Err Range ≡ unless_refused net d next
     unfolding unless_refused
     range_refused next f = rw (e, f)
 
-    pub not_refused : (next : Agreement) → distance_in_range d ≡ true → next ≡ unless_refused net d next
+    pub not_refused : (next : DistanceAnswer) → distance_in_range d ≡ true → next ≡ unless_refused net d next
     unfolding unless_refused
     not_refused next f = rw (e, f)
 
     -- where the check accepts the pair, it is whether the distance agrees
-    pub pair-answer : (a : Answer) (t : Bool) → a ≡ Accepted → distance_in_range d ≡ true → unless_refused net d (on_pair a t) ≡ cond t Agrees Disagrees
+    pub pair-answer : (a : Answer) (t : Bool) → a ≡ Ok tt → distance_in_range d ≡ true → unless_refused net d (on_pair a t) ≡ Ok (cond t Agrees Disagrees)
     unfolding unless_refused on_pair
     pair-answer a t p f = rw (e, f, p)

@@ -1,15 +1,13 @@
 -- Check distances: document 02, request 1. "The crews tape slope distances between marks after setting out, and want them held against the sheet. A check distance has from, to, the
 -- distance s, instrument and target heights, and a tolerance t, all in units." A check distance is no record: nothing here is in N, T or the degrees of freedom. Assumes nothing.
-use Rattle.std.specs.Prelude.{ℕ, ◌+◌, ◌*◌, Bool, true, cond, ◌&&◌, List, ℤ, pos, negsuc, ◌+ℤ◌, ◌-ℤ◌, ◌*ℤ◌}
+use Rattle.std.specs.Prelude.{ℕ, ◌+◌, ◌*◌, Bool, true, cond, ◌&&◌, List, ℤ, pos, negsuc, ◌+ℤ◌, ◌-ℤ◌, ◌*ℤ◌, Result, Ok, Err}
 use Rattle.std.specs.Int.Signed.{le_z, lt_z}
 use Rattle.words.specs.Signed.{index_in}
 use Rattle.network.specs.Units.{most_stations}
 use Rattle.network.specs.Rules.{ends_fit, height_above_mark_fits}
 use Rattle.network.specs.declared.Network.{Network}
 use Rattle.network.specs.declared.Station.{Station}
-use Rattle.acceptance.specs.Judge.{refusal_number, refusal_unknown}
-use Rattle.acceptance.specs.declared.Answer.{Answer}
-use Rattle.acceptance.specs.declared.Answer.TheVariants.{Accepted, Refused as refused}
+use Rattle.acceptance.specs.Judge.{Answer, refusal_number, refusal_unknown}
 use Rattle.book.specs.declared.Book.{Book}
 use Rattle.residuals.specs.Residuals.{adjusted}
 use Rattle.checks.specs.Checks.{checked}
@@ -17,7 +15,7 @@ use Rattle.distances.specs.declared.CheckDistance.{CheckDistance}
 use Rattle.distances.specs.declared.DistanceRefusal.{DistanceRefusal}
 use Rattle.distances.specs.declared.DistanceRefusal.TheVariants.{Ends, Range, Pair}
 use Rattle.distances.specs.declared.Agreement.{Agreement}
-use Rattle.distances.specs.declared.Agreement.TheVariants.{Agrees, Disagrees, Refused}
+use Rattle.distances.specs.declared.Agreement.TheVariants.{Agrees, Disagrees}
 
 -- ════ 17: "a value out of range"
 -- "Heights are 0 to 300,000" (`height_above_mark_fits`, in crate network), "s is 1 to 1,800,000,000, t is 0 to 100,000 and below s."
@@ -50,17 +48,20 @@ mark stations x k c = adjusted stations x (index_in k most_stations * 3 + c)
 abbrev pub agrees_at : List Station → List ℤ → CheckDistance → Bool
 agrees_at stations x d = agrees d (mark stations x d.from) (mark stations x d.to)
 
--- ════ the answer
+-- ════ the answer: whether the distance agrees, or why it is refused
+abbrev pub DistanceAnswer : Type 0
+DistanceAnswer = Result Agreement DistanceRefusal
+
 -- "It is asked with a pair x, M that the check accepts": given the check's answer, and whether it agrees
-unfoldable pub on_pair : Answer → Bool → Agreement
-on_pair Accepted agreed = cond agreed Agrees Disagrees
-on_pair (refused refusal) agreed = Refused (Pair refusal)
+unfoldable pub on_pair : Answer → Bool → DistanceAnswer
+on_pair (Ok u) agreed = Ok (cond agreed Agrees Disagrees)
+on_pair (Err refusal) agreed = Err (Pair refusal)
 
 -- "Refusals: 17 for a value out of range, after 3 and before the check's own"; 3 is "from or to not in the list, or equal"
-unfoldable pub unless_refused : Network → CheckDistance → Agreement → Agreement
-unless_refused net d next = cond (ends_fit net.count d.from d.to) (cond (distance_in_range d) next (Refused Range)) (Refused Ends)
+unfoldable pub unless_refused : Network → CheckDistance → DistanceAnswer → DistanceAnswer
+unless_refused net d next = cond (ends_fit net.count d.from d.to) (cond (distance_in_range d) next (Err Range)) (Err Ends)
 
-unfoldable pub agreement : Book → List ℤ → List ℤ → CheckDistance → Agreement
+unfoldable pub agreement : Book → List ℤ → List ℤ → CheckDistance → DistanceAnswer
 agreement b x m d = unless_refused b.network d (on_pair (checked b x m true) (agrees_at b.network.stations x d))
 
 -- ════ its number: document 02's of a refusal, 0 where the distance agrees, −2 where it does not
@@ -69,10 +70,10 @@ distance_number Ends = 3
 distance_number Range = 17
 distance_number (Pair refusal) = refusal_number refusal
 
-abbrev pub agreement_number : Agreement → ℤ
-agreement_number Agrees = pos 0
-agreement_number Disagrees = negsuc 1
-agreement_number (Refused refusal) = pos (distance_number refusal)
+abbrev pub agreement_number : DistanceAnswer → ℤ
+agreement_number (Ok Agrees) = pos 0
+agreement_number (Ok Disagrees) = negsuc 1
+agreement_number (Err refusal) = pos (distance_number refusal)
 
 -- "for 11 also the first unknown without a chain", by its number from 1; 0 in every other answer
 abbrev pub distance_unknown : DistanceRefusal → ℕ
@@ -80,7 +81,6 @@ distance_unknown Ends = 0
 distance_unknown Range = 0
 distance_unknown (Pair refusal) = refusal_unknown refusal
 
-abbrev pub agreement_unknown : Agreement → ℕ
-agreement_unknown Agrees = 0
-agreement_unknown Disagrees = 0
-agreement_unknown (Refused refusal) = distance_unknown refusal
+abbrev pub agreement_unknown : DistanceAnswer → ℕ
+agreement_unknown (Ok a) = 0
+agreement_unknown (Err refusal) = distance_unknown refusal

@@ -1,6 +1,6 @@
 -- The coordinates that a check distance is held against are the words that the sheet has for its two stations, at the same x. Assumes nothing.
 use Prim.Native.Nat.{ℕ, zero, suc, ◌+◌, ◌*◌, ◌<◌, ◌≤◌}
-use Rattle.std.specs.Prelude.{◌≡◌, Bool, true, length}
+use Rattle.std.specs.Prelude.{◌≡◌, Bool, true, length, Ok}
 use Rattle.std.proofs.Math.Path.{refl, sym, ap}
 use Rattle.std.proofs.Common.{◌∙◌, subst}
 use Rattle.std.proofs.Math.Bool.{cond}
@@ -18,7 +18,6 @@ use Rattle.network.specs.declared.Station.{Station}
 use Rattle.network.specs.declared.Place.{Place}
 use Rattle.residuals.specs.Residuals.{adjusted, record_count}
 use Rattle.acceptance.specs.Exactly.{answer}
-use Rattle.acceptance.specs.declared.Answer.TheVariants.{Accepted}
 use Rattle.book.specs.declared.Book.{Book}
 use Rattle.book.specs.Book.{sound}
 use Rattle.sheet.specs.Sheet.{station_line_words, station_lines_words, record_lines_words, global_words, sheet_words, room}
@@ -98,13 +97,13 @@ module _ (net : Network) (places : List Place) (x m : List ℤ) (few : net.count
       agrees_as d _ _ _ _ (sheet_mark d.from t.0) (sheet_mark d.to t.1.0)
 
 -- ════ the call and the sheet: where `check_sheet` accepts the pair, the answer to a distance in range is that of the words which it left for the two stations
-module _ (b : Book) (sure : sound b ≡ true) (x m sheet : List ℤ) (accepted : checked b x m (has_room b sheet) ≡ Accepted) where
-  is-accepted : answer b.network b.places x m (has_room b sheet) ≡ Accepted
+module _ (b : Book) (sure : sound b ≡ true) (x m sheet : List ℤ) (accepted : checked b x m (has_room b sheet) ≡ Ok tt) where
+  is-accepted : answer b.network b.places x m (has_room b sheet) ≡ Ok tt
   is-accepted = sym (checked-is b sure x m (has_room b sheet)) ∙ accepted
 
   -- the same pair is accepted where no sheet is lent
-  pair-accepted : checked b x m true ≡ Accepted
-  pair-accepted = subst (λ (t : Bool). checked b x m t ≡ Accepted) (has_room_lem b sure x m (has_room b sheet) is-accepted) accepted
+  pair-accepted : checked b x m true ≡ Ok tt
+  pair-accepted = subst (λ (t : Bool). checked b x m t ≡ Ok tt) (has_room_lem b sure x m (has_room b sheet) is-accepted) accepted
 
   few : b.network.count ≤ 32
   few = network_few b.network (rules b sure).network
@@ -122,10 +121,10 @@ module _ (b : Book) (sure : sound b ≡ true) (x m sheet : List ℤ) (accepted :
       ∙ ap (λ (v : List ℤ). get_or v (coordinate_word s c) (pos 0)) (after-accepted b sure x m sheet is-accepted)
 
   pub agreement_sheet : (d : CheckDistance) → ends_fit b.network.count d.from d.to ≡ true → distance_in_range d ≡ true
-      → agreement b x m d ≡ cond (agrees d (mark_in (sheet_after b x m sheet) d.from) (mark_in (sheet_after b x m sheet) d.to)) Agrees Disagrees
+      → agreement b x m d ≡ Ok (cond (agrees d (mark_in (sheet_after b x m sheet) d.from) (mark_in (sheet_after b x m sheet) d.to)) Agrees Disagrees)
   unfolding agreement
   agreement_sheet d e f =
       let t = ends_each b.network.count d.from d.to few e in
       pair-answer b.network d e _ _ pair-accepted f
-      ∙ ap (λ (g : Bool). cond g Agrees Disagrees)
+      ∙ ap (λ (g : Bool). Ok (cond g Agrees Disagrees))
       (agrees_sheet b.network b.places x m few d e ∙ agrees_as d _ _ _ _ (front_mark d.from t.0) (front_mark d.to t.1.0))

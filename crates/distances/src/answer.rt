@@ -5,35 +5,39 @@ ghost use Rattle.layout.specs.Bytes.{book_of, bytes_fit};
 ghost use Rattle.distances.specs.Distances.{agreement, distance_number, agreement_number, distance_unknown, agreement_unknown};
 
 use super::{Agreement, CheckDistance, DistanceRefusal, comparison, distance};
-use acceptance::Answer;
 use book::Book;
 
 // Whether the distance agrees with the sheet of the pair x, M, which the check must accept, on bytes that hold a book.
-pub fn check_distance_in(s: &[u8], x: &[i64], m: &[i64], d: CheckDistance) -> Agreement
+pub fn check_distance_in(
+    s: &[u8],
+    x: &[i64],
+    m: &[i64],
+    d: CheckDistance,
+) -> Result<Agreement, DistanceRefusal>
     requires { bytes_fit s.now ≡ true }
     ensures { result ≡ agreement (book_of s.now) x.now m.now d }
 {
     let net = layout::network_in(s);
     if !network::ends_fit(net.count, d.from, d.to) {
-        return Agreement::Refused(DistanceRefusal::Ends);
+        return Err(DistanceRefusal::Ends);
     }
     if !distance::in_range(d) {
-        return Agreement::Refused(DistanceRefusal::Range);
+        return Err(DistanceRefusal::Range);
     }
-    let answer = checks::check_in(s, x, m);
-    match answer {
-        Answer::Accepted => {
-            if comparison::agrees(net, x, d) {
-                return Agreement::Agrees;
-            }
-            Agreement::Disagrees
-        }
-        Answer::Refused(refusal) => Agreement::Refused(DistanceRefusal::Pair(refusal)),
+    checks::check_in(s, x, m)?;
+    if comparison::agrees(net, x, d) {
+        return Ok(Agreement::Agrees);
     }
+    Ok(Agreement::Disagrees)
 }
 
 // The same on a book by value.
-pub fn check_distance(book: Book, x: &[i64], m: &[i64], d: CheckDistance) -> Agreement
+pub fn check_distance(
+    book: Book,
+    x: &[i64],
+    m: &[i64],
+    d: CheckDistance,
+) -> Result<Agreement, DistanceRefusal>
     requires { sound book ≡ true }
     ensures { result ≡ agreement book x.now m.now d }
 {
@@ -42,24 +46,26 @@ pub fn check_distance(book: Book, x: &[i64], m: &[i64], d: CheckDistance) -> Agr
 }
 
 // Document 02's number of a refusal.
-fn refusal_number(refusal: DistanceRefusal) -> u64
-    ensures { result ≡ distance_number refusal }
-{
-    match refusal {
-        DistanceRefusal::Ends => 3,
-        DistanceRefusal::Range => 17,
-        DistanceRefusal::Pair(pair) => acceptance::number(Answer::Refused(pair)),
+impl From<DistanceRefusal> for u64 {
+    ghost from_gives = { λ refusal n. n ≡ distance_number refusal };
+
+    fn from(refusal: DistanceRefusal) -> u64 {
+        match refusal {
+            DistanceRefusal::Ends => 3,
+            DistanceRefusal::Range => 17,
+            DistanceRefusal::Pair(pair) => u64::from(pair),
+        }
     }
 }
 
 // The number of an answer: 0 where the distance agrees, −2 where it does not, else that of the refusal.
-pub fn number(a: Agreement) -> i64
-    ensures { result ≡ agreement_number a }
+pub fn number(answer: Result<Agreement, DistanceRefusal>) -> i64
+    ensures { result ≡ agreement_number answer }
 {
-    match a {
-        Agreement::Agrees => 0,
-        Agreement::Disagrees => -2,
-        Agreement::Refused(refusal) => refusal_number(refusal) as i64,
+    match answer {
+        Ok(Agreement::Agrees) => 0,
+        Ok(Agreement::Disagrees) => -2,
+        Err(refusal) => u64::from(refusal) as i64,
     }
 }
 
@@ -68,19 +74,17 @@ fn refusal_unknown(refusal: DistanceRefusal) -> u64
     ensures { result ≡ distance_unknown refusal }
 {
     match refusal {
-        DistanceRefusal::Ends => 0,
-        DistanceRefusal::Range => 0,
-        DistanceRefusal::Pair(pair) => acceptance::unknown(Answer::Refused(pair)),
+        DistanceRefusal::Pair(pair) => acceptance::unknown(Err(pair)),
+        _ => 0,
     }
 }
 
 // The same of an answer.
-pub fn unknown(a: Agreement) -> u64
-    ensures { result ≡ agreement_unknown a }
+pub fn unknown(answer: Result<Agreement, DistanceRefusal>) -> u64
+    ensures { result ≡ agreement_unknown answer }
 {
-    match a {
-        Agreement::Agrees => 0,
-        Agreement::Disagrees => 0,
-        Agreement::Refused(refusal) => refusal_unknown(refusal),
+    match answer {
+        Ok(_) => 0,
+        Err(refusal) => refusal_unknown(refusal),
     }
 }

@@ -8,11 +8,11 @@ use super::CheckDistance;
 pub fn in_range(d: CheckDistance) -> bool
     ensures { result ≡ distance_in_range d }
 {
-    words::between(d.instrument, 0, CheckDistance::HEIGHT)
-        & words::between(d.target, 0, CheckDistance::HEIGHT)
-        & words::between(d.distance, 1, CheckDistance::DISTANCE)
-        & words::between(d.tolerance, 0, CheckDistance::TOLERANCE)
-        & words::less(d.tolerance, d.distance)
+    (0..=CheckDistance::HEIGHT).contains(&d.instrument)
+        & (0..=CheckDistance::HEIGHT).contains(&d.target)
+        & (1..=CheckDistance::DISTANCE).contains(&d.distance)
+        & (0..=CheckDistance::TOLERANCE).contains(&d.tolerance)
+        & (d.tolerance < d.distance)
 }
 
 // (s − t)² ≤ squared ≤ (s + t)².
@@ -22,5 +22,5 @@ pub fn within_tolerance(s: i64, t: i64, squared: i64) -> bool
 {
     let near = (s - t) * (s - t);
     let far = (s + t) * (s + t);
-    words::between(squared, near, far)
+    (near <= squared) & (squared <= far)
 }

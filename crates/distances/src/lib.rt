@@ -2,6 +2,9 @@
 // part of N, T or the degrees of freedom.
 #![tactic(auto)]
 
+ghost use Rattle.std.specs.Prelude.{◌≡◌};
+ghost use Rattle.distances.specs.declared.DistanceRefusal.TheVariants.{Pair};
+
 mod answer;
 mod comparison;
 mod distance;
@@ -42,10 +45,17 @@ pub enum DistanceRefusal {
     Pair(Refusal),
 }
 
+impl From<Refusal> for DistanceRefusal {
+    ghost from_gives = { λ pair r. r ≡ Pair pair };
+
+    fn from(pair: Refusal) -> DistanceRefusal {
+        DistanceRefusal::Pair(pair)
+    }
+}
+
 // Whether a check distance agrees with the sheet of an accepted pair.
 #[derive(Clone, Copy)]
 pub enum Agreement {
     Agrees,
     Disagrees,
-    Refused(DistanceRefusal),
 }

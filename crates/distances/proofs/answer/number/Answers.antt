@@ -11,18 +11,12 @@ use Rattle.distances.proofs.answer.number.Goals as goal
 
 pub overflow_cast-result : goal.overflow_cast-result
 overflow_cast-result c =
-    let number_is : pos c.refusal_number.result ≡ agreement_number c.args.a = ap pos c.refusal_number.ensures ∙ ap agreement_number (sym c.in-Refused.is) in
-    let h : c.refusal_number.result ≤ 17 = subst (λ (z : ℤ). nat_abs z ≤ 17) (sym number_is) (agreement_most c.args.a) in
+    let number_is : pos c.from.result ≡ agreement_number c.args.answer = ap pos c.from.ensures ∙ ap agreement_number (sym c.in-Err.is) in
+    let h : c.from.result ≤ 17 = subst (λ (z : ℤ). nat_abs z ≤ 17) (sym number_is) (agreement_most c.args.answer) in
     record { sfits = omega arith }
 
-pub returns-in-Agrees : goal.returns-in-Agrees
-returns-in-Agrees c = ap agreement_number (sym c.in-Agrees.is)
-
-pub returns-in-Disagrees : goal.returns-in-Disagrees
-returns-in-Disagrees c = ap agreement_number (sym c.in-Disagrees.is)
-
-pub returns-in-Refused : goal.returns-in-Refused
-returns-in-Refused c =
-    let number_is : pos c.refusal_number.result ≡ agreement_number c.args.a = ap pos c.refusal_number.ensures ∙ ap agreement_number (sym c.in-Refused.is) in
-    let h : c.refusal_number.result ≤ 17 = subst (λ (z : ℤ). nat_abs z ≤ 17) (sym number_is) (agreement_most c.args.a) in
+pub returns-in-Err : goal.returns-in-Err
+returns-in-Err c =
+    let number_is : pos c.from.result ≡ agreement_number c.args.answer = ap pos c.from.ensures ∙ ap agreement_number (sym c.in-Err.is) in
+    let h : c.from.result ≤ 17 = subst (λ (z : ℤ). nat_abs z ≤ 17) (sym number_is) (agreement_most c.args.answer) in
     to_z-of_z {w = w64} (record { sfits = omega arith }) ∙ number_is

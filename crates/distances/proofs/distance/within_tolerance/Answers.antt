@@ -1,6 +1,6 @@
 -- Distance and tolerance are small, so the two squares fit and are those of the definition (`near-is`, `far-is`). Assumes nothing.
 use Prim.Native.Nat.{◌≤◌}
-use mathlib.Core.Path.{◌≡◌, ◌∙◌}
+use mathlib.Core.Path.{◌≡◌}
 use mathlib.Core.Bool.{◌&&◌}
 use mathlib.Core.List.{[], ◌∷◌}
 use lib.IntN.{ℤ, nat_abs, ◌+ℤ◌, ◌-ℤ◌, ◌*ℤ◌}
@@ -42,7 +42,6 @@ unfolding within_tolerance
 returns c =
     let p = c.requires in
     let a = c.args in
-    c.between.ensures
-    ∙ (λ i.
+    (λ i.
     le_z (near-is a.s a.t p.0 p.1 i) (to_z-of_z w64 a.squared c.ranges.squared i)
     && le_z (to_z-of_z w64 a.squared c.ranges.squared i) (far-is a.s a.t p.0 p.1 i))
