@@ -1,13 +1,11 @@
 -- Demand 1 holds of the calls in the language: each definition that a contract equals gives what came where it refuses. Assumes nothing.
-use Rattle.std.specs.Prelude.{◌≡◌, ℕ, zero, suc, Bool, true, false, cond, List, [], ◌∷◌, length, ℤ, pos, ◌≢◌, unsigned_abs, refl}
+use Rattle.std.specs.Prelude.{◌≡◌, ℕ, zero, suc, Bool, true, false, cond, List, [], ◌∷◌, length, ℤ, pos, ◌≢◌, unsigned_abs, refl, Ok, Err}
 use Rattle.std.proofs.Common.{sym, ap, ◌∙◌, subst, arith}
 use Rattle.network.specs.Stations.{network_of, opens}
 use Rattle.network.specs.OpeningLaws.{opened-fits}
-use Rattle.acceptance.specs.Judge.{answer_number}
-use Rattle.acceptance.specs.declared.Answer.{Answer}
-use Rattle.acceptance.specs.declared.Answer.TheVariants.{Accepted, Refused}
+use Rattle.acceptance.specs.Judge.{answer_number, Answer}
 use Rattle.book.specs.declared.Book.{Book}
-use Rattle.book.specs.declared.Edited.{Edited}
+use Rattle.book.specs.Outcome.{Outcome}
 use Rattle.book.specs.Calls.{unless}
 use Rattle.book.specs.Book.{opened_book, opening, outcome, book_says, book_accepts, sound}
 use Rattle.book.specs.Sound.{Sized, sound-parts, parts-sound}
@@ -30,8 +28,8 @@ unfolding sheet_after on_acceptance
 sheet_refused b x m sheet h = go (checked b x m (has_room b sheet)) refl
   where
     go : (a : Answer) → checked b x m (has_room b sheet) ≡ a → sheet_after b x m sheet ≡ sheet
-    go Accepted e = absurd (h (ap answer_number e))
-    go (Refused r) e = rw e
+    go (Ok u) e = absurd (h (ap answer_number e))
+    go (Err r) e = rw e
 
 not_number : (r : ℤ) (n : ℕ) → r ≡ pos n → (r ≢ pos 0) → n ≢ 0
 not_number r n e h z = h (e ∙ ap pos z)
@@ -66,8 +64,8 @@ answers (to_check_distance b x m d) = (_, _, (refl, refl))
 answers (to_propose b x m) = (_, _, (Nothing, x, m, (refl, refl), refl, refl))
 
 -- ════ an accepted opening or edit gives a sound book
-opened : (t : Bool) (b none k : Book) → (cond {A = Edited} t (record { refusal = 0; book = b }) (record { refusal = 1; book = none })).refusal ≡ 0
-    → (cond {A = Edited} t (record { refusal = 0; book = b }) (record { refusal = 1; book = none })).book ≡ k → (t ≡ true) × (b ≡ k)
+opened : (t : Bool) (b none k : Book) → (cond {A = Outcome} t (record { refusal = 0; book = b }) (record { refusal = 1; book = none })).refusal ≡ 0
+    → (cond {A = Outcome} t (record { refusal = 0; book = b }) (record { refusal = 1; book = none })).book ≡ k → (t ≡ true) × (b ≡ k)
 opened true b none k z e = (refl, e)
 opened false b none k z e = absurd (let w : ◌≡◌ {A = ℕ} 1 0 = z in omega arith)
 

@@ -17,23 +17,21 @@ fn corrections(s: &[u8], work: &[f64], n: usize, x: &mut [i64])
 {
     let right = layout::right_in(s);
     let mut u = [0.0; Normals::ROW];
-    load(&right, &mut u, 0, n);
+    load(&right[..n], &mut u);
     let mut found = [0.0; Normals::ROW];
     solve(work, &u, &mut found, n);
-    store(&found, 0, 1.0, x, 0, n);
+    store(&found[..n], 1.0, x);
 }
 
 // N of the book that the bytes hold, in both halves of the work slice: one is inverted in place, the other stays for the corrections. It is read row by row, so that no copy of N is held.
 fn load_matrix(s: &[u8], work: &mut [f64])
     requires { (book_bytes ≤ length s.now) × (work_length ≤ length work.old) }
 {
-    let mut i: usize = 0;
-    while i < Normals::ROW {
+    for i in 0..Normals::ROW {
         let row = layout::row_in(s, i);
         let at = i * Normals::ROW;
-        load(&row, work, at, Normals::ROW);
-        load(&row, work, Normals::ENTRIES + at, Normals::ROW);
-        i += 1;
+        load(&row, &mut work[at..]);
+        load(&row, &mut work[Normals::ENTRIES + at..]);
     }
 }
 
@@ -43,10 +41,10 @@ pub(crate) fn candidate(s: &[u8], n: usize, x: &mut [i64], m: &mut [i64], work: 
     requires most_unknowns_in_bounds { (most_unknowns ≤ length x.old) × ((matrix_length ≤ length m.old) × ((work_length ≤ length work.old) × (n ≤ most_unknowns))) }
 {
     load_matrix(s, work);
-    if invert(work, n) {
-        store_rows(work, m, n);
-        corrections(s, work, n, x);
-        return true;
+    if !invert(work, n) {
+        return false;
     }
-    false
+    store_rows(work, m, n);
+    corrections(s, work, n, x);
+    true
 }

@@ -13,9 +13,10 @@ fn entry(a: &[f64], i: usize, k: usize) -> f64
     requires { (matrix_length ≤ length a.now) × ((i < most_unknowns) × (k < most_unknowns)) }
 {
     if i < k {
-        return a[k * Normals::ROW + i];
+        a[k * Normals::ROW + i]
+    } else {
+        a[i * Normals::ROW + k]
     }
-    a[i * Normals::ROW + k]
 }
 
 fn put_entry(a: &mut [f64], i: usize, k: usize, v: f64)
@@ -23,19 +24,17 @@ fn put_entry(a: &mut [f64], i: usize, k: usize, v: f64)
 {
     if i < k {
         a[k * Normals::ROW + i] = v;
-        return;
+    } else {
+        a[i * Normals::ROW + k] = v;
     }
-    a[i * Normals::ROW + k] = v;
 }
 
 // Column k of the symmetric matrix into `column`.
 fn take_column(a: &[f64], k: usize, n: usize, column: &mut [f64])
     requires { (matrix_length ≤ length a.now) × ((k < most_unknowns) × ((n ≤ most_unknowns) × (most_unknowns ≤ length column.old))) }
 {
-    let mut i: usize = 0;
-    while i < n {
+    for i in 0..n {
         column[i] = entry(a, i, k);
-        i += 1;
     }
 }
 
@@ -43,10 +42,9 @@ fn take_column(a: &[f64], k: usize, n: usize, column: &mut [f64])
 fn subtract(a: &mut [f64], i: usize, factor: f64, column: &[f64])
     requires { (matrix_length ≤ length a.old) × ((i < most_unknowns) × (most_unknowns ≤ length column.now)) }
 {
-    let mut j: usize = 0;
-    while j <= i {
-        a[i * Normals::ROW + j] = a[i * Normals::ROW + j] - factor * column[j];
-        j += 1;
+    let at = i * Normals::ROW;
+    for (j, v) in a[at..at + i + 1].iter_mut().enumerate() {
+        *v -= factor * column[j];
     }
 }
 
@@ -54,10 +52,8 @@ fn subtract(a: &mut [f64], i: usize, factor: f64, column: &[f64])
 fn eliminate(a: &mut [f64], column: &[f64], q: f64, n: usize)
     requires { (matrix_length ≤ length a.old) × ((most_unknowns ≤ length column.now) × (n ≤ most_unknowns)) }
 {
-    let mut i: usize = 0;
-    while i < n {
+    for i in 0..n {
         subtract(a, i, column[i] * q, column);
-        i += 1;
     }
 }
 
@@ -65,10 +61,8 @@ fn eliminate(a: &mut [f64], column: &[f64], q: f64, n: usize)
 fn put_column(a: &mut [f64], column: &[f64], q: f64, k: usize, n: usize)
     requires { (matrix_length ≤ length a.old) × ((most_unknowns ≤ length column.now) × ((k < most_unknowns) × (n ≤ most_unknowns))) }
 {
-    let mut i: usize = 0;
-    while i < n {
+    for i in 0..n {
         put_entry(a, i, k, column[i] * q);
-        i += 1;
     }
 }
 
@@ -93,12 +87,10 @@ fn step(a: &mut [f64], k: usize, n: usize) -> bool
 fn sweep(a: &mut [f64], n: usize) -> bool
     requires { (matrix_length ≤ length a.old) × (n ≤ most_unknowns) }
 {
-    let mut k: usize = 0;
-    while k < n {
+    for k in 0..n {
         if !step(a, k, n) {
             return false;
         }
-        k += 1;
     }
     true
 }
@@ -107,22 +99,18 @@ fn sweep(a: &mut [f64], n: usize) -> bool
 fn complete_row(a: &mut [f64], i: usize)
     requires { (matrix_length ≤ length a.old) × (i < most_unknowns) }
 {
-    let mut j: usize = 0;
-    while j <= i {
+    for j in 0..i + 1 {
         let v = -a[i * Normals::ROW + j];
         a[i * Normals::ROW + j] = v;
         a[j * Normals::ROW + i] = v;
-        j += 1;
     }
 }
 
 fn complete(a: &mut [f64], n: usize)
     requires { (matrix_length ≤ length a.old) × (n ≤ most_unknowns) }
 {
-    let mut i: usize = 0;
-    while i < n {
+    for i in 0..n {
         complete_row(a, i);
-        i += 1;
     }
 }
 

@@ -9,21 +9,20 @@ mod inverse;
 mod rounding;
 mod solution;
 
-ghost use Rattle.std.specs.Prelude.{◌≡◌, ◌*◌, ◌<◌, ◌≤◌, true, length, take};
+ghost use Rattle.std.specs.Prelude.{◌≡◌, ◌*◌, ◌<◌, ◌≤◌, true, length, take, Ok};
 ghost use Rattle.network.specs.Units.{most_unknowns};
 ghost use Rattle.normals.specs.Formulas.{matrix_length};
-ghost use Rattle.acceptance.specs.declared.Answer.TheVariants.{Accepted};
 ghost use Rattle.book.specs.Book.{sound};
 ghost use Rattle.layout.specs.Bytes.{book_of, bytes_fit};
 ghost use Rattle.checks.specs.Checks.{checked};
 ghost use Rattle.engine.specs.Proposals.{Proposed, work_length};
 
-use acceptance::Answer;
 use book::Book;
 use network::Unit;
 use normals::Normals;
 
 // The answer to a call for a proposal; specs/Proposals says what each case promises.
+// Stays: no value goes with Made, since the pair is left in the lent slices, and Nothing is no error: neither Option nor Result would be plainer.
 #[derive(Clone, Copy)]
 pub enum Proposal {
     // x and M, as they are left in the lent slices, are accepted.
@@ -46,14 +45,10 @@ fn square(n: usize) -> usize
 // Whether the check accepts the first n and n·n numbers of x and m.
 fn is_accepted(s: &[u8], n: usize, x: &[i64], m: &[i64]) -> bool
     requires { (bytes_fit s.now ≡ true) × (n ≤ most_unknowns) × (most_unknowns ≤ length x.now) × (matrix_length ≤ length m.now) }
-    ensures { result ≡ true → checked (book_of s.now) (take n x.now) (take (n * n) m.now) true ≡ Accepted }
+    ensures { result ≡ true → checked (book_of s.now) (take n x.now) (take (n * n) m.now) true ≡ Ok tt }
 {
     let entries = square(n);
-    let answer = checks::check_in(s, &x[0..n], &m[0..entries]);
-    if let Answer::Accepted = answer {
-        return true;
-    }
-    false
+    checks::check_in(s, &x[..n], &m[..entries]).is_ok()
 }
 
 // A candidate worked out beside a work slice of its own, which is gone when the check begins.
@@ -67,7 +62,7 @@ fn work_alone(s: &[u8], n: usize, x: &mut [i64], m: &mut [i64]) -> bool
 // Works a pair out in the lent room, and has the check judge its first n and n·n numbers: true where they are accepted. What the room holds is free but for that.
 pub fn work_out(s: &[u8], n: usize, x: &mut [i64], m: &mut [i64]) -> bool
     requires { (bytes_fit s.now ≡ true) × (n ≤ most_unknowns) × (most_unknowns ≤ length x.old) × (matrix_length ≤ length m.old) }
-    ensures { result ≡ true → checked (book_of s.now) (take n x.new) (take (n * n) m.new) true ≡ Accepted }
+    ensures { result ≡ true → checked (book_of s.now) (take n x.new) (take (n * n) m.new) true ≡ Ok tt }
 {
     if !work_alone(s, n, x, m) {
         return false;
@@ -90,8 +85,8 @@ fn propose_beside(s: &[u8], n: usize, x: &mut [i64], m: &mut [i64], work: &mut [
     if !is_accepted(s, n, &corrections, &inverse) {
         return Proposal::Nothing;
     }
-    lists::copy(&corrections[0..n], x);
-    lists::copy(&inverse[0..entries], m);
+    x.copy_from_slice(&corrections[..n]);
+    m.copy_from_slice(&inverse[..entries]);
     Proposal::Made
 }
 

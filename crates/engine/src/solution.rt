@@ -8,15 +8,22 @@ ghost use Rattle.engine.specs.Proposals.{work_length};
 
 use normals::Normals;
 
-// The sum of the products of n numbers of a from `from` on and the first n of v.
-fn dot(a: &[f64], from: usize, v: &[f64], n: usize) -> f64
-    requires { (from + n ≤ length a.now) × (n ≤ length v.now) }
+// The limit of a correction, by document 01's test 3.
+const MOST: f64 = 100000.0;
+
+// 3·2^51: f64 holds whole numbers alone at this size, so what is added to it is rounded to one.
+const ROUNDING: f64 = 6755399441055744.0;
+
+// The rounds of refinement.
+const ROUNDS: usize = 3;
+
+// The sum of the products of the numbers of a row and those at the front of v, from the first on.
+fn dot(row: &[f64], v: &[f64]) -> f64
+    requires { length row.now ≤ length v.now }
 {
     let mut sum = 0.0;
-    let mut k: usize = 0;
-    while k < n {
-        sum = sum + a[from + k] * v[k];
-        k += 1;
+    for (k, a) in row.iter().enumerate() {
+        sum += *a * v[k];
     }
     sum
 }
@@ -26,22 +33,21 @@ fn residual(work: &[f64], right: &[f64], x: &[f64], r: &mut [f64], n: usize)
     requires work_length_in_bounds { (work_length ≤ length work.now) × (n ≤ most_unknowns) }
     requires most_unknowns_in_bounds { (most_unknowns ≤ length right.now) × ((most_unknowns ≤ length x.now) × (most_unknowns ≤ length r.old)) }
 {
-    let mut i: usize = 0;
-    while i < n {
-        r[i] = right[i] - dot(work, Normals::ENTRIES + i * Normals::ROW, x, n);
-        i += 1;
+    for i in 0..n {
+        let at = Normals::ENTRIES + i * Normals::ROW;
+        r[i] = right[i] - dot(&work[at..at + n], x);
     }
 }
 
-// v rounded to a whole number, within the limits of a correction (document 01's test 3). At this size f64 holds whole numbers alone.
+// v rounded to a whole number, within the limits of a correction.
 fn correction(v: f64) -> f64 {
-    if v > 100000.0 {
-        return 100000.0;
+    if v > MOST {
+        return MOST;
     }
-    if v < -100000.0 {
-        return -100000.0;
+    if v < -MOST {
+        return -MOST;
     }
-    (v + 6755399441055744.0) - 6755399441055744.0
+    (v + ROUNDING) - ROUNDING
 }
 
 // x + inverse · r, rounded.
@@ -49,10 +55,9 @@ fn refine(work: &[f64], r: &[f64], x: &mut [f64], n: usize)
     requires work_length_in_bounds { (work_length ≤ length work.now) × (n ≤ most_unknowns) }
     requires most_unknowns_in_bounds { (most_unknowns ≤ length r.now) × (most_unknowns ≤ length x.old) }
 {
-    let mut i: usize = 0;
-    while i < n {
-        x[i] = correction(x[i] + dot(work, i * Normals::ROW, r, n));
-        i += 1;
+    for i in 0..n {
+        let at = i * Normals::ROW;
+        x[i] = correction(x[i] + dot(&work[at..at + n], r));
     }
 }
 
@@ -63,10 +68,8 @@ pub(crate) fn solve(work: &[f64], right: &[f64], x: &mut [f64], n: usize)
     requires most_unknowns_in_bounds { (most_unknowns ≤ length right.now) × (most_unknowns ≤ length x.old) }
 {
     let mut r = [0.0; Normals::ROW];
-    let mut round: usize = 0;
-    while round < 3 {
+    for _ in 0..ROUNDS {
         residual(work, right, x, &mut r, n);
         refine(work, &r, x, n);
-        round += 1;
     }
 }

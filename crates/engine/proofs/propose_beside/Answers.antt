@@ -1,6 +1,5 @@
 -- What is copied to x and m is what was accepted. Assumes nothing.
-use Rattle.std.proofs.Common.{ℕ, true, List, length, take, ℤ, ap, ◌∙◌, ap₂, mul-le-mul, arith}
-use native.Mathlib.Nat.{sub-zero}
+use Rattle.std.proofs.Common.{ℕ, true, List, take, ℤ, ap, ◌∙◌, ap₂, arith}
 use Rattle.layout.specs.Bytes.{book_of}
 use Rattle.layout.specs.CodecLaws.{fits-room}
 use Rattle.checks.specs.Checks.{checked}
@@ -12,13 +11,10 @@ candidate-requires c =
     let g = c.requires.n_le_most_unknowns in
     record { book_bytes_in_bounds = omega arith; most_unknowns_in_bounds = omega (arith, g) }
 
-pub slice_bounds-copy-end-2 : goal.slice_bounds-copy-end-2
-slice_bounds-copy-end-2 c = omega (arith, c.requires.n_le_most_unknowns.2, mul-le-mul c.requires.n_le_most_unknowns.0 c.requires.n_le_most_unknowns.0)
-
 pub returns : goal.returns
 returns c =
     let f = c.candidate.new in
     ap₂ (λ (p q : List ℤ). checked (book_of c.args.s.now) p q true)
-    (c.copy.ensures ∙ ap (λ (i : ℕ). take i f.x) (sub-zero c.args.n))
-    (c.copy-2.ensures ∙ ap (λ (j : ℕ). take j f.m) (sub-zero (length c.args.m.now) ∙ c.requires.n_le_most_unknowns.2))
+    c.copy_from_slice.ensures.after
+    (c.copy_from_slice-2.ensures.after ∙ ap (λ (j : ℕ). take j f.m) c.requires.n_le_most_unknowns.2)
     ∙ c.is_accepted.ensures c.if-not-is_accepted.false
