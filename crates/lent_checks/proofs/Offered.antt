@@ -1,6 +1,7 @@
 -- Lengths that fit a proposal, and a pair written to lent bytes, which is checked as it stands. Assumes nothing.
+use Rattle.std.specs.Prelude.{Ok}
 use Prim.Native.Nat.{ℕ, ◌+◌, ◌*◌, ◌/◌, ◌%◌, ◌≤◌}
-use mathlib.Core.Path.{◌≡◌, refl, sym, ap, ap₂, ◌∙◌, subst}
+use mathlib.Core.Path.{◌≡◌, refl, sym, ap, ap₂, ◌∙◌}
 use mathlib.Core.Bool.{Bool, true, false, ◌&&◌}
 use mathlib.Core.List.{List}
 use native.Mathlib.Nat.{mul-le-mul}
@@ -18,7 +19,6 @@ use Rattle.network.specs.Stations.{unknown_count}
 use Rattle.acceptance.specs.Tests.{lengths_fit}
 use Rattle.acceptance.specs.JudgeLaws.{lengths_of}
 use Rattle.acceptance.specs.Exactly.{answer}
-use Rattle.acceptance.specs.declared.Answer.TheVariants.{Accepted}
 use Rattle.book.specs.declared.Book.{Book}
 use Rattle.book.specs.Sound.{SoundParts, parts-sound}
 use Rattle.checks.specs.Checks.{checked}
@@ -41,7 +41,7 @@ module _ (s : List ℕ) (ws : List ℤ) (long : 8 * length ws ≡ length s) wher
       ap (words_at (put_words s 0 ws) 0) n ∙ run_back s 0 ws (let h : 0 + 8 * length ws ≤ length s = omega arith in h) fits
 
 module _ (b : Book) (o : SoundParts b) (x m : List ℕ) (xs ms : List ℤ) (lx : 8 * length xs ≡ length x) (lm : 8 * length ms ≡ length m) where
-  pub made : answer b.network b.places xs ms true ≡ Accepted → checked_lent b (put_words x 0 xs) (put_words m 0 ms) true ≡ Accepted
+  pub made : answer b.network b.places xs ms true ≡ Ok tt → checked_lent b (put_words x 0 xs) (put_words m 0 ms) true ≡ Ok tt
   unfolding checked_lent
   made e =
       let fx : (i : ℕ) → SFits w64 (get_or xs i (pos 0)) = λ i. fits_by (get_or xs i (pos 0)) ((solved b (parts-sound b o) xs ms true e).moved.corrections.bound i) tt in
@@ -79,6 +79,5 @@ module _ (k : ℕ) (x m : List ℕ) where
     pub offers_none : lent_lengths k x m ≡ false → OffersLent b (pos 10) x m x m
     offers_none e = record { unfit = λ f. (refl, refl, refl); fit = λ f. clash f (ap (λ (i : ℕ). lent_lengths i x m) (sym is) ∙ e) }
 
-    pub offers_some : (r r' : ℤ) (x' m' : List ℕ) → r' ≡ r → lent_lengths k x m ≡ true → Offers b r x m x' m' → OffersLent b r' x m x' m'
-    offers_some r r' x' m' q e o =
-        record { unfit = λ f. clash e (ap (λ (i : ℕ). lent_lengths i x m) is ∙ f); fit = λ f. subst (λ (z : ℤ). Offers b z x m x' m') (sym q) o }
+    pub offers_some : (r : ℤ) (x' m' : List ℕ) → lent_lengths k x m ≡ true → Offers b r x m x' m' → OffersLent b r x m x' m'
+    offers_some r x' m' e o = record { unfit = λ f. clash e (ap (λ (i : ℕ). lent_lengths i x m) is ∙ f); fit = λ f. o }

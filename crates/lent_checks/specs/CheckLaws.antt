@@ -1,5 +1,5 @@
 -- Laws of the calls that check: lent slices that fail test 1, and how large an answer is. Assumes nothing.
-use Rattle.std.specs.Prelude.{ℕ, ◌+◌, ◌*◌, ◌/◌, ◌%◌, ◌≤◌, ◌≡◌, false, ◌&&◌, ℤ}
+use Rattle.std.specs.Prelude.{ℕ, ◌+◌, ◌*◌, ◌/◌, ◌%◌, ◌≤◌, ◌≡◌, false, ◌&&◌, ℤ, Ok, Err}
 use Rattle.std.proofs.Math.Path.{refl, ap}
 use Rattle.std.proofs.Common.{sym, ◌∙◌, ⊎_elim, arith}
 use Rattle.std.proofs.Math.Bool.{Bool, true}
@@ -18,11 +18,9 @@ use Rattle.network.specs.StationLaws.{number_small}
 use Rattle.network.specs.RuleLaws.{sound-stations}
 use Rattle.sheet.specs.Sheet.{sheet_words, room}
 use Rattle.acceptance.specs.Tests.{lengths_fit}
-use Rattle.acceptance.specs.Judge.{answer_number, answer_unknown, judge}
+use Rattle.acceptance.specs.Judge.{answer_number, answer_unknown, judge, Answer}
 use Rattle.acceptance.specs.JudgeLaws.{lengths_of, number_most_lem}
 use Rattle.acceptance.specs.Exactly.{answer}
-use Rattle.acceptance.specs.declared.Answer.{Answer}
-use Rattle.acceptance.specs.declared.Answer.TheVariants.{Accepted, Refused}
 use Rattle.acceptance.specs.declared.Refusal.TheVariants.{Lengths}
 use Rattle.book.specs.declared.Book.{Book}
 use Rattle.book.specs.Sound.{SoundParts, parts-sound}
@@ -32,13 +30,13 @@ use Rattle.checks.specs.Demand2Holds.{demand_2}
 use Rattle.lent_checks.specs.LentChecks.{all_words, is_whole, x_bytes, m_bytes, sizes_fit, answer_most, checked_lent, on_accepted}
 
 -- ════ test 1 fails
-pub test_1 : (b : Book) (x m : List ℤ) (r : Bool) → lengths_fit (unknown_count b.network.stations) x m r ≡ false → Refused Lengths ≡ checked b x m r
+pub test_1 : (b : Book) (x m : List ℤ) (r : Bool) → lengths_fit (unknown_count b.network.stations) x m r ≡ false → Err Lengths ≡ checked b x m r
 unfolding checked answer judge then_nine
 test_1 b x m r e = rw e
 
 module _ (b : Book) (x m : List ℕ) (r : Bool) where
   -- a sheet without room
-  pub lent_roomless : r ≡ false → Refused Lengths ≡ checked_lent b x m r
+  pub lent_roomless : r ≡ false → Err Lengths ≡ checked_lent b x m r
   unfolding checked_lent lengths_fit
   lent_roomless e =
       let k = unknown_count b.network.stations in
@@ -68,7 +66,7 @@ module _ (b : Book) (o : SoundParts b) (x m : List ℕ) (r : Bool) where
       (and_both _ _ whole (le-leb _ _ (let h : length x ≤ x_bytes = omega (arith, length_words x 0 (length x / 8), long.0) in h)))
       (le-leb _ _ (let h : length m ≤ m_bytes = omega (arith, length_words m 0 (length m / 8), long.1, mul-le-mul few few) in h))
 
-  pub lent_unfit : sizes_fit x m ≡ false → Refused Lengths ≡ checked_lent b x m r
+  pub lent_unfit : sizes_fit x m ≡ false → Err Lengths ≡ checked_lent b x m r
   unfolding checked_lent
   lent_unfit e = test_1 b (all_words x) (all_words m) (is_whole x && is_whole m && r) (⊎_elim (λ t. clash (passed t) e) (λ f. f) (true_or_false _))
 
@@ -94,7 +92,7 @@ module _ (b : Book) (x m ws : List ℤ) (long : length ws ≡ room b.network b.p
   pub has_room-lent : has_room b ws ≡ true
   has_room-lent = le-leb _ _ (let h : room b.network b.places ≤ length ws = omega arith in h)
 
-  sheet_is : checked b x m (has_room b ws) ≡ Accepted → sheet_after b x m ws ≡ sheet_words b.network b.places x m
+  sheet_is : checked b x m (has_room b ws) ≡ Ok tt → sheet_after b x m ws ≡ sheet_words b.network b.places x m
   unfolding sheet_after on_acceptance
   sheet_is e =
       let w = sheet_words b.network b.places x m in
@@ -108,5 +106,5 @@ module _ (b : Book) (x m ws : List ℤ) (long : length ws ≡ room b.network b.p
     where
       go : (a : Answer) → a ≡ checked b x m (has_room b ws)
           → on_accepted a (put_words out 0 (sheet_after b x m ws)) out ≡ on_accepted a (put_words out 0 (sheet_words b.network b.places x m)) out
-      go Accepted e = ap (put_words out 0) (sheet_is (sym e))
-      go (Refused refusal) e = refl
+      go (Ok u) e = ap (put_words out 0) (sheet_is (sym e))
+      go (Err refusal) e = refl

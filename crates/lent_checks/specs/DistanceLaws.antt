@@ -1,5 +1,5 @@
 -- Laws of the check distance on a lent pair: the words that are read give the answer of the whole slices, and how large the unknown of an answer is. Assumes nothing.
-use Rattle.std.specs.Prelude.{ℕ, ◌*◌, ◌≤◌, ◌≡◌, Bool, false, cond}
+use Rattle.std.specs.Prelude.{ℕ, ◌*◌, ◌≤◌, ◌≡◌, Bool, false, cond, Ok, Err}
 use Rattle.std.proofs.Math.Path.{refl, sym, ap}
 use Rattle.std.proofs.Common.{◌∙◌, arith, ne_eqb}
 use Rattle.std.proofs.Math.Bool.{true}
@@ -9,25 +9,21 @@ use Rattle.network.specs.Rules.{ends_fit}
 use Rattle.network.specs.RuleLaws.{sound-stations}
 use Rattle.network.specs.declared.Network.{Network}
 use Rattle.acceptance.specs.Tests.{lengths_fit}
-use Rattle.acceptance.specs.Judge.{answer_unknown}
-use Rattle.acceptance.specs.declared.Answer.{Answer}
-use Rattle.acceptance.specs.declared.Answer.TheVariants.{Accepted, Refused}
+use Rattle.acceptance.specs.Judge.{answer_unknown, Answer}
 use Rattle.acceptance.specs.declared.Refusal.TheVariants.{Lengths}
 use Rattle.book.specs.declared.Book.{Book}
 use Rattle.book.specs.Sound.{SoundParts}
 use Rattle.checks.specs.Checks.{checked}
 use Rattle.distances.specs.declared.CheckDistance.{CheckDistance}
-use Rattle.distances.specs.declared.Agreement.{Agreement}
-use Rattle.distances.specs.declared.Agreement.TheVariants.{Refused as refused}
 use Rattle.distances.specs.declared.DistanceRefusal.TheVariants.{Ends, Range}
-use Rattle.distances.specs.Distances.{distance_in_range, agrees_at, on_pair, unless_refused, agreement, agreement_unknown}
+use Rattle.distances.specs.Distances.{DistanceAnswer, distance_in_range, agrees_at, on_pair, unless_refused, agreement, agreement_unknown}
 use Rattle.lent_checks.specs.LentChecks.{all_words, sizes_fit, answer_most, checked_lent}
 use Rattle.lent_checks.specs.LentDistances.{agreement_lent}
 use Rattle.lent_checks.specs.CheckLaws.{lent-fit, lent_unfit, lent-small, test_1}
 
 -- ════ the words that are read
 -- no words at all fail test 1: a book has an unknown
-empty_refused : (b : Book) → SoundParts b → Refused Lengths ≡ checked b [] [] true
+empty_refused : (b : Book) → SoundParts b → Err Lengths ≡ checked b [] [] true
 unfolding lengths_fit
 empty_refused b o =
     let some : 1 ≤ unknown_count b.network.stations = (sound-stations b.network o.network).some in
@@ -40,30 +36,30 @@ module _ (b : Book) (o : SoundParts b) (x m : List ℕ) (d : CheckDistance) wher
   read_all e = ap (λ (a : Answer). unless_refused b.network d (on_pair a (agrees_at b.network.stations (all_words x) d))) (lent-fit b x m true e)
 
   -- none, where they do not: test 1 refuses both
-  refused-alike : (t u : Bool) → on_pair (Refused Lengths) t ≡ on_pair (Refused Lengths) u
+  refused-alike : (t u : Bool) → on_pair (Err Lengths) t ≡ on_pair (Err Lengths) u
   unfolding on_pair
   refused-alike t u = refl
 
   pub read_none : sizes_fit x m ≡ false → agreement b [] [] d ≡ agreement_lent b x m d
   unfolding agreement agreement_lent
   read_none e =
-      let none : checked b [] [] true ≡ Refused Lengths = sym (empty_refused b o) in
-      let lent : Refused Lengths ≡ checked_lent b x m true = lent_unfit b o x m true e in
-      ap (λ (g : Agreement). unless_refused b.network d g)
+      let none : checked b [] [] true ≡ Err Lengths = sym (empty_refused b o) in
+      let lent : Err Lengths ≡ checked_lent b x m true = lent_unfit b o x m true e in
+      ap (λ (g : DistanceAnswer). unless_refused b.network d g)
       (ap (λ (a : Answer). on_pair a (agrees_at b.network.stations [] d)) none ∙ refused-alike _ _ ∙ ap (λ (a : Answer). on_pair a (agrees_at b.network.stations (all_words x) d)) lent)
 
 -- ════ the unknown of an answer is that of the check's
 pair-unknown : (a : Answer) (t : Bool) → agreement_unknown (on_pair a t) ≡ answer_unknown a
 unfolding on_pair
-pair-unknown Accepted true = refl
-pair-unknown Accepted false = refl
-pair-unknown (Refused r) t = refl
+pair-unknown (Ok u) true = refl
+pair-unknown (Ok u) false = refl
+pair-unknown (Err r) t = refl
 
-refused-unknown : (net : Network) (d : CheckDistance) (next : Agreement) (k : ℕ) → 256 * agreement_unknown next ≤ k → 256 * agreement_unknown (unless_refused net d next) ≤ k
+refused-unknown : (net : Network) (d : CheckDistance) (next : DistanceAnswer) (k : ℕ) → 256 * agreement_unknown next ≤ k → 256 * agreement_unknown (unless_refused net d next) ≤ k
 unfolding unless_refused
 refused-unknown net d next k h = go (ends_fit net.count d.from d.to) (distance_in_range d)
   where
-    go : (s t : Bool) → 256 * agreement_unknown (cond s (cond t next (refused Range)) (refused Ends)) ≤ k
+    go : (s t : Bool) → 256 * agreement_unknown (cond s (cond t next (Err Range)) (Err Ends)) ≤ k
     go true true = h
     go true false = omega arith
     go false t = omega arith

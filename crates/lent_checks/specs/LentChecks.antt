@@ -1,9 +1,7 @@
 -- The check of a book and lent bytes: x, M and, where one is lent, the sheet. Assumes nothing.
-use Rattle.std.specs.Prelude.{ℕ, ◌+◌, ◌*◌, ◌/◌, ◌%◌, Bool, ◌&&◌, List, eqb, leb, length, ℤ, pos}
+use Rattle.std.specs.Prelude.{ℕ, ◌+◌, ◌*◌, ◌/◌, ◌%◌, Bool, ◌&&◌, List, eqb, leb, length, ℤ, pos, Ok, Err}
 use Rattle.words.specs.Runs.{words_at}
-use Rattle.acceptance.specs.Judge.{answer_number, answer_unknown}
-use Rattle.acceptance.specs.declared.Answer.{Answer}
-use Rattle.acceptance.specs.declared.Answer.TheVariants.{Accepted, Refused}
+use Rattle.acceptance.specs.Judge.{answer_number, answer_unknown, Answer}
 use Rattle.book.specs.declared.Book.{Book}
 use Rattle.sheet.specs.Sheet.{room}
 use Rattle.checks.specs.Checks.{checked}
@@ -44,5 +42,5 @@ abbrev pub sheet_fits : Book → List ℕ → Bool
 sheet_fits b sheet = is_whole sheet && leb (room b.network b.places) (length sheet / 8)
 
 unfoldable pub on_accepted : Answer → List ℕ → List ℕ → List ℕ
-on_accepted Accepted new old = new
-on_accepted (Refused refusal) new old = old
+on_accepted (Ok u) new old = new
+on_accepted (Err refusal) new old = old

@@ -7,4 +7,4 @@ mod proposing;
 
 pub use checking::{answer_word, check_lent, check_sheet_lent};
 pub use distance::{agreement_word, check_distance_lent};
-pub use proposing::propose_lent;
+pub use proposing::{proposal_word, propose_lent};

@@ -1,14 +1,13 @@
 -- A pair whose sizes do not fit fails test 1. Of one whose sizes fit, the words that are read are all its words. Assumes nothing.
-use Prim.Native.Nat.{ℕ, ◌+◌, ◌*◌, ◌/◌, ◌≤◌}
-use mathlib.Core.Path.{◌≡◌, sym, ap, ap₂, ◌∙◌, subst}
+use Prim.Native.Nat.{◌+◌, ◌*◌, ◌/◌, ◌≤◌}
+use mathlib.Core.Path.{◌≡◌, sym, ap₂, ◌∙◌, subst}
 use mathlib.Core.Bool.{true}
 use mathlib.Core.List.{List}
-use native.Mathlib.Nat.{sub-zero}
 use native.Mathlib.Omega.{arith}
-use lib.ListN.{length, take}
+use lib.ListN.{length}
+use lib.Seq.{length-take-le}
 use lib.IntN.{ℤ}
-use Rattle.acceptance.specs.Judge.{answer_number, answer_unknown}
-use Rattle.acceptance.specs.declared.Answer.{Answer}
+use Rattle.acceptance.specs.Judge.{answer_number, answer_unknown, Answer}
 use Rattle.layout.specs.Bytes.{book_of}
 use Rattle.layout.specs.CodecLaws.{fits-sound}
 use Rattle.checks.specs.Checks.{checked}
@@ -22,29 +21,29 @@ returns-then-not-sizes_fit c =
     let book = c.args.book.now in
     (lent_unfit (book_of book) (fits-sound book c.requires) c.args.x.now c.args.m.now true (sym c.sizes_fit.ensures ∙ c.if-not-sizes_fit.true), omega arith)
 
-pub corrections_in-xs-requires : goal.corrections_in-xs-requires
-corrections_in-xs-requires c =
+pub words_of-xs-requires : goal.words_of-xs-requires
+words_of-xs-requires c =
     let fit : sizes_fit c.args.x.now c.args.m.now ≡ true = sym c.sizes_fit.ensures ∙ c.if-not-sizes_fit.false in
     let few : (length c.args.x.now ≤ x_bytes) × (length c.args.m.now ≤ m_bytes) = lengths_fit_lem c.args.x.now c.args.m.now fit in
-    few.0
+    (omega arith, few.0)
 
-pub matrix_in-ms-requires : goal.matrix_in-ms-requires
-matrix_in-ms-requires c =
+pub words_of-ms-requires : goal.words_of-ms-requires
+words_of-ms-requires c =
     let fit : sizes_fit c.args.x.now c.args.m.now ≡ true = sym c.sizes_fit.ensures ∙ c.if-not-sizes_fit.false in
     let few : (length c.args.x.now ≤ x_bytes) × (length c.args.m.now ≤ m_bytes) = lengths_fit_lem c.args.x.now c.args.m.now fit in
-    few.1
+    (omega arith, few.1)
 
 pub slice_bounds-check_in-end : goal.slice_bounds-check_in-end
 slice_bounds-check_in-end c =
     let fit : sizes_fit c.args.x.now c.args.m.now ≡ true = sym c.sizes_fit.ensures ∙ c.if-not-sizes_fit.false in
     let few : (length c.args.x.now ≤ x_bytes) × (length c.args.m.now ≤ m_bytes) = lengths_fit_lem c.args.x.now c.args.m.now fit in
-    omega (arith, few)
+    sym (length-take-le (length c.args.x.now / 8) c.words_of-xs.result (omega (arith, few, c.words_of-xs.ensures.room)))
 
 pub slice_bounds-check_in-end-2 : goal.slice_bounds-check_in-end-2
 slice_bounds-check_in-end-2 c =
     let fit : sizes_fit c.args.x.now c.args.m.now ≡ true = sym c.sizes_fit.ensures ∙ c.if-not-sizes_fit.false in
     let few : (length c.args.x.now ≤ x_bytes) × (length c.args.m.now ≤ m_bytes) = lengths_fit_lem c.args.x.now c.args.m.now fit in
-    omega (arith, few)
+    sym (length-take-le (length c.args.m.now / 8) c.words_of-ms.result (omega (arith, few, c.words_of-ms.ensures.room)))
 
 pub returns : goal.returns
 returns c =
@@ -53,7 +52,7 @@ returns c =
     let b = book_of book in
     let x = c.args.x.now in
     let m = c.args.m.now in
-    let xs = ap (λ (n : ℕ). take n c.corrections_in-xs.result) (sub-zero (length x / 8)) ∙ c.corrections_in-xs.ensures in
-    let ms = ap (λ (n : ℕ). take n c.matrix_in-ms.result) (sub-zero (length m / 8)) ∙ c.matrix_in-ms.ensures in
+    let xs = c.words_of-xs.ensures.words in
+    let ms = c.words_of-ms.ensures.words in
     let is = c.check_in.ensures ∙ ap₂ (λ (y z : List ℤ). checked b y z true) xs ms ∙ lent-fit b x m true fit in
     (is, subst (λ (a : Answer). answer_number a + 256 * answer_unknown a ≤ answer_most) (sym is) (lent-small b (fits-sound book c.requires) x m true))

@@ -3,8 +3,7 @@ use mathlib.Core.Path.{◌≡◌, refl, sym, ap, ◌∙◌, subst}
 use Prim.Native.Nat.{◌+◌, ◌*◌, ◌≤◌}
 use mathlib.Core.Bool.{true, false}
 use native.Mathlib.Omega.{arith}
-use Rattle.acceptance.specs.Judge.{answer_number, answer_unknown}
-use Rattle.acceptance.specs.declared.Answer.{Answer}
+use Rattle.acceptance.specs.Judge.{answer_number, answer_unknown, Answer}
 use Rattle.layout.specs.Bytes.{book_of}
 use Rattle.layout.specs.CodecLaws.{fits-sound}
 use Rattle.checks.specs.Checks.{checked}

@@ -15,14 +15,14 @@ sum_is a b h k = ringm (a ∷ b ∷ []) (search code_shapes depth 12) tt
 
 pub overflow_add-result : goal.overflow_add-result
 overflow_add-result c =
-    let number_small : nat_abs c.number.result ≤ 17 = subst (λ (z : ℤ). nat_abs z ≤ 17) (sym c.number.ensures) (agreement_most c.args.a) in
+    let number_small : nat_abs c.number.result ≤ 17 = subst (λ (z : ℤ). nat_abs z ≤ 17) (sym c.number.ensures) (agreement_most c.args.answer) in
     let unknown-small : nat_abs (pos (256 * c.unknown.result)) ≤ 100000 = let h : 256 * c.unknown.result ≤ 100000 = omega (arith, c.unknown.ensures, c.requires) in h in
     let h = number_small in let k = unknown-small in fit (search code_bounds depth 12) tt
 
 pub returns : goal.returns
 unfolding agreement_word
 returns c =
-    let number_small : nat_abs c.number.result ≤ 17 = subst (λ (z : ℤ). nat_abs z ≤ 17) (sym c.number.ensures) (agreement_most c.args.a) in
+    let number_small : nat_abs c.number.result ≤ 17 = subst (λ (z : ℤ). nat_abs z ≤ 17) (sym c.number.ensures) (agreement_most c.args.answer) in
     let unknown-small : nat_abs (pos (256 * c.unknown.result)) ≤ 100000 = let h : 256 * c.unknown.result ≤ 100000 = omega (arith, c.unknown.ensures, c.requires) in h in
     sum_is c.number.result (pos (256 * c.unknown.result)) number_small unknown-small
     ∙ ap₂ (λ (a : ℤ) (k : ℕ). a +ℤ pos (256 * k)) c.number.ensures c.unknown.ensures

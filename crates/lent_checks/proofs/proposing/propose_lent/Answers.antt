@@ -3,15 +3,12 @@ use Prim.Native.Nat.{◌≤◌}
 use mathlib.Core.Path.{◌≡◌, sym, ap, ◌∙◌}
 use mathlib.Core.Bool.{true}
 use native.Mathlib.Omega.{arith}
-use mir.Syntax.{w64}
-use mir.Facts.{to_z-of_z}
 use Rattle.network.specs.Stations.{unknown_count}
 use Rattle.network.specs.RuleLaws.{sound-stations}
 use Rattle.layout.specs.Bytes.{book_of}
 use Rattle.layout.specs.CodecLaws.{fits-room, fits-sound}
 use Rattle.lent_checks.specs.Offers.{lent_lengths}
 use Rattle.lent_checks.proofs.Offered.{offers_none, offers_some}
-use borrow.Author.Rules.{sfits_of}
 use Rattle.lent_checks.proofs.proposing.propose_lent.Goals as goal
 
 pub network_in-net-requires : goal.network_in-net-requires
@@ -41,5 +38,4 @@ pub returns : goal.returns
 returns c =
     let is : c.number_of-n.result ≡ unknown_count (book_of c.args.book.now).network.stations = c.number_of-n.ensures ∙ ap (λ (k : Rattle.network.specs.declared.Network.Network). unknown_count k.stations) c.network_in-net.ensures in
     let fit : lent_lengths c.number_of-n.result c.args.x.now c.args.m.now ≡ true = sym c.lengths_fit.ensures ∙ c.if-not-lengths_fit.false in
-    let r = c.propose_words in
-    offers_some _ _ _ (book_of c.args.book.now) is r.result _ _ _ (to_z-of_z {w = w64} {z = r.result} (sfits_of r.type_inv)) fit r.ensures
+    offers_some _ _ _ (book_of c.args.book.now) is _ _ _ fit c.propose_words.ensures

@@ -6,7 +6,9 @@ use mathlib.Core.Bool.{true}
 use mathlib.Core.List.{List}
 use native.Mathlib.Omega.{arith}
 use lib.ListN.{length, take}
+use Rattle.std.specs.Prelude.{pos}
 use lib.Seq.{length-take-le}
+use Rattle.std.proofs.lemmas.List.{length-replicate}
 use Rattle.layout.specs.Bytes.{book_of}
 use Rattle.layout.specs.CodecLaws.{fits-tested, fits-sound}
 use Rattle.checks.specs.Checks.{checked}
@@ -22,27 +24,21 @@ pub slice_bounds-write_words-end : goal.slice_bounds-write_words-end
 slice_bounds-write_words-end c =
     let most : (length c.args.x.now ≤ x_bytes) × (length c.args.m.now ≤ m_bytes) = lengths_most c.args.n c.args.x.now c.args.m.now c.requires.1 c.requires.2 in
     let room : (length c.args.x.now / 8 ≤ length c.work_out.new.x) × (length c.args.m.now / 8 ≤ length c.work_out.new.m) = let h = most in
-    let x = c.corrections-xs in
-    let m = c.inverse-ms in
-    (omega (arith, h.0, c.work_out.auto.x, x.ensures), omega (arith, h.1, c.work_out.auto.m, m.ensures)) in
+    (omega (arith, h.0, c.work_out.auto.x, length-replicate 48 (pos 0)), omega (arith, h.1, c.work_out.auto.m, length-replicate 2304 (pos 0))) in
     room.0
 
 pub slice_bounds-write_words-end-2 : goal.slice_bounds-write_words-end-2
 slice_bounds-write_words-end-2 c =
     let most : (length c.args.x.now ≤ x_bytes) × (length c.args.m.now ≤ m_bytes) = lengths_most c.args.n c.args.x.now c.args.m.now c.requires.1 c.requires.2 in
     let room : (length c.args.x.now / 8 ≤ length c.work_out.new.x) × (length c.args.m.now / 8 ≤ length c.work_out.new.m) = let h = most in
-    let x = c.corrections-xs in
-    let m = c.inverse-ms in
-    (omega (arith, h.0, c.work_out.auto.x, x.ensures), omega (arith, h.1, c.work_out.auto.m, m.ensures)) in
+    (omega (arith, h.0, c.work_out.auto.x, length-replicate 48 (pos 0)), omega (arith, h.1, c.work_out.auto.m, length-replicate 2304 (pos 0))) in
     room.1
 
 pub returns : goal.returns
 returns c =
     let most : (length c.args.x.now ≤ x_bytes) × (length c.args.m.now ≤ m_bytes) = lengths_most c.args.n c.args.x.now c.args.m.now c.requires.1 c.requires.2 in
     let room : (length c.args.x.now / 8 ≤ length c.work_out.new.x) × (length c.args.m.now / 8 ≤ length c.work_out.new.m) = let h = most in
-    let x = c.corrections-xs in
-    let m = c.inverse-ms in
-    (omega (arith, h.0, c.work_out.auto.x, x.ensures), omega (arith, h.1, c.work_out.auto.m, m.ensures)) in
+    (omega (arith, h.0, c.work_out.auto.x, length-replicate 48 (pos 0)), omega (arith, h.1, c.work_out.auto.m, length-replicate 2304 (pos 0))) in
     let book = c.args.book.now in
     let b = book_of book in
     let x = c.args.x.now in
