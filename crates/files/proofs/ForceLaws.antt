@@ -1,6 +1,6 @@
 -- Laws of the latest entry for a place and of the entry in force. Assumes nothing.
 use Rattle.files.specs.Statements.{Latest}
-use Rattle.std.specs.Prelude.{◌≡◌, ℕ, zero, suc, ◌+◌, ◌*◌, ◌/◌, ◌<◌, ◌≤◌, true, false, cond, ◌&&◌, ◌⊎◌, List, length, ℤ, pos, ◌≢◌, int_le, nat_lt, refl}
+use Rattle.std.specs.Prelude.{◌≡◌, ℕ, zero, suc, ◌+◌, ◌*◌, ◌/◌, ◌<◌, ◌≤◌, true, false, cond, ◌&&◌, ◌⊎◌, List, length, ℤ, pos, ◌≢◌, int_le, nat_lt, refl, Ok, Err}
 use Rattle.std.proofs.Common.{inl, inr, arith, ltb-true}
 use Rattle.std.proofs.Math.Decide.{ℕ_discrete}
 use Rattle.words.specs.Bools.{true_or_false, and_left, and_right}
@@ -11,7 +11,7 @@ use Rattle.files.specs.Files.{reads, latest_entry_to, latest_entry}
 use Rattle.files.proofs.FileLaws.{reads_whole}
 use Rattle.files.specs.Force.{force_in, in_force, Inside}
 use Rattle.files.specs.declared.FileRefusal.TheVariants.{BadPlace, Unreadable, NoEntry}
-use Rattle.files.specs.declared.EntryFound.TheVariants.{InNight, InDay, Refused}
+use Rattle.files.specs.declared.EntryFound.TheVariants.{InNight, InDay}
 
 -- ════ the latest entry for a place
 latest_below : (f : List ℕ) (p : ℤ) (n : ℕ) → 128 * n ≤ length f → latest_entry_to f p n < length f → Latest f p n (latest_entry_to f p n)
@@ -63,7 +63,7 @@ module _ (night day : List ℕ) (p : ℤ) where
       go : (nat_lt (latest_entry night p) (length night) ≡ true) ⊎ (nat_lt (latest_entry night p) (length night) ≡ false)
           → (nat_lt (latest_entry day p) (length day) ≡ true) ⊎ (nat_lt (latest_entry day p) (length day) ≡ false)
           → Inside
-          (cond (nat_lt (latest_entry night p) (length night)) (InNight (latest_entry night p)) (cond (nat_lt (latest_entry day p) (length day)) (InDay (latest_entry day p)) (Refused NoEntry)))
+          (cond (nat_lt (latest_entry night p) (length night)) (Ok (InNight (latest_entry night p))) (cond (nat_lt (latest_entry day p) (length day)) (Ok (InDay (latest_entry day p))) (Err NoEntry)))
           (length night) (length day)
       go (inl t) d = rw t (latest-inside night rn p (ltb-true _ _ t))
       go (inr t) (inl d) = rw (t, d) (latest-inside day rd p (ltb-true _ _ d))
@@ -75,7 +75,7 @@ module _ (night day : List ℕ) (p : ℤ) where
     where
       go : (int_le (pos 1) p && int_le p (pos 256) ≡ true) ⊎ (int_le (pos 1) p && int_le p (pos 256) ≡ false)
           → (reads night && reads day ≡ true) ⊎ (reads night && reads day ≡ false)
-          → Inside (cond (int_le (pos 1) p && int_le p (pos 256)) (cond (reads night && reads day) (force_in night day p) (Refused Unreadable)) (Refused BadPlace)) (length night) (length day)
+          → Inside (cond (int_le (pos 1) p && int_le p (pos 256)) (cond (reads night && reads day) (force_in night day p) (Err Unreadable)) (Err BadPlace)) (length night) (length day)
       go (inr t) r = rw t tt
       go (inl t) (inr r) = rw (t, r) tt
       go (inl t) (inl r) = rw (t, r) (force_inside (and_left (reads night) (reads day) r) (and_right (reads night) (reads day) r))

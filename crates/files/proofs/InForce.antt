@@ -1,6 +1,6 @@
 -- The entry in force, of entries: what the part that is shown holds. Assumes nothing.
 use Rattle.files.specs.Statements.{latest_for, entry_in_force, Shows}
-use Rattle.std.specs.Prelude.{◌≡◌, ℕ, zero, suc, ◌+◌, ◌*◌, ◌/◌, ◌<◌, ◌≤◌, true, false, cond, ◌&&◌, ◌⊎◌, List, [], ◌∷◌, ◌++◌, length, get_or, take, drop, ℤ, pos, int_le, nat_lt, slice_index_or, refl}
+use Rattle.std.specs.Prelude.{◌≡◌, ℕ, zero, suc, ◌+◌, ◌*◌, ◌/◌, ◌<◌, ◌≤◌, true, false, cond, ◌&&◌, ◌⊎◌, List, [], ◌∷◌, ◌++◌, length, get_or, take, drop, ℤ, pos, int_le, nat_lt, slice_index_or, refl, Ok, Err}
 use Rattle.std.proofs.Common.{sym, ap, ◌∙◌, inl, inr, arith, lt-ltb, le-ltb}
 use Rattle.words.specs.Bools.{true_or_false}
 use Rattle.words.specs.Signed.{eq_z}
@@ -12,7 +12,7 @@ use Rattle.files.specs.Files.{reads, entries_from, entries_of, latest_entry_to, 
 use Rattle.files.proofs.FileLaws.{reads_whole, entries-more}
 use Rattle.files.specs.Force.{force_in, in_force, shown}
 use Rattle.files.specs.declared.FileRefusal.TheVariants.{NoEntry}
-use Rattle.files.specs.declared.EntryFound.TheVariants.{InNight, InDay, Refused}
+use Rattle.files.specs.declared.EntryFound.TheVariants.{InNight, InDay}
 
 -- ════ the latest entry of a file
 latest_snoc : (es : List (List ℤ)) (e : List ℤ) (p : ℤ) (none : List ℤ) → latest_for (es ++ (e ∷ [])) p none ≡ cond (eq_z (slice_index_or e 1 (pos 0)) p) e (latest_for es p none)
@@ -58,7 +58,7 @@ module _ (night day : List ℕ) (p : ℤ) (place : int_le (pos 1) p && int_le p 
       ∙ ap (cond (nat_lt (latest_entry night p) (length night)) (words_at night (latest_entry night p) 13)) (latest_entry_lem day p [] rd)
 
   force_is : in_force night day p
-      ≡ cond (nat_lt (latest_entry night p) (length night)) (InNight (latest_entry night p)) (cond (nat_lt (latest_entry day p) (length day)) (InDay (latest_entry day p)) (Refused NoEntry))
+      ≡ cond (nat_lt (latest_entry night p) (length night)) (Ok (InNight (latest_entry night p))) (cond (nat_lt (latest_entry day p) (length day)) (Ok (InDay (latest_entry day p))) (Err NoEntry))
   unfolding in_force force_in
   force_is = rw (place, rn, rd)
 
@@ -70,7 +70,7 @@ module _ (night day : List ℕ) (p : ℤ) (place : int_le (pos 1) p && int_le p 
       go : (nat_lt (latest_entry night p) (length night) ≡ true) ⊎ (nat_lt (latest_entry night p) (length night) ≡ false)
           → (nat_lt (latest_entry day p) (length day) ≡ true) ⊎ (nat_lt (latest_entry day p) (length day) ≡ false)
           → Shows night day
-          (cond (nat_lt (latest_entry night p) (length night)) (InNight (latest_entry night p)) (cond (nat_lt (latest_entry day p) (length day)) (InDay (latest_entry day p)) (Refused NoEntry)))
+          (cond (nat_lt (latest_entry night p) (length night)) (Ok (InNight (latest_entry night p))) (cond (nat_lt (latest_entry day p) (length day)) (Ok (InDay (latest_entry day p))) (Err NoEntry)))
           (cond (nat_lt (latest_entry night p) (length night)) (words_at night (latest_entry night p) 13) (cond (nat_lt (latest_entry day p) (length day)) (words_at day (latest_entry day p) 13) []))
       go (inl t) d = rw t (thirteen night (latest_entry night p))
       go (inr t) (inl d) = rw (t, d) (thirteen day (latest_entry day p))

@@ -1,30 +1,10 @@
 -- A turn of each loop over an entry's words, or over a file's entries, and its end. Assumes nothing.
-use Rattle.std.proofs.Common.{◌≡◌, ℕ, suc, ◌+◌, ◌-◌, ◌*◌, ◌/◌, ◌%◌, ◌^◌, ◌<◌, ◌≤◌, Bool, true, false, cond, ◌&&◌, List, length, get_or, drop, ℤ, pos, sym, refl, ap, ◌∙◌, arith, drop_of_length-le, drop-cons}
+use Rattle.std.proofs.Common.{◌≡◌, ℕ, suc, ◌+◌, ◌-◌, ◌*◌, ◌%◌, ◌^◌, ◌<◌, ◌≤◌, Bool, true, false, cond, ◌&&◌, List, length, get_or, drop, ℤ, pos, sym, refl, ap, ◌∙◌, arith, drop_of_length-le, drop-cons}
 use Rattle.words.specs.Bools.{and_no_right}
 use Rattle.words.specs.Signed.{eq_z, signed, unsigned}
 use Rattle.words.specs.Words.{word_at}
-use Rattle.files.specs.Entries.{zeros_from, total, sum_of}
+use Rattle.files.specs.Entries.{total, sum_of}
 use Rattle.files.specs.Files.{linked_at, linked_to, latest_entry_to}
-
--- ---- zeros: what is left to test gives what all gave
-module _ (w : List ℤ) (from n i : ℕ) where
-  zeros-at : i < n → zeros_from w (from + i) (n - i) ≡ eq_z (get_or w (from + i) (pos 0)) (pos 0) && zeros_from w (from + (i + 1)) (n - (i + 1))
-  unfolding zeros_from
-  zeros-at h =
-      let m : n - i ≡ suc (n - (i + 1)) = omega arith in
-      let k : from + i + 1 ≡ from + (i + 1) = omega arith in
-      rw (m, k)
-
-  pub zeros_no : zeros_from w (from + i) (n - i) ≡ zeros_from w from n → i < n → eq_z (get_or w (from + i) (pos 0)) (pos 0) ≡ false → false ≡ zeros_from w from n
-  zeros_no e h t = (rw t at (sym (zeros-at h))) ∙ e
-
-  pub zeros-turn : zeros_from w (from + i) (n - i) ≡ zeros_from w from n → i < n → eq_z (get_or w (from + i) (pos 0)) (pos 0) ≡ true
-      → zeros_from w (from + (i + 1)) (n - (i + 1)) ≡ zeros_from w from n
-  zeros-turn e h t = (rw t at (sym (zeros-at h))) ∙ e
-
-  pub zeros_end : zeros_from w (from + i) (n - i) ≡ zeros_from w from n → n ≤ i → true ≡ zeros_from w from n
-  unfolding zeros_from
-  zeros_end e h = let m : n - i ≡ 0 = omega arith in rw m at e
 
 -- ---- the sum: what is passed and what is left
 module _ (w : List ℤ) (s i : ℕ) (e : (s + total (drop i w)) % 2 ^ 64 ≡ total w % 2 ^ 64) where
@@ -48,26 +28,16 @@ and_true true = refl
 and_true false = refl
 
 -- ---- entries from the last back
-module _ (f : List ℕ) (e : ℕ) (more : 0 < e) (whole : e % 128 ≡ 0) where
-  abbrev m : ℕ
-  m = (e - 128) / 128
-
-  up : e / 128 ≡ suc m
-  up = omega arith
-
-  start : 128 * m ≡ e - 128
-  start = omega arith
-
-  -- the linked entries
-  linked_at_end : linked_to f (e / 128) ≡ linked_to f ((e - 128) / 128) && linked_at f (e - 128)
+module _ (f : List ℕ) (n : ℕ) (more : 0 < n) {b : Bool} (all : linked_to f n ≡ b) where
+  linked_at_end : linked_to f (n - 1) && linked_at f (128 * (n - 1)) ≡ b
   unfolding linked_to
-  linked_at_end = rw (up, start)
+  linked_at_end = let up : n ≡ suc (n - 1) = omega arith in sym (ap (linked_to f) up) ∙ all
 
-  pub linked_turn : {b : Bool} → linked_to f (e / 128) ≡ b → linked_at f (e - 128) ≡ true → linked_to f ((e - 128) / 128) ≡ b
-  linked_turn g t = sym (and_true (linked_to f ((e - 128) / 128))) ∙ ap (λ (x : Bool). linked_to f ((e - 128) / 128) && x) (sym t) ∙ sym linked_at_end ∙ g
+  pub linked_turn : linked_at f (128 * (n - 1)) ≡ true → linked_to f (n - 1) ≡ b
+  linked_turn t = sym (and_true (linked_to f (n - 1))) ∙ ap (λ (x : Bool). linked_to f (n - 1) && x) (sym t) ∙ linked_at_end
 
-  pub linked_no : {b : Bool} → linked_to f (e / 128) ≡ b → linked_at f (e - 128) ≡ false → false ≡ b
-  linked_no g t = sym (and_no_right (linked_to f ((e - 128) / 128)) (linked_at f (e - 128)) t) ∙ sym linked_at_end ∙ g
+  pub linked_no : linked_at f (128 * (n - 1)) ≡ false → false ≡ b
+  linked_no t = sym (and_no_right (linked_to f (n - 1)) (linked_at f (128 * (n - 1))) t) ∙ linked_at_end
 
 -- ---- the latest entry for a place, from the last entry back
 module _ (f : List ℕ) (p : ℤ) {l : ℕ} where

@@ -4,6 +4,7 @@ pub mod BytesLaws
 pub mod Entries
 pub mod EntryLaws
 pub mod Files
+pub mod Kinds
 pub mod Force
 pub mod Examples
 pub mod Statements

@@ -1,5 +1,6 @@
 -- What the theorems of proofs/ speak of: entries that a file can carry, a file that reads, the latest of entries for a place, the entry in force of entries. Assumes nothing.
-use Rattle.std.specs.Prelude.{◌≡◌, ℕ, ◌*◌, ◌/◌, ◌<◌, ◌+◌, ◌≢◌, true, cond, List, [], ◌∷◌, length, ℤ, pos, slice_index_or}
+use Rattle.files.specs.declared.FileRefusal.{FileRefusal}
+use Rattle.std.specs.Prelude.{◌≡◌, ℕ, ◌*◌, ◌/◌, ◌<◌, ◌+◌, ◌≢◌, true, cond, List, [], ◌∷◌, length, ℤ, pos, slice_index_or, Result, Ok, Err}
 use Rattle.words.specs.Signed.{eq_z}
 use Rattle.words.specs.Words.{word_at}
 use Rattle.words.specs.Runs.{words_at}
@@ -8,7 +9,7 @@ use Rattle.files.specs.Files.{linked_at}
 use Rattle.files.specs.Force.{shown}
 use Rattle.files.specs.declared.FileRefusal.TheVariants.{NoEntry}
 use Rattle.files.specs.declared.EntryFound.{EntryFound}
-use Rattle.files.specs.declared.EntryFound.TheVariants.{InNight, InDay, Refused}
+use Rattle.files.specs.declared.EntryFound.TheVariants.{InNight, InDay}
 
 -- a file that reads has whole entries, each linked
 pub record Whole (f : List ℕ) : Type 0 where
@@ -41,7 +42,7 @@ abbrev pub entry_in_force : List (List ℤ) → List (List ℤ) → ℤ → List
 entry_in_force night day p = latest_for night p (latest_for day p [])
 
 -- the part shown holds the words of the entry e; or there is no entry, and the call is refused so
-abbrev pub Shows : List ℕ → List ℕ → EntryFound → List ℤ → Type 0
-Shows night day (InNight at) e = words_at (shown (InNight at) night day) 0 13 ≡ e
-Shows night day (InDay at) e = words_at (shown (InDay at) night day) 0 13 ≡ e
-Shows night day (Refused r) e = (r ≡ NoEntry) × (e ≡ [])
+abbrev pub Shows : List ℕ → List ℕ → Result EntryFound FileRefusal → List ℤ → Type 0
+Shows night day (Ok (InNight at)) e = words_at (shown (Ok (InNight at)) night day) 0 13 ≡ e
+Shows night day (Ok (InDay at)) e = words_at (shown (Ok (InDay at)) night day) 0 13 ≡ e
+Shows night day (Err r) e = (r ≡ NoEntry) × (e ≡ [])

@@ -1,47 +1,48 @@
 // The entry in force of a night file and a day file, as a part of whichever holds it.
-ghost use Rattle.std.specs.Prelude.{◌≡◌, ◌+◌, ◌≤◌, [], length, take, drop};
+ghost use Rattle.std.specs.Prelude.{◌≡◌, ◌+◌, ◌≤◌, [], length, take, drop, pos};
 ghost use Rattle.files.specs.Force.{file_number, force_in, in_force, shown, lies_at, Inside};
 
+use super::entries::is_place;
 use super::reading::{holds_file, latest_entry};
 use super::{EntryFound, FileEntry, FileRefusal};
 
 // The number of a refusal.
-pub fn file_number(refusal: FileRefusal) -> u64
-    ensures { result ≡ file_number refusal }
-{
-    match refusal {
-        FileRefusal::BadPlace => 2,
-        FileRefusal::NoRoom => 10,
-        FileRefusal::Unreadable => 18,
-        FileRefusal::NotCarried => 19,
-        FileRefusal::NoEntry => 20,
+impl From<FileRefusal> for i64 {
+    ghost from_gives = { λ refusal n. n ≡ pos (file_number refusal) };
+
+    fn from(refusal: FileRefusal) -> i64 {
+        match refusal {
+            FileRefusal::BadPlace => 2,
+            FileRefusal::NoRoom => 10,
+            FileRefusal::Unreadable => 18,
+            FileRefusal::NotCarried => 19,
+            FileRefusal::NoEntry => 20,
+        }
     }
 }
 
 // The latest entry of the night file, else of the day file.
-fn latest_of_two(night: &[u8], day: &[u8], place: i64) -> EntryFound
+fn latest_of_two(night: &[u8], day: &[u8], place: i64) -> Result<EntryFound, FileRefusal>
     ensures { result ≡ force_in night.now day.now place }
 {
-    let n = latest_entry(night, place);
-    if n < night.len() {
-        return EntryFound::InNight(n);
+    match latest_entry(night, place) {
+        Some(at) => Ok(EntryFound::InNight(at)),
+        None => match latest_entry(day, place) {
+            Some(at) => Ok(EntryFound::InDay(at)),
+            None => Err(FileRefusal::NoEntry),
+        },
     }
-    let d = latest_entry(day, place);
-    if d < day.len() {
-        return EntryFound::InDay(d);
-    }
-    EntryFound::Refused(FileRefusal::NoEntry)
 }
 
 // Where the entry in force for a place is, or why there is none.
-pub fn find(night: &[u8], day: &[u8], place: i64) -> EntryFound
+pub fn find(night: &[u8], day: &[u8], place: i64) -> Result<EntryFound, FileRefusal>
     ensures { result ≡ in_force night.now day.now place }
 {
-    if !words::between(place, 1, FileEntry::PLACES) {
-        return EntryFound::Refused(FileRefusal::BadPlace);
+    if !is_place(place) {
+        return Err(FileRefusal::BadPlace);
     }
-    if !(holds_file(night) & holds_file(day)) {
-        return EntryFound::Refused(FileRefusal::Unreadable);
+    if !(holds_file(night) && holds_file(day)) {
+        return Err(FileRefusal::Unreadable);
     }
     latest_of_two(night, day, place)
 }
@@ -62,14 +63,14 @@ fn empty_part(file: &[u8]) -> &[u8]
     &file[0..0]
 }
 
-fn part<'a>(night: &'a [u8], day: &'a [u8], found: EntryFound) -> &'a [u8]
+fn part<'a>(night: &'a [u8], day: &'a [u8], found: Result<EntryFound, FileRefusal>) -> &'a [u8]
     requires { Inside found (length night.now) (length day.now) }
     ensures { (result.now ≡ shown found night.now day.now) × (result.ref_ptr ≡ lies_at found night.entry.ref_ptr day.entry.ref_ptr) }
 {
     match found {
-        EntryFound::InNight(at) => entry_part(night, at),
-        EntryFound::InDay(at) => entry_part(day, at),
-        EntryFound::Refused(refusal) => empty_part(night),
+        Ok(EntryFound::InNight(at)) => entry_part(night, at),
+        Ok(EntryFound::InDay(at)) => entry_part(day, at),
+        Err(_) => empty_part(night),
     }
 }
 

@@ -3,13 +3,16 @@
 // `entries` has one entry's words, `reading` whole files, `force` the entry in force of a night file and a day file, `writing` one entry written.
 #![tactic(auto)]
 
+ghost use Rattle.std.specs.Prelude.{◌≡◌};
+ghost use Rattle.files.specs.Kinds.{kind_of};
+
 mod entries;
 mod force;
 mod reading;
 mod writing;
 
-pub use entries::{entry_words, right_entry};
-pub use force::{file_number, find, in_force};
+pub use entries::{entry_words, is_place, right_entry};
+pub use force::{find, in_force};
 pub use reading::holds_file;
 pub use writing::write_entry;
 
@@ -28,7 +31,33 @@ pub enum FileRefusal {
 pub enum EntryFound {
     InNight(usize),
     InDay(usize),
-    Refused(FileRefusal),
+}
+
+// What an entry says, by its first word.
+#[derive(Clone, Copy)]
+pub enum EntryKind {
+    Baseline,
+    HeightDifference,
+    Strike,
+}
+
+// A word that is no kind.
+#[derive(Clone, Copy)]
+pub struct NoKind {}
+
+impl TryFrom<i64> for EntryKind {
+    type Error = NoKind;
+
+    ghost try_from_gives = { λ word r. r ≡ kind_of word };
+
+    fn try_from(word: i64) -> Result<EntryKind, NoKind> {
+        match word {
+            1 => Ok(EntryKind::Baseline),
+            2 => Ok(EntryKind::HeightDifference),
+            3 => Ok(EntryKind::Strike),
+            _ => Err(NoKind {}),
+        }
+    }
 }
 
 // What document 02 fixes of an entry.
@@ -40,13 +69,6 @@ impl FileEntry {
     pub const BYTES: usize = 128;
 
     pub const TRAILER_BYTES: usize = 24;
-
-    // Its first word.
-    pub const BASELINE: i64 = 1;
-
-    pub const HEIGHT_DIFFERENCE: i64 = 2;
-
-    pub const STRIKE: i64 = 3;
 
     // Places are numbered from 1 to this.
     pub const PLACES: i64 = 256;

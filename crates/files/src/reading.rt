@@ -1,5 +1,5 @@
 // Whole files, read from the last byte back.
-ghost use Rattle.std.specs.Prelude.{◌≡◌};
+ghost use Rattle.std.specs.Prelude.{◌≡◌, ◌<◌, length, MatchOption};
 ghost use Rattle.files.specs.Files.{reads, latest_entry};
 
 use super::FileEntry;
@@ -12,27 +12,23 @@ pub fn holds_file(file: &[u8]) -> bool
     if file.len() % FileEntry::BYTES != 0 {
         return false;
     }
-    let mut end = file.len();
-    while end > 0 {
-        end -= FileEntry::BYTES;
-        if !linked_at(file, end) {
+    for n in (0..file.len() / FileEntry::BYTES).rev() {
+        if !linked_at(file, FileEntry::BYTES * n) {
             return false;
         }
     }
     true
 }
 
-// The start of the latest entry for a place; the file's length where there is none.
-pub fn latest_entry(file: &[u8], place: i64) -> usize
-    ensures { result ≡ latest_entry file.now place }
+// The start of the latest entry for a place.
+pub fn latest_entry(file: &[u8], place: i64) -> Option<usize>
+    ensures { MatchOption result (latest_entry file.now place ≡ length file.now) (λ at. (at ≡ latest_entry file.now place) × (at < length file.now)) }
 {
-    let mut n = file.len() / FileEntry::BYTES;
-    while n > 0 {
-        n -= 1;
+    for n in (0..file.len() / FileEntry::BYTES).rev() {
         let at = FileEntry::BYTES * n;
-        if words::same(words::word_at(file, at + 8), place) {
-            return at;
+        if words::word_at(file, at + 8) == place {
+            return Some(at);
         }
     }
-    file.len()
+    None
 }

@@ -1,26 +1,34 @@
--- `kind_right`, by its three ways out. Assumes nothing.
-use Rattle.std.proofs.Common.{◌≡◌, get_or, ℤ, pos, sym, ap, ◌∙◌, to_z-of_z, w64, to_z, of_z, rules}
-use Rattle.words.specs.Signed.{eq_z}
-use Rattle.files.proofs.Tests.{kind_one, kind_two, kind_three}
+-- `kind_right`, by the kind that the first word is. Assumes nothing.
+use Rattle.std.proofs.Common.{◌≡◌, get_or, pos, List, ℤ, FitsSigned, Result, Ok, Err, ap, ◌∙◌, arith, to_z-of_z, w64, to_z, of_z, rules}
+use Rattle.files.specs.declared.EntryKind.{EntryKind}
+use Rattle.files.specs.declared.EntryKind.TheVariants.{Baseline, HeightDifference, Strike}
+use Rattle.files.specs.declared.NoKind.{NoKind}
+use Rattle.files.specs.Entries.{kind_right}
+use Rattle.files.specs.Kinds.{kind_of}
+use Rattle.files.proofs.Tests.{and_then, and_no, zeros_all, by_kind, by_kind_is}
 use Rattle.files.proofs.entries.kind_right.Goals as goal
 
-pub returns-then-same : goal.returns-then-same
-returns-then-same c =
-    let kind-is : to_z w64 (of_z w64 (get_or c.args.w.now 0 (pos 0))) ≡ get_or c.args.w.now 0 (pos 0) = to_z-of_z {w = w64} (search rules) in
-    let one : c.same.result ≡ eq_z (get_or c.args.w.now 0 (pos 0)) (pos 1) = c.same.ensures ∙ ap (λ (z : ℤ). eq_z z (pos 1)) kind-is in
-    kind_one _ (sym one ∙ c.if-same.true)
+-- what the kind of the first word asks is what is asked
+asked : (w : List ℤ) (r : Result EntryKind NoKind) → FitsSigned w64 (get_or w 0 (pos 0)) → r ≡ kind_of (to_z w64 (of_z w64 (get_or w 0 (pos 0)))) → by_kind r w ≡ kind_right w
+asked w r f e = ap (λ (k : Result EntryKind NoKind). by_kind k w) (e ∙ ap kind_of (to_z-of_z {w = w64} {z = get_or w 0 (pos 0)} f)) ∙ by_kind_is w
 
-pub returns-then-same-2 : goal.returns-then-same-2
-returns-then-same-2 c =
-    let kind-is : to_z w64 (of_z w64 (get_or c.args.w.now 0 (pos 0))) ≡ get_or c.args.w.now 0 (pos 0) = to_z-of_z {w = w64} (search rules) in
-    let one : c.same.result ≡ eq_z (get_or c.args.w.now 0 (pos 0)) (pos 1) = c.same.ensures ∙ ap (λ (z : ℤ). eq_z z (pos 1)) kind-is in
-    let two : c.same-2.result ≡ eq_z (get_or c.args.w.now 0 (pos 0)) (pos 2) = c.same-2.ensures ∙ ap (λ (z : ℤ). eq_z z (pos 2)) kind-is in
-    kind_two _ (sym one ∙ c.if-same.false) (sym two ∙ c.if-same-2.true) c.zeros.ensures c.zeros-then-same-2.ensures
+pub returns-in-Ok-Baseline : goal.returns-in-Ok-Baseline
+returns-in-Ok-Baseline c = asked c.args.w.now (Ok Baseline) (search rules) (rw c.in-Ok-Baseline.field-0-is at c.in-Ok-Baseline.ensures)
 
-pub returns : goal.returns
-returns c =
-    let kind-is : to_z w64 (of_z w64 (get_or c.args.w.now 0 (pos 0))) ≡ get_or c.args.w.now 0 (pos 0) = to_z-of_z {w = w64} (search rules) in
-    let one : c.same.result ≡ eq_z (get_or c.args.w.now 0 (pos 0)) (pos 1) = c.same.ensures ∙ ap (λ (z : ℤ). eq_z z (pos 1)) kind-is in
-    let two : c.same-2.result ≡ eq_z (get_or c.args.w.now 0 (pos 0)) (pos 2) = c.same-2.ensures ∙ ap (λ (z : ℤ). eq_z z (pos 2)) kind-is in
-    kind_three _ (sym one ∙ c.if-same.false) (sym two ∙ c.if-same-2.false)
-    (c.same-3.ensures ∙ ap (λ (z : ℤ). eq_z z (pos 3)) kind-is) c.zeros-2.ensures
+pub returns-then-zeros : goal.returns-then-zeros
+returns-then-zeros c =
+    and_then (c.zeros.ensures ∙ zeros_all c.args.w.now 4 2 (omega arith)) c.if-zeros.true (c.zeros-then-zeros.ensures ∙ zeros_all c.args.w.now 7 5 (omega arith))
+    ∙ asked c.args.w.now (Ok HeightDifference) (search rules) (rw c.in-Ok-HeightDifference.field-0-is at c.in-Ok-HeightDifference.ensures)
+
+pub returns-else-zeros : goal.returns-else-zeros
+returns-else-zeros c =
+    and_no _ (c.zeros.ensures ∙ zeros_all c.args.w.now 4 2 (omega arith)) c.if-zeros.false
+    ∙ asked c.args.w.now (Ok HeightDifference) (search rules) (rw c.in-Ok-HeightDifference.field-0-is at c.in-Ok-HeightDifference.ensures)
+
+pub returns-in-Ok-Strike : goal.returns-in-Ok-Strike
+returns-in-Ok-Strike c =
+    c.zeros-in-Ok-Strike.ensures ∙ zeros_all c.args.w.now 2 11 (omega arith)
+    ∙ asked c.args.w.now (Ok Strike) (search rules) (rw c.in-Ok-Strike.field-0-is at c.in-Ok-Strike.ensures)
+
+pub returns-in-Err : goal.returns-in-Err
+returns-in-Err c = asked c.args.w.now (Err c.in-Err.field-0) (search rules) c.in-Err.ensures
