@@ -10,10 +10,10 @@ use lib.ListN.{length}
 use Rattle.words.specs.Bools.{same_test}
 use Rattle.words.specs.Runs.{put_words}
 use Rattle.files.specs.Files.{file_words}
+use Rattle.std.specs.Prelude.{Result, Ok, Err}
+use Rattle.files.specs.declared.FileRefusal.{FileRefusal}
 use Rattle.files.specs.declared.FileRefusal.TheVariants.{NoRoom}
 use Rattle.salvage.specs.declared.SalvageCounts.{SalvageCounts}
-use Rattle.salvage.specs.declared.Salvaged.{Salvaged}
-use Rattle.salvage.specs.declared.Salvaged.TheVariants.{Counts, Refused}
 use Rattle.salvage.specs.Salvage.{kept_starts, kept_entries, skipped_runs, kept_pairs, pair_words, salvage_counts, room_for, salvage_answer, fresh_left, skipped_left, kept_left}
 
 by_quotient : (d k n : ℕ) → (k ≤ n / d → d * k ≤ n) → (d * k ≤ n → k ≤ n / d) → leb k (n / d) ≡ leb (d * k) n
@@ -34,16 +34,16 @@ module _ (f fresh skipped kept : List ℕ) {n : SalvageCounts} {t : Bool} (count
   room-is = sym (tested ∙ ap (λ (m : SalvageCounts). room_for m (length fresh) (length skipped) (length kept)) counts)
 
   -- an answer, and the lent bytes afterwards
-  abbrev SalvageGives : Salvaged → List ℕ → List ℕ → List ℕ → Type 0
+  abbrev SalvageGives : Result SalvageCounts FileRefusal → List ℕ → List ℕ → List ℕ → Type 0
   SalvageGives r fresh' skipped' kept' =
       (r ≡ salvage_answer f (length fresh) (length skipped) (length kept)) × (fresh' ≡ fresh_left r f fresh) × (skipped' ≡ skipped_left r f skipped) × (kept' ≡ kept_left r f kept)
 
-  pub gives-no_room : t ≡ false → SalvageGives (Refused NoRoom) fresh skipped kept
+  pub gives-no_room : t ≡ false → SalvageGives (Err NoRoom) fresh skipped kept
   unfolding salvage_answer fresh_left skipped_left kept_left
   gives-no_room e = (rw (room-is ∙ e), refl, refl, refl)
 
   pub gives_all : {fresh' skipped' kept' : List ℕ} → t ≡ true
       → fresh' ≡ put_words fresh 0 (file_words 0 (kept_entries f)) → skipped' ≡ put_words skipped 0 (pair_words (skipped_runs f)) → kept' ≡ put_words kept 0 (pair_words (kept_pairs 0 (kept_starts f)))
-      → SalvageGives (Counts n) fresh' skipped' kept'
+      → SalvageGives (Ok n) fresh' skipped' kept'
   unfolding salvage_answer fresh_left skipped_left kept_left
-  gives_all e a b c = (rw (room-is ∙ e) (ap Counts counts), a, b, c)
+  gives_all e a b c = (rw (room-is ∙ e) (ap Ok counts), a, b, c)

@@ -17,8 +17,8 @@ use Rattle.files.specs.Bytes.{bytes_of}
 use Rattle.files.specs.BytesLaws.{bytes_small, length_bytes, run_bytes}
 use Rattle.files.specs.Files.{file_words, file_of, right_at, linked_at, reads, entries_from, entries_of}
 use Rattle.files.proofs.FileLaws.{fit_long, linked_next, reads_whole, read_fits, read_written, written-reads, written-entries, length_file, put_file, file_front}
+use Rattle.std.specs.Prelude.{Ok}
 use Rattle.salvage.specs.declared.SalvageCounts.{SalvageCounts}
-use Rattle.salvage.specs.declared.Salvaged.TheVariants.{Counts}
 use Rattle.salvage.specs.Salvage.{kept_at, kept_from, kept_starts, entries_at, kept_entries, fresh_file, run_between, runs_between, skipped_runs, kept_pairs, pair_words, salvage_counts, room_for, fresh_left}
 use Rattle.salvage.proofs.ScanLaws.{kept-apart, apart-room, kept-each_right, scan-keep, scan_end, run_one, run_none}
 
@@ -85,16 +85,16 @@ fresh_entries f b = written-entries (kept_entries f) (kept-fit f b)
 
 -- the lent bytes start with the fresh file, and those beyond stay
 module _ (f : List ℕ) (b : Bytes f) (n : SalvageCounts) (before : List ℕ) (room : 128 * length (kept_starts f) ≤ length before) where
-  fresh_in : fresh_left (Counts n) f before ≡ fresh_file f ++ drop (128 * length (kept_entries f)) before
+  fresh_in : fresh_left (Ok n) f before ≡ fresh_file f ++ drop (128 * length (kept_entries f)) before
   unfolding fresh_left
   fresh_in = put_file before (kept_entries f) (fit_long (kept_entries f) (kept-fit f b)) (omega (arith, length-kept f))
 
-  pub fresh_front : take (128 * length (kept_entries f)) (fresh_left (Counts n) f before) ≡ fresh_file f
+  pub fresh_front : take (128 * length (kept_entries f)) (fresh_left (Ok n) f before) ≡ fresh_file f
   fresh_front =
       ap (take (128 * length (kept_entries f))) fresh_in
       ∙ file_front (kept_entries f) (drop (128 * length (kept_entries f)) before) (fit_long (kept_entries f) (kept-fit f b))
 
-  pub fresh-beyond : drop (128 * length (kept_entries f)) (fresh_left (Counts n) f before) ≡ drop (128 * length (kept_entries f)) before
+  pub fresh-beyond : drop (128 * length (kept_entries f)) (fresh_left (Ok n) f before) ≡ drop (128 * length (kept_entries f)) before
   fresh-beyond =
       ap (drop (128 * length (kept_entries f))) fresh_in
       ∙ drop_at (fresh_file f) (drop (128 * length (kept_entries f)) before) (128 * length (kept_entries f)) (length_file (kept_entries f) (fit_long (kept_entries f) (kept-fit f b)))

@@ -1,13 +1,12 @@
 -- Salvage of a damaged file: document 02, request 7. "The tool goes forward by steps of 8 bytes. Where 128 bytes have a right kind, place, zeros and sum by CR 6, it keeps the entry and
 -- jumps past it; anything else is skipped." Assumes nothing.
-use Rattle.std.specs.Prelude.{ℕ, zero, suc, ◌+◌, ◌-◌, ◌*◌, Bool, cond, ◌&&◌, List, [], ◌∷◌, ◌++◌, leb, ltb, length, ℤ}
+use Rattle.std.specs.Prelude.{ℕ, zero, suc, ◌+◌, ◌-◌, ◌*◌, Bool, cond, ◌&&◌, List, [], ◌∷◌, ◌++◌, leb, ltb, length, ℤ, Result, Ok, Err}
 use Rattle.words.specs.Signed.{signed}
 use Rattle.words.specs.Runs.{words_at, put_words}
 use Rattle.files.specs.Files.{right_at, file_words, file_of}
+use Rattle.files.specs.declared.FileRefusal.{FileRefusal}
 use Rattle.files.specs.declared.FileRefusal.TheVariants.{NoRoom}
 use Rattle.salvage.specs.declared.SalvageCounts.{SalvageCounts}
-use Rattle.salvage.specs.declared.Salvaged.{Salvaged}
-use Rattle.salvage.specs.declared.Salvaged.TheVariants.{Counts, Refused}
 
 -- ════ what is kept
 -- the 128 bytes from byte `at` on lie in f and have a right kind, place, zeros and sum; the two pointers of their trailer count in the sum, and need not be right
@@ -72,18 +71,18 @@ unfoldable pub room_for : SalvageCounts → ℕ → ℕ → ℕ → Bool
 room_for n fresh skipped kept = leb (128 * n.kept) fresh && leb (16 * n.skipped) skipped && leb (16 * n.kept) kept
 
 -- "Refusals: 10 where the output or a list has no room"
-unfoldable pub salvage_answer : List ℕ → ℕ → ℕ → ℕ → Salvaged
-salvage_answer f fresh skipped kept = cond (room_for (salvage_counts f) fresh skipped kept) (Counts (salvage_counts f)) (Refused NoRoom)
+unfoldable pub salvage_answer : List ℕ → ℕ → ℕ → ℕ → Result SalvageCounts FileRefusal
+salvage_answer f fresh skipped kept = cond (room_for (salvage_counts f) fresh skipped kept) (Ok (salvage_counts f)) (Err NoRoom)
 
 -- the lent bytes afterwards; "then none is written"
-unfoldable pub fresh_left : Salvaged → List ℕ → List ℕ → List ℕ
-fresh_left (Counts n) f before = put_words before 0 (file_words 0 (kept_entries f))
-fresh_left (Refused r) f before = before
+unfoldable pub fresh_left : Result SalvageCounts FileRefusal → List ℕ → List ℕ → List ℕ
+fresh_left (Ok n) f before = put_words before 0 (file_words 0 (kept_entries f))
+fresh_left (Err r) f before = before
 
-unfoldable pub skipped_left : Salvaged → List ℕ → List ℕ → List ℕ
-skipped_left (Counts n) f before = put_words before 0 (pair_words (skipped_runs f))
-skipped_left (Refused r) f before = before
+unfoldable pub skipped_left : Result SalvageCounts FileRefusal → List ℕ → List ℕ → List ℕ
+skipped_left (Ok n) f before = put_words before 0 (pair_words (skipped_runs f))
+skipped_left (Err r) f before = before
 
-unfoldable pub kept_left : Salvaged → List ℕ → List ℕ → List ℕ
-kept_left (Counts n) f before = put_words before 0 (pair_words (kept_pairs 0 (kept_starts f)))
-kept_left (Refused r) f before = before
+unfoldable pub kept_left : Result SalvageCounts FileRefusal → List ℕ → List ℕ → List ℕ
+kept_left (Ok n) f before = put_words before 0 (pair_words (kept_pairs 0 (kept_starts f)))
+kept_left (Err r) f before = before

@@ -7,7 +7,6 @@ mod salvaging;
 mod scanning;
 mod writing;
 
-use files::FileRefusal;
 pub use salvaging::salvage;
 pub use writing::list_pair;
 
@@ -16,11 +15,4 @@ pub use writing::list_pair;
 pub struct SalvageCounts {
     pub skipped: usize,
     pub kept: usize,
-}
-
-// What a salvage is answered.
-#[derive(Clone, Copy)]
-pub enum Salvaged {
-    Counts(SalvageCounts),
-    Refused(FileRefusal),
 }

@@ -4,7 +4,7 @@ ghost use Rattle.files.specs.Files.{right_at};
 ghost use Rattle.salvage.specs.Salvage.{run_between, salvage_counts};
 
 use super::SalvageCounts;
-use files::FileEntry;
+use files::{EntryKind, FileEntry};
 
 // The scan goes forward by so many bytes where it keeps nothing.
 pub const STEP: usize = 8;
@@ -14,8 +14,8 @@ pub fn right_at(file: &[u8], at: usize) -> bool
     requires { at + 128 ≤ length file.now }
     ensures { result ≡ right_at file.now at }
 {
-    let kind = words::word_at(file, at);
-    if !words::between(kind, FileEntry::BASELINE, FileEntry::STRIKE) {
+    let kind = EntryKind::try_from(words::word_at(file, at));
+    if kind.is_err() {
         return false;
     }
     let w = files::entry_words(file, at);
@@ -37,6 +37,8 @@ pub fn salvage_counts(file: &[u8]) -> SalvageCounts
     let mut kept: usize = 0;
     let mut end: usize = 0;
     let mut at: usize = 0;
+    // Stays: a step goes 128 bytes or 8, by what is found, so that no `for` over a range or over chunks gives these starts.
+    // Stays: this walk and that of `write_salvaged` are no plainer as one: it would be generic over a trait whose laws state both invariants, `CountedTo` and `WrittenTo`, on a struct that holds three lent slices.
     while file.len() - at >= FileEntry::BYTES {
         if right_at(file, at) {
             skipped += run_count(end, at);

@@ -54,6 +54,7 @@ pub fn write_salvaged(file: &[u8], fresh: &mut [u8], skipped: &mut [u8], kept: &
     let mut entries: usize = 0;
     let mut end: usize = 0;
     let mut at: usize = 0;
+    // Stays: a step goes 128 bytes or 8, as in `salvage_counts`, which says why the two walks are not one.
     while file.len() - at >= FileEntry::BYTES {
         if right_at(file, at) {
             runs = list_run(skipped, runs, end, at);
