@@ -1,5 +1,5 @@
 -- A file entered into a book: each entry, in its order, is judged and obeyed as a call of its own. Document 02, request 6: "Other values are judged when entered." Assumes nothing.
-use Rattle.std.specs.Prelude.{ℕ, ◌*◌, ◌/◌, cond, List, [], ◌∷◌, map, leb, length, get_or, ℤ, pos}
+use Rattle.std.specs.Prelude.{ℕ, ◌*◌, ◌/◌, cond, List, [], ◌∷◌, map, leb, length, get_or, ℤ, pos, Result, Ok, Err}
 use Rattle.words.specs.Signed.{eq_z}
 use Rattle.words.specs.Runs.{put_words}
 use Rattle.network.specs.RecordWords.{record_in}
@@ -12,9 +12,8 @@ use Rattle.book.specs.Run.{final, answers}
 use Rattle.layout.specs.Bytes.{book_of}
 use Rattle.lent_edits.specs.LentEdits.{bytes_left}
 use Rattle.files.specs.Files.{reads, entries_of}
+use Rattle.files.specs.declared.FileRefusal.{FileRefusal}
 use Rattle.files.specs.declared.FileRefusal.TheVariants.{NoRoom, Unreadable}
-use Rattle.book_files.specs.declared.Entered.{Entered}
-use Rattle.book_files.specs.declared.Entered.TheVariants.{Done, Refused}
 
 -- ════ the call that an entry asks for
 -- the words of its record as a book has them: without the place, and with the antenna heights 0
@@ -48,14 +47,14 @@ abbrev pub entered_answers : List ℕ → List ℕ → List ℤ
 entered_answers s file = answers left_by said_to s (calls_in file)
 
 -- ════ the answer, given the room for answers in bytes: one word each is asked, and a file that reads
-unfoldable pub enter_answer : List ℕ → ℕ → Entered
-enter_answer file room = cond (leb (8 * (length file / 128)) room) (cond (reads file) Done (Refused Unreadable)) (Refused NoRoom)
+unfoldable pub enter_answer : List ℕ → ℕ → Result (Unit {0}) FileRefusal
+enter_answer file room = cond (leb (8 * (length file / 128)) room) (cond (reads file) (Ok tt) (Err Unreadable)) (Err NoRoom)
 
 -- the book's bytes and the answers afterwards
-unfoldable pub book_left : Entered → List ℕ → List ℕ → List ℕ
-book_left Done s file = entered_book s file
-book_left (Refused r) s file = s
+unfoldable pub book_left : Result (Unit {0}) FileRefusal → List ℕ → List ℕ → List ℕ
+book_left (Ok u) s file = entered_book s file
+book_left (Err r) s file = s
 
-unfoldable pub answers_left : Entered → List ℕ → List ℕ → List ℕ → List ℕ
-answers_left Done s file before = put_words before 0 (entered_answers s file)
-answers_left (Refused r) s file before = before
+unfoldable pub answers_left : Result (Unit {0}) FileRefusal → List ℕ → List ℕ → List ℕ → List ℕ
+answers_left (Ok u) s file before = put_words before 0 (entered_answers s file)
+answers_left (Err r) s file before = before

@@ -1,5 +1,5 @@
 -- Laws of a file entered: the call of an entry by its kind, one entry more, and the answer of the whole. Assumes nothing.
-use Rattle.std.specs.Prelude.{ℕ, ◌+◌, ◌*◌, ◌/◌, ◌<◌, ◌≤◌, ◌≡◌, true, false, get_or, ℤ, pos}
+use Rattle.std.specs.Prelude.{ℕ, ◌+◌, ◌*◌, ◌/◌, ◌<◌, ◌≤◌, ◌≡◌, true, false, get_or, ℤ, pos, Ok, Err}
 use Rattle.std.proofs.Math.Path.{refl, sym, ap}
 use Rattle.std.proofs.Common.{◌∙◌, add-one, le-leb, take_all, length-take-le}
 use mathlib.Core.List.{List, [], ◌∷◌}
@@ -30,7 +30,6 @@ use Rattle.files.specs.Files.{reads, entries_of}
 use Rattle.files.proofs.FileLaws.{length-entries, entry_at}
 use Rattle.files.specs.declared.FileRefusal.{FileRefusal}
 use Rattle.files.specs.declared.FileRefusal.TheVariants.{NoRoom, Unreadable}
-use Rattle.book_files.specs.declared.Entered.TheVariants.{Done, Refused}
 use Rattle.book_files.specs.Entering.{record_words_in, change_in, call_in, calls_in, left_by, said_to, entered_book, entered_answers, enter_answer, book_left, answers_left}
 
 module _ (w : List ℤ) where
@@ -126,22 +125,22 @@ module _ (s file before : List ℕ) where
 
 -- ════ the answer of the whole
 module _ (file : List ℕ) (room : ℕ) where
-  pub entered-room : room / 8 < length file / 128 → Refused NoRoom ≡ enter_answer file room
+  pub entered-room : room / 8 < length file / 128 → Err NoRoom ≡ enter_answer file room
   unfolding enter_answer
   entered-room h = rw (lt-leb (8 * (length file / 128)) room (omega arith))
 
-  pub entered_unread : length file / 128 ≤ room / 8 → reads file ≡ false → Refused Unreadable ≡ enter_answer file room
+  pub entered_unread : length file / 128 ≤ room / 8 → reads file ≡ false → Err Unreadable ≡ enter_answer file room
   unfolding enter_answer
   entered_unread h e = rw (le-leb (8 * (length file / 128)) room (omega arith), e)
 
-  pub entered_done : length file / 128 ≤ room / 8 → reads file ≡ true → Done ≡ enter_answer file room
+  pub entered_done : length file / 128 ≤ room / 8 → reads file ≡ true → Ok tt ≡ enter_answer file room
   unfolding enter_answer
   entered_done h e = rw (le-leb (8 * (length file / 128)) room (omega arith), e)
 
-pub left_stays : (r : FileRefusal) (s file before : List ℕ) → (s ≡ book_left (Refused r) s file) × (before ≡ answers_left (Refused r) s file before)
+pub left_stays : (r : FileRefusal) (s file before : List ℕ) → (s ≡ book_left (Err r) s file) × (before ≡ answers_left (Err r) s file before)
 unfolding book_left answers_left
 left_stays r s file before = (refl, refl)
 
-pub left_done : (s file before : List ℕ) {t a : List ℕ} → (t ≡ entered_book s file) × (a ≡ put_words before 0 (entered_answers s file)) → (t ≡ book_left Done s file) × (a ≡ answers_left Done s file before)
+pub left_done : (s file before : List ℕ) {t a : List ℕ} → (t ≡ entered_book s file) × (a ≡ put_words before 0 (entered_answers s file)) → (t ≡ book_left (Ok tt) s file) × (a ≡ answers_left (Ok tt) s file before)
 unfolding book_left answers_left
 left_done s file before e = e

@@ -1,5 +1,5 @@
 -- A book written as a file: document 02, request 6. "A book is written as its records alone, by rising place." Assumes nothing.
-use Rattle.std.specs.Prelude.{ℕ, zero, suc, ◌*◌, ◌≡◌, refl, Bool, true, false, cond, ◌&&◌, List, [], ◌∷◌, ◌++◌, leb, length, get_or, drop, ℤ, pos}
+use Rattle.std.specs.Prelude.{ℕ, zero, suc, ◌*◌, ◌≡◌, refl, Bool, true, false, cond, ◌&&◌, List, [], ◌∷◌, ◌++◌, leb, length, get_or, drop, ℤ, pos, Result, Ok, Err}
 use Rattle.words.specs.Signed.{eq_z}
 use Rattle.lists.specs.All.{all_below}
 use Rattle.network.specs.Units.{place_count}
@@ -12,9 +12,8 @@ use Rattle.network.specs.declared.Record.{Record}
 use Rattle.network.specs.declared.Record.TheVariants.{Empty, Baseline as baseline, Height as height, Position as position}
 use Rattle.book.specs.declared.Book.{Book}
 use Rattle.files.specs.Files.{file_of}
+use Rattle.files.specs.declared.FileRefusal.{FileRefusal}
 use Rattle.files.specs.declared.FileRefusal.TheVariants.{NoRoom, NotCarried}
-use Rattle.book_files.specs.declared.FileWritten.{FileWritten}
-use Rattle.book_files.specs.declared.FileWritten.TheVariants.{Length, Refused}
 
 -- ════ one record
 -- the thirteen words of the record r at place p, counted from 0: "kind (1 baseline, 2 height difference, 3 strike), place 1 to 256, from, to, three observed values, six weights (EE, EN,
@@ -59,12 +58,12 @@ abbrev pub all_carried : Book → Bool
 all_carried b = all_below place_count (λ p. carried (record_at b.places p))
 
 -- ════ the answer, given the room in bytes: "10 (room for less than 128 bytes a record), … 19 …. A write returns its length."
-unfoldable pub write_answer : Book → ℕ → FileWritten
+unfoldable pub write_answer : Book → ℕ → Result ℕ FileRefusal
 write_answer b room =
     let n = 128 * length (book_entries b) in
-    cond (leb n room) (cond (all_carried b) (Length n) (Refused NotCarried)) (Refused NoRoom)
+    cond (leb n room) (cond (all_carried b) (Ok n) (Err NotCarried)) (Err NoRoom)
 
 -- the lent bytes afterwards: "a refused write writes nothing"; "Lent room beyond what is written stays"
-unfoldable pub file_left : FileWritten → Book → List ℕ → List ℕ
-file_left (Length n) b file = file_of (book_entries b) ++ drop n file
-file_left (Refused r) b file = file
+unfoldable pub file_left : Result ℕ FileRefusal → Book → List ℕ → List ℕ
+file_left (Ok n) b file = file_of (book_entries b) ++ drop n file
+file_left (Err r) b file = file

@@ -1,7 +1,7 @@
 -- Laws of a book written: the entries, their number and length, the loop's step, and that a file can carry them. Assumes nothing.
 use Prim.Native.Nat.{ℕ, zero, suc, ◌+◌, ◌-◌, ◌*◌, ◌/◌, ◌<◌, ◌≤◌}
 use Rattle.files.specs.Statements.{AllLong}
-use Rattle.std.specs.Prelude.{◌≡◌, refl, Bool, cond, List, [], ◌∷◌, ◌++◌, get_or, drop, ℤ}
+use Rattle.std.specs.Prelude.{◌≡◌, refl, Bool, cond, List, [], ◌∷◌, ◌++◌, get_or, drop, ℤ, Ok, Err}
 use Rattle.std.proofs.Math.Path.{sym}
 use Rattle.std.proofs.Common.{ap, ◌∙◌, le-leb, add-one, length-append}
 use Rattle.std.proofs.Math.Bool.{true, false}
@@ -19,7 +19,6 @@ use Rattle.files.proofs.FileLaws.{write_append, file_one, put_file}
 use Rattle.files.specs.declared.FileRefusal.{FileRefusal}
 use Rattle.files.specs.declared.FileRefusal.TheVariants.{NoRoom, NotCarried}
 use Rattle.book.specs.declared.Book.{Book}
-use Rattle.book_files.specs.declared.FileWritten.TheVariants.{Length, Refused}
 use Rattle.book_files.specs.Writing.{record_entry, record_entries, entries_below, book_entries, all_carried, write_answer, file_left}
 
 -- ════ lists of entries, each with a property
@@ -144,25 +143,25 @@ module _ (s : List ℕ) (places : List Place) (p at : ℕ) (t : List ℕ) (w : W
 
 -- ════ the answer
 module _ (b : Book) (room : ℕ) {n : ℕ} (count : n ≡ length (book_entries b)) where
-  pub written-room : room / 128 < n → Refused NoRoom ≡ write_answer b room
+  pub written-room : room / 128 < n → Err NoRoom ≡ write_answer b room
   unfolding write_answer
   written-room h = rw (lt-leb (128 * length (book_entries b)) room (omega arith))
 
-  pub written-carried : n ≤ room / 128 → all_carried b ≡ false → Refused NotCarried ≡ write_answer b room
+  pub written-carried : n ≤ room / 128 → all_carried b ≡ false → Err NotCarried ≡ write_answer b room
   unfolding write_answer
   written-carried h e = rw (le-leb (128 * length (book_entries b)) room (omega arith), e)
 
-  pub written-length : n ≤ room / 128 → all_carried b ≡ true → Length (128 * n) ≡ write_answer b room
+  pub written-length : n ≤ room / 128 → all_carried b ≡ true → Ok (128 * n) ≡ write_answer b room
   unfolding write_answer
-  written-length h e = rw (le-leb (128 * length (book_entries b)) room (omega arith), e) (ap (λ (k : ℕ). Length (128 * k)) count)
+  written-length h e = rw (le-leb (128 * length (book_entries b)) room (omega arith), e) (ap (λ (k : ℕ). Ok (128 * k)) count)
 
 -- the bytes written, as a file and the rest
 pub file_left_lem : (b : Book) (s : List ℕ) {n : ℕ} {t : List ℕ} → n ≡ length (book_entries b) → n ≤ length s / 128 → t ≡ put_words s 0 (file_words 0 (book_entries b))
-    → t ≡ file_left (Length (128 * n)) b s
+    → t ≡ file_left (Ok (128 * n)) b s
 unfolding file_left
 file_left_lem b s {n} count h e =
     e ∙ put_file s (book_entries b) (entries_long b.places 256) (omega arith) ∙ ap (λ (k : ℕ). file_of (book_entries b) ++ drop (128 * k) s) (sym count)
 
-pub file_stays : (b : Book) (s : List ℕ) (r : FileRefusal) → s ≡ file_left (Refused r) b s
+pub file_stays : (b : Book) (s : List ℕ) (r : FileRefusal) → s ≡ file_left (Err r) b s
 unfolding file_left
 file_stays b s r = refl

@@ -4,7 +4,6 @@ ghost use Rattle.words.specs.Runs.{put_words};
 ghost use Rattle.layout.specs.Bytes.{bytes_fit};
 ghost use Rattle.book_files.specs.Entering.{entered_book, entered_answers, enter_answer, book_left, answers_left};
 
-use super::Entered;
 use super::records::call_in;
 use files::{FileEntry, FileRefusal};
 
@@ -14,27 +13,25 @@ fn enter_entries(book: &mut [u8], file: &[u8], answers: &mut [u8])
     ensures { (book.new ≡ entered_book book.old file.now) × (answers.new ≡ put_words answers.old 0 (entered_answers book.old file.now)) }
 {
     let n = file.len() / FileEntry::BYTES;
-    let mut i: usize = 0;
-    while i < n {
+    for i in 0..n {
         let w = files::entry_words(file, FileEntry::BYTES * i);
         let call = call_in(w);
-        let said = lent_edits::apply(book, call);
-        words::put_word(answers, 8 * i, said as i64);
-        i += 1;
+        let answer = lent_edits::apply(book, call);
+        words::put_word(answers, 8 * i, book::call_word(answer));
     }
 }
 
 // Enters a file into a book. A refusal enters nothing and writes nothing.
-pub fn enter_file(book: &mut [u8], file: &[u8], answers: &mut [u8]) -> Entered
+pub fn enter_file(book: &mut [u8], file: &[u8], answers: &mut [u8]) -> Result<(), FileRefusal>
     requires { bytes_fit book.old ≡ true }
     ensures { (result ≡ enter_answer file.now (length answers.old)) × (book.new ≡ book_left result book.old file.now) × (answers.new ≡ answers_left result book.old file.now answers.old) }
 {
     if answers.len() / 8 < file.len() / FileEntry::BYTES {
-        return Entered::Refused(FileRefusal::NoRoom);
+        return Err(FileRefusal::NoRoom);
     }
     if !files::holds_file(file) {
-        return Entered::Refused(FileRefusal::Unreadable);
+        return Err(FileRefusal::Unreadable);
     }
     enter_entries(book, file, answers);
-    Entered::Done
+    Ok(())
 }

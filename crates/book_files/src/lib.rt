@@ -8,19 +8,4 @@ mod records;
 mod writing;
 
 pub use entering::enter_file;
-use files::FileRefusal;
 pub use writing::write_file;
-
-// What the writing of a book is answered: the file's length in bytes, or why there is none.
-#[derive(Clone, Copy)]
-pub enum FileWritten {
-    Length(usize),
-    Refused(FileRefusal),
-}
-
-// What the entering of a file is answered.
-#[derive(Clone, Copy)]
-pub enum Entered {
-    Done,
-    Refused(FileRefusal),
-}

@@ -6,14 +6,14 @@ ghost use Rattle.book_files.specs.Writing.{carried, record_entry};
 ghost use Rattle.book_files.specs.Entering.{record_words_in, call_in};
 
 use book::{Call, Change};
-use files::FileEntry;
+use files::EntryKind;
 use network::{Baseline, Record};
 
 // Both antenna heights are 0.
 fn from_mark_to_mark(b: Baseline) -> bool
     ensures { result ≡ (eq_z b.hf (pos 0) && eq_z b.ht (pos 0)) }
 {
-    words::same(b.hf, 0) & words::same(b.ht, 0)
+    b.hf == 0 && b.ht == 0
 }
 
 // Whether a file can carry a record.
@@ -49,13 +49,24 @@ fn record_words_in(w: [i64; 16]) -> [i64; Record::LENGTH]
     ]
 }
 
+// Whether a first word says that an entry is a strike.
+fn is_strike(kind: i64) -> bool
+    ensures { result ≡ eq_z kind (pos 3) }
+{
+    match EntryKind::try_from(kind) {
+        Ok(EntryKind::Strike) => true,
+        Ok(EntryKind::Baseline) => false,
+        Ok(EntryKind::HeightDifference) => false,
+        Err(_) => false,
+    }
+}
+
 // The call that the first thirteen words of an entry ask for.
 pub fn call_in(w: [i64; 16]) -> Call
     ensures { result ≡ call_in w }
 {
-    let kind = w[0];
     let place = w[1];
-    if words::same(kind, FileEntry::STRIKE) {
+    if is_strike(w[0]) {
         return Call::Edit(place, Change::Strike);
     }
     let v = record_words_in(w);

@@ -7,7 +7,6 @@ ghost use Rattle.layout.specs.Layout.{book_bytes};
 ghost use Rattle.files.specs.Files.{file_words};
 ghost use Rattle.book_files.specs.Writing.{record_entries, book_entries, all_carried, write_answer, file_left};
 
-use super::FileWritten;
 use super::records::{entry_of, is_carried};
 use files::{FileEntry, FileRefusal};
 use network::{Record, Unit};
@@ -23,11 +22,9 @@ fn count_entries(book: &[u8]) -> usize
     ensures { (result ≡ length (book_entries (book_of book.now))) × (result ≤ place_count) }
 {
     let mut n: usize = 0;
-    let mut p: usize = 0;
-    while p < Unit::PLACES {
+    for p in 0..Unit::PLACES {
         let r = layout::record_in(book, p);
         n += entry_count(p, r);
-        p += 1;
     }
     n
 }
@@ -36,13 +33,11 @@ fn all_carried(book: &[u8]) -> bool
     requires { book_bytes ≤ length book.now }
     ensures { result ≡ all_carried (book_of book.now) }
 {
-    let mut p: usize = 0;
-    while p < Unit::PLACES {
+    for p in 0..Unit::PLACES {
         let r = layout::record_in(book, p);
         if !is_carried(r) {
             return false;
         }
-        p += 1;
     }
     true
 }
@@ -66,26 +61,24 @@ fn write_entries(book: &[u8], file: &mut [u8])
     ensures { file.new ≡ put_words file.old 0 (file_words 0 (book_entries (book_of book.now))) }
 {
     let mut at: usize = 0;
-    let mut p: usize = 0;
-    while p < Unit::PLACES {
+    for p in 0..Unit::PLACES {
         let r = layout::record_in(book, p);
         at = put_entry(file, at, p, r);
-        p += 1;
     }
 }
 
 // Writes a book at the front of lent bytes. A refusal writes nothing.
-pub fn write_file(book: &[u8], file: &mut [u8]) -> FileWritten
+pub fn write_file(book: &[u8], file: &mut [u8]) -> Result<usize, FileRefusal>
     requires { book_bytes ≤ length book.now }
     ensures { (result ≡ write_answer (book_of book.now) (length file.old)) × (file.new ≡ file_left result (book_of book.now) file.old) }
 {
     let n = count_entries(book);
     if file.len() / FileEntry::BYTES < n {
-        return FileWritten::Refused(FileRefusal::NoRoom);
+        return Err(FileRefusal::NoRoom);
     }
     if !all_carried(book) {
-        return FileWritten::Refused(FileRefusal::NotCarried);
+        return Err(FileRefusal::NotCarried);
     }
     write_entries(book, file);
-    FileWritten::Length(FileEntry::BYTES * n)
+    Ok(FileEntry::BYTES * n)
 }

@@ -1,5 +1,4 @@
 -- The loop counts the entries of the places passed. Assumes nothing.
-use Prim.Native.Nat.{◌-◌, ◌≤◌}
 use mathlib.Core.Path.{◌≡◌}
 use lib.ListN.{length}
 use Rattle.layout.specs.Bytes.{book_of}
@@ -7,7 +6,4 @@ use Rattle.book_files.specs.Writing.{entries_below}
 use Rattle.book_files.proofs.writing.count_entries.Given as goal
 
 abbrev pub invariant-loop-p : goal.invariant-loop-p
-invariant-loop-p l = (l.p ≤ 256) × (l.n ≡ length (entries_below (book_of l.book).places l.p))
-
-abbrev pub decreases-loop-p : goal.decreases-loop-p
-decreases-loop-p l = 256 - l.p
+invariant-loop-p l = (l.n ≡ length (entries_below (book_of l.book).places l.p))
