@@ -1,14 +1,14 @@
 -- The cases of a check, without and with a sheet, and of a check distance. Assumes nothing.
+use Rattle.distances.specs.Distances.{DistanceAnswer}
+use Rattle.acceptance.specs.Judge.{Answer}
 use Prim.Native.Nat.{ℕ}
 use mathlib.Core.Path.{◌≡◌, sym, ap, ◌∙◌}
 use mathlib.Core.Bool.{Bool, true, false, cond}
 use mathlib.Core.List.{List}
 use lib.IntN.{pos}
 use Rattle.words.specs.Runs.{put_words}
-use Rattle.acceptance.specs.declared.Answer.{Answer}
 use Rattle.sheet.specs.Sheet.{sheet_words}
 use Rattle.distances.specs.declared.CheckDistance.{CheckDistance}
-use Rattle.distances.specs.declared.Agreement.{Agreement}
 use Rattle.lent_checks.specs.LentDistances.{agreement_word, agreement_lent}
 use Rattle.lent_checks.specs.LentChecks.{answer_word, checked_lent, on_accepted, all_words, sheet_fits}
 use Rattle.layout.specs.Bytes.{book_of, bytes_fit}
@@ -50,6 +50,6 @@ module _ (s x m : List ℕ) (d : CheckDistance) where
   unfolding distance_call
   distance_unfit e = rw e
 
-  pub distance_fit : (a : Agreement) → bytes_fit s ≡ true → a ≡ agreement_lent (book_of s) x m d → agreement_word a ≡ distance_call s x m d
+  pub distance_fit : (a : DistanceAnswer) → bytes_fit s ≡ true → a ≡ agreement_lent (book_of s) x m d → agreement_word a ≡ distance_call s x m d
   unfolding distance_call
   distance_fit a e q = rw e (ap agreement_word q)

@@ -1,4 +1,6 @@
 -- The cases of the calls on files. Assumes nothing.
+use Rattle.files.specs.declared.FileRefusal.{FileRefusal}
+use Rattle.std.specs.Prelude.{Result, Ok, Err}
 use Prim.Native.Nat.{ℕ, ◌<◌, ◌≤◌}
 use mathlib.Core.Path.{◌≡◌, refl, sym, ap, ◌∙◌}
 use mathlib.Core.Bool.{true, false}
@@ -15,9 +17,6 @@ use Rattle.files.specs.Force.{in_force}
 use Rattle.files.specs.declared.EntryFound.{EntryFound}
 use Rattle.book_files.specs.Writing.{write_answer, file_left}
 use Rattle.book_files.specs.Entering.{calls_in, enter_answer, book_left, answers_left}
-use Rattle.book_files.specs.declared.FileWritten.{FileWritten}
-use Rattle.book_files.specs.declared.Entered.{Entered}
-use Rattle.book_files.specs.declared.Entered.TheVariants.{Done, Refused}
 use Rattle.dombrelat.specs.Calls.{Returned}
 use Rattle.dombrelat.specs.FileCalls.{FileEntered, written_word, write_call, check_file_call, given_found, found_call, entered_word, entered_into, enter_call}
 use Rattle.dombrelat.specs.FileCallLaws.{run_bytes, run_said}
@@ -32,9 +31,9 @@ module _ (s file : List ℕ) where
   unfolding write_call
   write_unfit e = rw e (refl, refl)
 
-  pub write_fit : {w : FileWritten} {r : ℤ} {t : List ℕ} → bytes_fit s ≡ true → w ≡ write_answer (book_of s) (length file) → r ≡ written_word w → t ≡ file_left w (book_of s) file → Gives r t (write_call s file)
+  pub write_fit : {w : Result ℕ FileRefusal} {r : ℤ} {t : List ℕ} → bytes_fit s ≡ true → w ≡ write_answer (book_of s) (length file) → r ≡ written_word w → t ≡ file_left w (book_of s) file → Gives r t (write_call s file)
   unfolding write_call
-  write_fit e f g h = rw e (g ∙ ap written_word f, h ∙ ap (λ (w : FileWritten). file_left w (book_of s) file) f)
+  write_fit e f g h = rw e (g ∙ ap written_word f, h ∙ ap (λ (w : Result ℕ FileRefusal). file_left w (book_of s) file) f)
 
 -- ════ a file tested
 module _ (file : List ℕ) where
@@ -60,7 +59,7 @@ module _ (night day : List ℕ) (p : ℤ) (out : List ℕ) where
   unfolding found_call
   found-room e h = rw (e, lt-leb 16 (length out) h) (refl, refl)
 
-  pub found-given : {f : EntryFound} {r : ℤ} {t : List ℕ} → in_list 256 p ≡ true → 16 ≤ length out → f ≡ in_force night day p → Gives r t (given_found f out) → Gives r t (found_call night day p out)
+  pub found-given : {f : Result EntryFound FileRefusal} {r : ℤ} {t : List ℕ} → in_list 256 p ≡ true → 16 ≤ length out → f ≡ in_force night day p → Gives r t (given_found f out) → Gives r t (found_call night day p out)
   unfolding found_call
   found-given e h q g = rw (e, le-leb 16 (length out) h, sym q) g
 
@@ -73,12 +72,12 @@ module _ (s file before : List ℕ) where
   unfolding enter_call
   enter_unfit e = rw e (refl, (refl, refl))
 
-  enter_into : (e : Entered) {r : ℤ} {t a : List ℕ} → bytes_fit s ≡ true → r ≡ entered_word e → t ≡ book_left e s file → a ≡ answers_left e s file before → Enters r t a (entered_into e s file before)
+  enter_into : (e : Result (Unit {0}) FileRefusal) {r : ℤ} {t a : List ℕ} → bytes_fit s ≡ true → r ≡ entered_word e → t ≡ book_left e s file → a ≡ answers_left e s file before → Enters r t a (entered_into e s file before)
   unfolding book_left answers_left
-  enter_into Done f g h k = (g, (h ∙ run_bytes s f (calls_in file), k ∙ ap (put_words before 0) (run_said s f (calls_in file))))
-  enter_into (Refused x) f g h k = (g, (h, k))
+  enter_into (Ok u) f g h k = (g, (h ∙ run_bytes s f (calls_in file), k ∙ ap (put_words before 0) (run_said s f (calls_in file))))
+  enter_into (Err x) f g h k = (g, (h, k))
 
-  pub enter_fit : {e : Entered} {r : ℤ} {t a : List ℕ} → bytes_fit s ≡ true → e ≡ enter_answer file (length before) → r ≡ entered_word e → t ≡ book_left e s file → a ≡ answers_left e s file before
+  pub enter_fit : {e : Result (Unit {0}) FileRefusal} {r : ℤ} {t a : List ℕ} → bytes_fit s ≡ true → e ≡ enter_answer file (length before) → r ≡ entered_word e → t ≡ book_left e s file → a ≡ answers_left e s file before
       → Enters r t a (enter_call s file before)
   unfolding enter_call
   enter_fit {e} f q g h k = rw (f, sym q) (enter_into e f g h k)

@@ -5,18 +5,18 @@ use mathlib.Core.Bool.{Bool, true, false, cond}
 use mathlib.Core.List.{List}
 use lib.IntN.{ℤ}
 use Rattle.book.specs.declared.Book.{Book}
-use Rattle.book.specs.declared.Edited.{Edited}
+use Rattle.book.specs.Outcome.{Outcome}
 use Rattle.book.specs.declared.Call.{Call}
 use Rattle.layout.specs.Bytes.{book_of, bytes_fit}
 use Rattle.dombrelat.specs.Calls.{refused_with, answered_with, through, edit_call}
 
 -- ════ a call through the book
-module _ (s : List ℕ) (f : Book → Edited) where
+module _ (s : List ℕ) (f : Book → Outcome) where
   pub through_unfit : bytes_fit s ≡ false → refused_with 25 s ≡ through s f
   unfolding through
   through_unfit e = sym (ap (λ (t : Bool). cond t (answered_with s (f (book_of s))) (refused_with 25 s)) e)
 
-  pub through-fit : (b : Book) (e : Edited) → bytes_fit s ≡ true → b ≡ book_of s → e ≡ f b → answered_with s e ≡ through s f
+  pub through-fit : (b : Book) (e : Outcome) → bytes_fit s ≡ true → b ≡ book_of s → e ≡ f b → answered_with s e ≡ through s f
   unfolding through
   through-fit b e p q r = ap (answered_with s) (r ∙ ap f q) ∙ sym (ap (λ (t : Bool). cond t (answered_with s (f (book_of s))) (refused_with 25 s)) p)
 

@@ -13,7 +13,7 @@ use Rattle.words.specs.Runs.{words_at}
 use Rattle.words.specs.RunLaws.{length_words}
 use Rattle.network.specs.Stations.{count_fits, kinds_fit, coordinates_fit, unknowns_fit, whole_stations, network_of}
 use Rattle.network.specs.Stations.{opens as allOpens}
-use Rattle.book.specs.declared.Edited.{Edited}
+use Rattle.book.specs.Outcome.{Outcome}
 use Rattle.book.specs.Calls.{unless}
 use Rattle.book.specs.Book.{opened_book, opening}
 use Rattle.dombrelat.specs.Calls.{Returned, refused_with, answered_with, open_call}
@@ -39,7 +39,7 @@ module _ (list s : List ℕ) where
     opens_odd h = sym (ap (λ (t : Bool). tested t (eqb (length list % 32) 0)) (le-leb book_bytes (length s) room) ∙ ap (tested true) (ne_eqb _ _ h))
 
     module _ (even : length list % 32 ≡ 0) where
-      pub opens_done : (e : Edited) → e ≡ opening (words_at list 0 (length list / 8)) → answered_with s e ≡ open_call list s
+      pub opens_done : (e : Outcome) → e ≡ opening (words_at list 0 (length list / 8)) → answered_with s e ≡ open_call list s
       unfolding open_call
       opens_done e p =
           ap (answered_with s) p ∙ sym (ap (λ (t : Bool). tested t (eqb (length list % 32) 0)) (le-leb book_bytes (length s) room) ∙ ap (tested true) (eq-eqb _ _ even))

@@ -1,4 +1,7 @@
 -- The cases of the call that salvages a damaged file. Assumes nothing.
+use Rattle.salvage.specs.declared.SalvageCounts.{SalvageCounts}
+use Rattle.files.specs.declared.FileRefusal.{FileRefusal}
+use Rattle.std.specs.Prelude.{Result}
 use Prim.Native.Nat.{ℕ, ◌<◌, ◌≤◌}
 use mathlib.Core.Path.{◌≡◌, refl, sym}
 use mathlib.Core.List.{List}
@@ -6,7 +9,6 @@ use borrow.Author.Tests.{le-leb, lt-leb}
 use lib.ListN.{length}
 use lib.IntN.{ℤ, pos}
 use Rattle.salvage.specs.Salvage.{salvage_answer, fresh_left, skipped_left, kept_left}
-use Rattle.salvage.specs.declared.Salvaged.{Salvaged}
 use Rattle.dombrelat.specs.SalvageCall.{SalvageReturned, salvaged_word, counts_left, salvage_call}
 
 -- an answer and the bytes left are those of a call
@@ -19,7 +21,7 @@ module _ (f fresh skipped kept counts : List ℕ) where
   unfolding salvage_call fresh_left skipped_left kept_left
   salvage_no_room h = rw (lt-leb 16 (length counts) h) (refl, (refl, (refl, (refl, refl))))
 
-  pub salvage_given : {s : Salvaged} {r : ℤ} {fresh' skipped' kept' counts' : List ℕ} → 16 ≤ length counts
+  pub salvage_given : {s : Result SalvageCounts FileRefusal} {r : ℤ} {fresh' skipped' kept' counts' : List ℕ} → 16 ≤ length counts
       → s ≡ salvage_answer f (length fresh) (length skipped) (length kept) → r ≡ salvaged_word s
       → fresh' ≡ fresh_left s f fresh → skipped' ≡ skipped_left s f skipped → kept' ≡ kept_left s f kept → counts' ≡ counts_left s counts
       → Salvages r fresh' skipped' kept' counts' (salvage_call f fresh skipped kept counts)

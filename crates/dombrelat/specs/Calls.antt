@@ -2,7 +2,7 @@
 use Rattle.std.specs.Prelude.{ℕ, ◌/◌, ◌%◌, cond, List, leb, eqb, length, ℤ, pos}
 use Rattle.words.specs.Runs.{words_at}
 use Rattle.book.specs.declared.Book.{Book}
-use Rattle.book.specs.declared.Edited.{Edited}
+use Rattle.book.specs.Outcome.{Outcome}
 use Rattle.book.specs.declared.Call.{Call}
 use Rattle.book.specs.Book.{opening, outcome}
 use Rattle.layout.specs.Bytes.{book_of, bytes_fit}
@@ -19,11 +19,11 @@ abbrev pub refused_with : ℕ → List ℕ → Returned
 refused_with n s = record { answer = pos n; bytes = s }
 
 -- an answer with the book that is left: it is written where the call is not refused
-abbrev pub answered_with : List ℕ → Edited → Returned
+abbrev pub answered_with : List ℕ → Outcome → Returned
 answered_with s e = record { answer = pos e.refusal; bytes = bytes_left s e }
 
 -- a call on the book that the bytes hold; 25 before all others
-unfoldable pub through : List ℕ → (Book → Edited) → Returned
+unfoldable pub through : List ℕ → (Book → Outcome) → Returned
 through s f = cond (bytes_fit s) (answered_with s (f (book_of s))) (refused_with 25 s)
 
 -- an edit or an undo

@@ -1,7 +1,7 @@
 -- What the C calls that check a solution answer, and the lent sheet afterwards; and a check distance. Assumes nothing.
+use Rattle.acceptance.specs.Judge.{Answer}
 use Rattle.std.specs.Prelude.{ℕ, true, cond, List, ℤ, pos}
 use Rattle.words.specs.Runs.{put_words}
-use Rattle.acceptance.specs.declared.Answer.{Answer}
 use Rattle.book.specs.declared.Book.{Book}
 use Rattle.sheet.specs.Sheet.{sheet_words}
 use Rattle.distances.specs.declared.CheckDistance.{CheckDistance}

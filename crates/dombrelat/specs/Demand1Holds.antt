@@ -1,5 +1,6 @@
 -- Demand 1 holds of the C calls: each definition that a contract equals gives the slices that came where it refuses. Assumes nothing.
-use Rattle.std.specs.Prelude.{ℕ, zero, suc, ◌+◌, ◌*◌, ◌/◌, ◌%◌, ◌<◌, ◌≤◌, ◌≡◌, refl, Bool, true, false, cond, List, [], ◌∷◌, ◌⊎◌, leb, eqb, length, ℤ, pos, negsuc, nat_abs}
+use Rattle.salvage.specs.declared.SalvageCounts.{SalvageCounts}
+use Rattle.std.specs.Prelude.{ℕ, zero, suc, ◌+◌, ◌*◌, ◌/◌, ◌%◌, ◌<◌, ◌≤◌, ◌≡◌, refl, Bool, true, false, cond, List, [], ◌∷◌, ◌⊎◌, leb, eqb, length, ℤ, pos, negsuc, nat_abs, Result, Ok, Err}
 use Rattle.std.proofs.Common.{sym, ap, ◌∙◌, subst, inl, inr, arith}
 use Rattle.words.specs.Bools.{clash, true_or_false}
 use Rattle.words.specs.Runs.{words_at, put_words}
@@ -7,21 +8,18 @@ use Rattle.network.specs.Stations.{unknown_count}
 use Rattle.network.specs.Stations as stations
 use Rattle.network.specs.Records.{record_at}
 use Rattle.network.specs.Rules.{in_list}
-use Rattle.acceptance.specs.Judge.{refusal_number, refusal_unknown}
+use Rattle.acceptance.specs.Judge.{refusal_number, refusal_unknown, Answer}
 use Rattle.acceptance.specs.JudgeLaws.{refusal-least, refusal_most}
-use Rattle.acceptance.specs.declared.Answer.{Answer}
-use Rattle.acceptance.specs.declared.Answer.TheVariants.{Accepted, Refused}
 use Rattle.book.specs.declared.Book.{Book}
-use Rattle.book.specs.declared.Edited.{Edited}
+use Rattle.book.specs.Outcome.{Outcome}
 use Rattle.book.specs.declared.Call.{Call}
 use Rattle.book.specs.Calls.{place_of, unless}
 use Rattle.book.specs.CallLaws.{call_small}
 use Rattle.book.specs.Book.{opened_book, opening, outcome}
 use Rattle.sheet.specs.Sheet.{room}
 use Rattle.distances.specs.declared.CheckDistance.{CheckDistance}
-use Rattle.distances.specs.declared.Agreement.{Agreement}
-use Rattle.distances.specs.declared.Agreement.TheVariants.{Agrees, Disagrees, Refused as refusing}
-use Rattle.distances.specs.Distances.{distance_number, distance_unknown}
+use Rattle.distances.specs.declared.Agreement.TheVariants.{Agrees, Disagrees}
+use Rattle.distances.specs.Distances.{distance_number, distance_unknown, DistanceAnswer}
 use Rattle.distances.specs.DistanceLaws.{distance_least, distance_most}
 use Rattle.lent_checks.specs.LentDistances.{agreement_word, agreement_lent}
 use Rattle.lent_checks.specs.LentChecks.{answer_word, checked_lent, sheet_fits, on_accepted}
@@ -34,15 +32,10 @@ use Rattle.files.specs.Force.{file_number, in_force}
 use Rattle.files.specs.declared.FileRefusal.{FileRefusal}
 use Rattle.files.specs.declared.FileRefusal.TheVariants.{BadPlace, NoRoom, NotCarried}
 use Rattle.files.specs.declared.EntryFound.{EntryFound}
-use Rattle.files.specs.declared.EntryFound.TheVariants.{InNight, InDay, Refused as not_found}
+use Rattle.files.specs.declared.EntryFound.TheVariants.{InNight, InDay}
 use Rattle.book_files.specs.Writing.{book_entries, all_carried, write_answer, file_left}
 use Rattle.book_files.specs.Entering.{calls_in, enter_answer}
-use Rattle.book_files.specs.declared.FileWritten.TheVariants.{Length, Refused as not_written}
-use Rattle.book_files.specs.declared.Entered.{Entered}
-use Rattle.book_files.specs.declared.Entered.TheVariants.{Done, Refused as not_entered}
 use Rattle.salvage.specs.Salvage.{salvage_answer, fresh_left, skipped_left, kept_left}
-use Rattle.salvage.specs.declared.Salvaged.{Salvaged}
-use Rattle.salvage.specs.declared.Salvaged.TheVariants.{Counts, Refused as not_salvaged}
 use Rattle.dombrelat.specs.Calls.{Returned, refused_with, answered_with, through, edit_call, open_call}
 use Rattle.dombrelat.specs.CheckCalls.{Judged, judged_lent, check_call, sheet_call, distance_call}
 use Rattle.dombrelat.specs.Proposal.{Proposes}
@@ -102,7 +95,7 @@ refused_right k s n h l = record { told = told-refusal k n h l; stays = λ z. re
 unfit_right : (k : ℤ) (s : List ℕ) → Right k s (refused_with 25 s)
 unfit_right k s = refused_right k s 25 (omega arith) (omega arith)
 
-settled_right : (s : List ℕ) (e : Edited) → e.refusal < 128 → Right (pos 0) s (answered_with s e)
+settled_right : (s : List ℕ) (e : Outcome) → e.refusal < 128 → Right (pos 0) s (answered_with s e)
 unfolding unless
 settled_right s e l = record { told = told-small e.refusal l; stays = go e.refusal _ }
   where
@@ -115,7 +108,7 @@ settled_right s e l = record { told = told-small e.refusal l; stays = go e.refus
 pub opening-small : (w : List ℤ) → (opening w).refusal ≤ 9
 opening-small w = go (stations.opens w) (opened_book (stations.network_of w)) (opened_book (stations.network_of []))
   where
-    go : (t : Bool) (a b : Book) → (cond {A = Edited} t (record { refusal = 0; book = a }) (record { refusal = 1; book = b })).refusal ≤ 9
+    go : (t : Bool) (a b : Book) → (cond {A = Outcome} t (record { refusal = 0; book = a }) (record { refusal = 1; book = b })).refusal ≤ 9
     go true a b = let h : 0 ≤ 9 = omega arith in h
     go false a b = let h : 1 ≤ 9 = omega arith in h
 
@@ -138,8 +131,8 @@ edit_right s c =
 -- ════ checks
 answer-told : (a : Answer) → Told (pos 0) (answer_word a)
 unfolding Told answer_word
-answer-told Accepted e = refl
-answer-told (Refused r) e = absurd (let z : (refusal_number r + 256 * refusal_unknown r) % 128 ≡ 0 = remainder _ e in omega (arith, refusal-least r, refusal_most r))
+answer-told (Ok u) e = refl
+answer-told (Err r) e = absurd (let z : (refusal_number r + 256 * refusal_unknown r) % 128 ≡ 0 = remainder _ e in omega (arith, refusal-least r, refusal_most r))
 
 check_told : (s x m : List ℕ) → Told (pos 0) (check_call s x m)
 unfolding check_call
@@ -150,8 +143,8 @@ unfolding on_accepted answer_word
 judged_right a new old = record { told = answer-told a; stays = go a }
   where
     go : (a : Answer) → (refusal_in (answer_word a) ≡ pos 0 → ⊥) → on_accepted a new old ≡ old
-    go Accepted h = absurd (h (given-none 0))
-    go (Refused r) h = refl
+    go (Ok u) h = absurd (h (given-none 0))
+    go (Err r) h = refl
 
 sheet_right : (s x m sheet : List ℕ) → Right (pos 0) sheet (record { answer = (sheet_call s x m sheet).answer; bytes = (sheet_call s x m sheet).sheet })
 unfolding sheet_call
@@ -163,11 +156,11 @@ sheet_right s x m sheet = go (bytes_fit s) (judged_lent (checked_lent (book_of s
     go false j o = unfit_right (pos 0) sheet
 
 -- ════ a check distance: 3, 17 and the numbers of the check's own are refusals; −2 is no refusal, but is not 0 either
-word-told : (a : Agreement) → Told (pos 0) (agreement_word a)
+word-told : (a : DistanceAnswer) → Told (pos 0) (agreement_word a)
 unfolding Told agreement_word refusal_in
-word-told Agrees e = refl
-word-told Disagrees e = e
-word-told (refusing r) e = absurd (let z : (distance_number r + 256 * distance_unknown r) % 128 ≡ 0 = remainder _ e in omega (arith, distance_least r, distance_most r))
+word-told (Ok Agrees) e = refl
+word-told (Ok Disagrees) e = e
+word-told (Err r) e = absurd (let z : (distance_number r + 256 * distance_unknown r) % 128 ≡ 0 = remainder _ e in omega (arith, distance_least r, distance_most r))
 
 distance_told : (s x m : List ℕ) (d : CheckDistance) → Told (pos 0) (distance_call s x m d)
 unfolding distance_call
@@ -260,7 +253,7 @@ write_right s file =
   where
     go : (t u v : Bool)
         → Right (pos (128 * length (book_entries (book_of s)))) file
-        (let w = cond u (cond v (Length (128 * length (book_entries (book_of s)))) (not_written NotCarried)) (not_written NoRoom) in
+        (let w = cond u (cond v (Ok (128 * length (book_entries (book_of s)))) (Err NotCarried)) (Err NoRoom) in
         cond t (record { answer = written_word w; bytes = file_left w (book_of s) file }) (refused_with 25 file))
     go true true true = record { told = told-given _; stays = λ h. absurd (h (length_none (length (book_entries (book_of s))))) }
     go true true false = number_right _ file NotCarried
@@ -278,10 +271,10 @@ found_right night day p out =
     either (pos 0) out (in_list 256 p) (cond (leb 16 (length out)) g (refused_with 10 out)) (refused_with 2 out)
     (either (pos 0) out (leb 16 (length out)) g (refused_with 10 out) (shown (in_force night day p)) (number_right (pos 0) out NoRoom)) (number_right (pos 0) out BadPlace)
   where
-    shown : (f : EntryFound) → Right (pos 0) out (given_found f out)
-    shown (InNight at) = record { told = told-given (pos 0); stays = λ h. absurd (h (given-none 0)) }
-    shown (InDay at) = record { told = told-given (pos 0); stays = λ h. absurd (h (given-none 0)) }
-    shown (not_found r) = number_right (pos 0) out r
+    shown : (f : Result EntryFound FileRefusal) → Right (pos 0) out (given_found f out)
+    shown (Ok (InNight at)) = record { told = told-given (pos 0); stays = λ h. absurd (h (given-none 0)) }
+    shown (Ok (InDay at)) = record { told = told-given (pos 0); stays = λ h. absurd (h (given-none 0)) }
+    shown (Err r) = number_right (pos 0) out r
 
 -- a file entered: one refused leaves the book and the answers as they came, and else the book's bytes fit
 record EntersRight (s before : List ℕ) (e : FileEntered) : Type 0 where
@@ -296,9 +289,9 @@ enter_right s file before = go (bytes_fit s) refl (enter_answer file (length bef
     small : (n : ℕ) → 0 < n → n < 128 → EntersRight s before (record { answer = pos n; book = s; answers = before })
     small n h l = record { told = told-refusal (pos 0) n h l; stays = λ z. (refl, refl); fits = λ e. absurd (let z : n ≡ 0 = ap nat_abs e in omega arith) }
 
-    go : (t : Bool) → bytes_fit s ≡ t → (e : Entered) → EntersRight s before (cond t (entered_into e s file before) (record { answer = pos 25; book = s; answers = before }))
-    go true f Done = record { told = told-given (pos 0); stays = λ h. absurd (h (given-none 0)); fits = λ e. run_fits s f (calls_in file) }
-    go true f (not_entered r) = small (file_number r) (number-least r) (let h = number_most_lem r in omega arith)
+    go : (t : Bool) → bytes_fit s ≡ t → (e : Result (Unit {0}) FileRefusal) → EntersRight s before (cond t (entered_into e s file before) (record { answer = pos 25; book = s; answers = before }))
+    go true f (Ok u) = record { told = told-given (pos 0); stays = λ h. absurd (h (given-none 0)); fits = λ e. run_fits s f (calls_in file) }
+    go true f (Err r) = small (file_number r) (number-least r) (let h = number_most_lem r in omega arith)
     go false f e = small 25 (omega arith) (omega arith)
 
 -- a file salvaged: one refused leaves all four slices as they came
@@ -308,13 +301,13 @@ record SalvagesRight (fresh skipped kept counts : List ℕ) (r : SalvageReturned
 
 salvage_right : (f fresh skipped kept counts : List ℕ) → SalvagesRight fresh skipped kept counts (salvage_call f fresh skipped kept counts)
 unfolding salvage_call fresh_left skipped_left kept_left
-salvage_right f fresh skipped kept counts = go (cond (leb 16 (length counts)) (salvage_answer f (length fresh) (length skipped) (length kept)) (not_salvaged NoRoom))
+salvage_right f fresh skipped kept counts = go (cond (leb 16 (length counts)) (salvage_answer f (length fresh) (length skipped) (length kept)) (Err NoRoom))
   where
-    go : (s : Salvaged)
+    go : (s : Result SalvageCounts FileRefusal)
         → SalvagesRight fresh skipped kept counts
         (record { answer = salvaged_word s; fresh = fresh_left s f fresh; skipped = skipped_left s f skipped; kept = kept_left s f kept; counts = counts_left s counts })
-    go (Counts n) = record { told = told-given (pos 0); stays = λ h. absurd (h (given-none 0)) }
-    go (not_salvaged r) = record { told = told-refusal (pos 0) (file_number r) (number-least r) (let h = number_most_lem r in omega arith); stays = λ h. (refl, refl, refl, refl) }
+    go (Ok n) = record { told = told-given (pos 0); stays = λ h. absurd (h (given-none 0)) }
+    go (Err r) = record { told = told-refusal (pos 0) (file_number r) (number-least r) (let h = number_most_lem r in omega arith); stays = λ h. (refl, refl, refl, refl) }
 
 -- ════ all calls
 told_as : (k r n : ℤ) → r ≡ n → Told k n → Told k r

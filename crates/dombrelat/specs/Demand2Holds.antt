@@ -1,5 +1,5 @@
 -- Demand 2 over bytes holds: the C calls answer as the check of the book and the words that the bytes hold. Assumes nothing.
-use Rattle.std.specs.Prelude.{ℕ, ◌+◌, ◌*◌, ◌≤◌, ◌≡◌, Bool, false, ◌&&◌, ℤ, pos}
+use Rattle.std.specs.Prelude.{ℕ, ◌+◌, ◌*◌, ◌≤◌, ◌≡◌, Bool, false, ◌&&◌, ℤ, pos, Ok, Err}
 use Rattle.std.proofs.Math.Path.{refl, ap}
 use Rattle.std.proofs.Common.{sym, ◌∙◌, inr, arith}
 use Rattle.std.proofs.Math.Bool.{true}
@@ -8,10 +8,8 @@ use Rattle.std.proofs.Math.ListN.{get_or}
 use Rattle.std.proofs.Math.IntN.{nat_abs}
 use Rattle.words.specs.Runs.{put_words}
 use Rattle.words.specs.RunLaws.{run_out}
-use Rattle.acceptance.specs.Judge.{refusal_unknown, answer_number, answer_unknown}
+use Rattle.acceptance.specs.Judge.{refusal_unknown, answer_number, answer_unknown, Answer}
 use Rattle.acceptance.specs.JudgeLaws.{refusal-least, number_most_lem}
-use Rattle.acceptance.specs.declared.Answer.{Answer}
-use Rattle.acceptance.specs.declared.Answer.TheVariants.{Accepted, Refused}
 use Rattle.sheet.specs.Sheet.{sheet_words, room}
 use Rattle.sheet.specs.SheetLaws.{sheet_length}
 use Rattle.checks.specs.Demand2Holds.{demand_2 as demand-2-of-words}
@@ -55,18 +53,18 @@ module _ (s x m : List ℕ) where
       -- by the answer
       written_by : (a : Answer) → answer_word a ≡ pos 0 → on_accepted a (put_words sheet 0 words) sheet ≡ put_words sheet 0 words
       unfolding answer_word on_accepted
-      written_by Accepted z = refl
-      written_by (Refused r) z = absurd (let q : answer_number (Refused r) + 256 * refusal_unknown r ≡ 0 = ap nat_abs z in omega (arith, refusal-least r))
+      written_by (Ok u) z = refl
+      written_by (Err r) z = absurd (let q : answer_number (Err r) + 256 * refusal_unknown r ≡ 0 = ap nat_abs z in omega (arith, refusal-least r))
 
       beyond_by : (a : Answer) (j : ℕ) → 8 * room (book_of s).network (book_of s).places ≤ j → get_or (on_accepted a (put_words sheet 0 words) sheet) j 0 ≡ get_or sheet j 0
       unfolding on_accepted words
-      beyond_by Accepted j h = run_out sheet 0 words j (inr (omega (arith, sheet_length (book_of s).network (book_of s).places (all_words x) (all_words m))))
-      beyond_by (Refused r) j h = refl
+      beyond_by (Ok u) j h = run_out sheet 0 words j (inr (omega (arith, sheet_length (book_of s).network (book_of s).places (all_words x) (all_words m))))
+      beyond_by (Err r) j h = refl
 
       kept_by : (a : Answer) → (answer_word a ≡ pos 0 → ⊥) → on_accepted a (put_words sheet 0 words) sheet ≡ sheet
       unfolding answer_word on_accepted
-      kept_by Accepted h = absurd (h refl)
-      kept_by (Refused r) h = refl
+      kept_by (Ok u) h = absurd (h refl)
+      kept_by (Err r) h = refl
 
       demand : Demand s x m sheet
       unfolding words a

@@ -4,11 +4,10 @@
 --   book_of, bytes_fit   specs/Bytes.antt          the book that bytes hold, and what 25 tests
 --   Demand             book, specs/Demand3.antt  answers and a book measured by the ledger
 --   final, answers     book, specs/Run.antt      the state after a run, and the answers along it
-use Rattle.std.specs.Prelude.{ℕ, ◌/◌, ◌≤◌, ◌≡◌, true, List, map, length, get_or, take, ℤ, pos}
+use Rattle.std.specs.Prelude.{ℕ, ◌/◌, ◌≤◌, ◌≡◌, true, List, map, length, get_or, take, ℤ, pos, Some}
 use Rattle.words.specs.Runs.{words_at}
 use Rattle.network.specs.Stations.{network_of}
 use Rattle.book.specs.declared.Call.{Call}
-use Rattle.book.specs.declared.Row.TheVariants.{Names}
 use Rattle.book.specs.Run.{final, answers}
 use Rattle.book.specs.Demand3 as ledger
 use Rattle.layout.specs.Bytes.{book_of, bytes_fit}
@@ -26,7 +25,7 @@ bytes_answers list s calls = answers bytes_next bytes_says (open_call list s).by
 pub record Demand (list s : List ℕ) (calls : List Call) : Type 0 where
   -- every answer, the records, N and u that the bytes hold at the end, and the history that they hold all along are the ledger's
   pub ledger :
-      ledger.Demand (network_of (words_at list 0 (length list / 8))) (map Names calls) (bytes_answers list s calls)
+      ledger.Demand (network_of (words_at list 0 (length list / 8))) (map Some calls) (bytes_answers list s calls)
       (λ k. book_of (bytes_after list s (take k calls))) (book_of (bytes_after list s calls))
   -- the bytes left are a book that the next call takes
   pub fits : bytes_fit (bytes_after list s calls) ≡ true

@@ -1,5 +1,5 @@
 -- Demand 3 over bytes holds: what the bytes hold follows the book of the same calls, and the book follows the ledger. Assumes nothing.
-use Rattle.std.specs.Prelude.{ℕ, zero, suc, ◌/◌, ◌%◌, ◌≤◌, ◌≡◌, refl, Bool, true, false, cond, List, [], ◌∷◌, map, ◌⊎◌, leb, eqb, length, take, ℤ, nat_abs}
+use Rattle.std.specs.Prelude.{ℕ, zero, suc, ◌/◌, ◌%◌, ◌≤◌, ◌≡◌, refl, Bool, true, false, cond, List, [], ◌∷◌, map, ◌⊎◌, leb, eqb, length, take, ℤ, nat_abs, Option, Some}
 use Rattle.std.proofs.Common.{sym, ap, ◌∙◌, subst, inl, inr, arith, leb-true}
 use Rattle.std.proofs.Math.IntN.{pos}
 use Rattle.words.specs.Bools.{true_or_false}
@@ -9,10 +9,8 @@ use Rattle.network.specs.Stations as stations
 use Rattle.network.specs.OpeningLaws.{opened-fits}
 use Rattle.network.specs.declared.Network.{Network}
 use Rattle.book.specs.declared.Book.{Book}
-use Rattle.book.specs.declared.Edited.{Edited}
+use Rattle.book.specs.Outcome.{Outcome}
 use Rattle.book.specs.declared.Call.{Call}
-use Rattle.book.specs.declared.Row.{Row}
-use Rattle.book.specs.declared.Row.TheVariants.{Names}
 use Rattle.book.specs.Calls.{unless}
 use Rattle.book.specs.Book.{opened_book, book_says, book_next, outcome}
 use Rattle.book.specs.Rows.{row_next, row_says}
@@ -25,27 +23,27 @@ use Rattle.dombrelat.specs.Calls.{Returned, refused_with, answered_with, through
 use Rattle.dombrelat.specs.Demand3.{bytes_after, bytes_answers, Demand3}
 
 -- ════ rows that are calls
-rows-answers : (b : Book) (cs : List Call) → answers book_next (λ x c. pos (book_says x c)) b cs ≡ answers (row_next book_next) (row_says book_says) b (map Names cs)
+rows-answers : (b : Book) (cs : List Call) → answers book_next (λ x c. pos (book_says x c)) b cs ≡ answers (row_next book_next) (row_says book_says) b (map Some cs)
 unfolding answers row_next row_says
 rows-answers b [] = refl
 rows-answers b (c ∷ cs) = ap (λ (l : List ℤ). pos (book_says b c) ∷ l) (rows-answers (book_next b c) cs)
 
-rows-final : (b : Book) (cs : List Call) → final book_next b cs ≡ final (row_next book_next) b (map Names cs)
+rows-final : (b : Book) (cs : List Call) → final book_next b cs ≡ final (row_next book_next) b (map Some cs)
 unfolding final row_next
 rows-final b [] = refl
 rows-final b (c ∷ cs) = rows-final (book_next b c) cs
 
-rows_take : (k : ℕ) (cs : List Call) → map Names (take k cs) ≡ take k (map Names cs)
+rows_take : (k : ℕ) (cs : List Call) → map Some (take k cs) ≡ take k (map Some cs)
 rows_take zero cs = refl
 rows_take (suc k) [] = refl
-rows_take (suc k) (c ∷ cs) = ap (λ (l : List Row). Names c ∷ l) (rows_take k cs)
+rows_take (suc k) (c ∷ cs) = ap (λ (l : List (Option Call)). Some c ∷ l) (rows_take k cs)
 
 -- ════ a call through the book
-pub through-fits : (s : List ℕ) (f : Book → Edited) → bytes_fit s ≡ true → through s f ≡ answered_with s (f (book_of s))
+pub through-fits : (s : List ℕ) (f : Book → Outcome) → bytes_fit s ≡ true → through s f ≡ answered_with s (f (book_of s))
 unfolding through
 through-fits s f e = ap (λ (t : Bool). cond t (answered_with s (f (book_of s))) (refused_with 25 s)) e
 
-through_unfit : (s : List ℕ) (f : Book → Edited) → bytes_fit s ≡ false → through s f ≡ refused_with 25 s
+through_unfit : (s : List ℕ) (f : Book → Outcome) → bytes_fit s ≡ false → through s f ≡ refused_with 25 s
 unfolding through
 through_unfit s f e = ap (λ (t : Bool). cond t (answered_with s (f (book_of s))) (refused_with 25 s)) e
 
@@ -171,7 +169,7 @@ demand_3 list s a calls =
     let b = opened_book (net list s o) in
     record {
       ledger =
-          demanded (net list s o) (opened-fits (words_at list 0 (length list / 8)) o.accepts) (map Names calls) _ _ _
+          demanded (net list s o) (opened-fits (words_at list 0 (length list / 8)) o.accepts) (map Some calls) _ _ _
           (said list s o calls ∙ rows-answers b calls)
           (λ k. (left list s o (take k calls)).reads ∙ rows-final b (take k calls) ∙ ap (final (row_next book_next) b) (rows_take k calls))
           ((left list s o calls).reads ∙ rows-final b calls);

@@ -1,6 +1,7 @@
 -- A check distance and the sheet, over bytes: where dombrelat_check_sheet accepts the pair, the answer of dombrelat_check_distance is that of the words which it left in the lent sheet for the
 -- two stations. Assumes nothing.
-use Rattle.std.specs.Prelude.{ℕ, ◌+◌, ◌*◌, ◌/◌, ◌<◌, ◌≤◌, ◌≡◌, Bool, ◌&&◌, leb, ℤ, pos, negsuc}
+use Rattle.acceptance.specs.Judge.{Answer}
+use Rattle.std.specs.Prelude.{ℕ, ◌+◌, ◌*◌, ◌/◌, ◌<◌, ◌≤◌, ◌≡◌, Bool, ◌&&◌, leb, ℤ, pos, negsuc, Ok, Err}
 use Rattle.std.proofs.Math.Path.{refl, sym, ap}
 use Rattle.std.proofs.Common.{◌∙◌, subst, ⊎_elim, leb-true}
 use Rattle.std.proofs.Math.Bool.{true, false, cond}
@@ -20,8 +21,6 @@ use Rattle.network.specs.RuleLaws.{network_few, in_list_lem, ends_each}
 use Rattle.lists.specs.Stored.{fits_by}
 use Rattle.acceptance.specs.Exactly.{answer}
 use Rattle.acceptance.specs.JudgeLaws.{refusal-least}
-use Rattle.acceptance.specs.declared.Answer.{Answer}
-use Rattle.acceptance.specs.declared.Answer.TheVariants.{Accepted, Refused}
 use Rattle.book.specs.declared.Book.{Book}
 use Rattle.book.specs.Book.{sound}
 use Rattle.sheet.specs.Sheet.{sheet_words, room}
@@ -46,10 +45,10 @@ abbrev pub mark_at : List ℕ → ℤ → ℕ → ℤ
 mark_at sheet k c = word_at sheet (8 * coordinate_word (index_in k 32) c)
 
 -- an answer whose word is 0 is acceptance
-word-accepted : (a : Answer) → answer_word a ≡ pos 0 → a ≡ Accepted
+word-accepted : (a : Answer) → answer_word a ≡ pos 0 → a ≡ Ok tt
 unfolding answer_word
-word-accepted Accepted e = refl
-word-accepted (Refused r) e = absurd (let z = ap nat_abs e in omega (arith, refusal-least r))
+word-accepted (Ok u) e = refl
+word-accepted (Err r) e = absurd (let z = ap nat_abs e in omega (arith, refusal-least r))
 
 -- ════ bytes that hold a book
 module _ (s x m sheet : List ℕ) (fit : bytes_fit s ≡ true) (done : (sheet_call s x m sheet).answer ≡ pos 0) where
@@ -63,17 +62,17 @@ module _ (s x m sheet : List ℕ) (fit : bytes_fit s ≡ true) (done : (sheet_ca
   abbrev whole : Bool
   whole = is_whole x && is_whole m
 
-  accepted : checked b (all_words x) (all_words m) (whole && sheet_fits b sheet) ≡ Accepted
+  accepted : checked b (all_words x) (all_words m) (whole && sheet_fits b sheet) ≡ Ok tt
   unfolding sheet_call checked_lent
   accepted = word-accepted _ (sym (rw fit) ∙ done)
 
-  is-accepted : answer b.network b.places (all_words x) (all_words m) (whole && sheet_fits b sheet) ≡ Accepted
+  is-accepted : answer b.network b.places (all_words x) (all_words m) (whole && sheet_fits b sheet) ≡ Ok tt
   is-accepted = sym (checked-is b sure (all_words x) (all_words m) (whole && sheet_fits b sheet)) ∙ accepted
 
   roomy : whole && sheet_fits b sheet ≡ true
   roomy = has_room_lem b sure (all_words x) (all_words m) (whole && sheet_fits b sheet) is-accepted
 
-  pair-accepted : checked_lent b x m true ≡ Accepted
+  pair-accepted : checked_lent b x m true ≡ Ok tt
   unfolding checked_lent
   pair-accepted =
       let w : whole && true ≡ whole && sheet_fits b sheet = ap (λ (t : Bool). t && true) (and_left whole (sheet_fits b sheet) roomy) ∙ sym roomy in
@@ -107,12 +106,12 @@ module _ (s x m sheet : List ℕ) (fit : bytes_fit s ≡ true) (done : (sheet_ca
   unfolding distance_call agreement_lent agreement_word
   said d e f =
       let t = ends_each b.network.count d.from d.to few e in
-      let is : agreement_lent b x m d ≡ cond (agrees_at b.network.stations (all_words x) d) Agrees Disagrees =
+      let is : agreement_lent b x m d ≡ Ok (cond (agrees_at b.network.stations (all_words x) d) Agrees Disagrees) =
       pair-answer b.network d e _ _ pair-accepted f in
       rw fit (ap agreement_word is ∙ word (agrees_at b.network.stations (all_words x) d)
       ∙ ap (λ (g : Bool). cond g (pos 0) (negsuc 1)) (agrees_as d _ _ _ _ (bytes_mark d.from t.0) (bytes_mark d.to t.1.0)))
     where
-      word : (g : Bool) → agreement_word (cond g Agrees Disagrees) ≡ cond g (pos 0) (negsuc 1)
+      word : (g : Bool) → agreement_word (Ok (cond g Agrees Disagrees)) ≡ cond g (pos 0) (negsuc 1)
       word true = refl
       word false = refl
 

@@ -1,5 +1,5 @@
 -- Laws of the C calls on files: their numbers are small, a file's length too, and a file entered is a run of C edits. Assumes nothing.
-use Rattle.std.specs.Prelude.{ℕ, ◌*◌, ◌<◌, ◌≤◌, ◌≡◌, refl, Bool, true, false, cond, List, leb, length}
+use Rattle.std.specs.Prelude.{ℕ, ◌*◌, ◌<◌, ◌≤◌, ◌≡◌, refl, Bool, true, false, cond, List, leb, length, Ok, Err}
 use Rattle.std.proofs.Common.{sym, ap, ◌∙◌, subst, arith}
 use Rattle.book.specs.declared.Book.{Book}
 use Rattle.book.specs.declared.Call.{Call}
@@ -12,7 +12,6 @@ use Rattle.files.specs.declared.FileRefusal.TheVariants.{BadPlace, NoRoom, Unrea
 use Rattle.book_files.specs.Writing.{book_entries, all_carried, write_answer}
 use Rattle.book_files.specs.WritingLaws.{entries_few}
 use Rattle.book_files.specs.Entering.{left_by, said_to}
-use Rattle.book_files.specs.declared.FileWritten.TheVariants.{Length, Refused}
 use Rattle.dombrelat.specs.Calls.{Returned, bytes_next, bytes_says}
 use Rattle.dombrelat.specs.Demand3Holds.{through-fits, stays, holds_own}
 use Rattle.dombrelat.specs.FileCalls.{LengthSmall}
@@ -37,7 +36,7 @@ pub length-small : (b : Book) (room : ℕ) → LengthSmall (write_answer b room)
 unfolding write_answer
 length-small b room = go (leb (128 * length (book_entries b)) room) (all_carried b)
   where
-    go : (t u : Bool) → LengthSmall (cond t (cond u (Length (128 * length (book_entries b))) (Refused NotCarried)) (Refused NoRoom))
+    go : (t u : Bool) → LengthSmall (cond t (cond u (Ok (128 * length (book_entries b))) (Err NotCarried)) (Err NoRoom))
     go true true = let h = entries_few b.places 256 in omega arith
     go true false = tt
     go false u = tt

@@ -1,7 +1,7 @@
 -- What the C call writes of a book, entered by the C call on a new book over the same stations, gives the same records, N and u, and every entry is answered 0. Over books: book_files,
 -- specs/RoundTrip.antt. Assumes nothing.
 use Rattle.files.specs.Statements.{AllFit}
-use Rattle.std.specs.Prelude.{ℕ, zero, suc, ◌+◌, ◌*◌, ◌/◌, ◌<◌, ◌≤◌, ◌≡◌, refl, Bool, true, false, cond, List, [], ◌∷◌, ◌++◌, map, leb, length, get_or, take, drop, ℤ, pos, nat_abs}
+use Rattle.std.specs.Prelude.{ℕ, zero, suc, ◌+◌, ◌*◌, ◌/◌, ◌<◌, ◌≤◌, ◌≡◌, refl, Bool, true, false, cond, List, [], ◌∷◌, ◌++◌, map, leb, length, get_or, take, drop, ℤ, pos, nat_abs, Ok, Err}
 use Rattle.std.proofs.Common.{sym, ap, ◌∙◌, subst, arith, leb-true, le-leb, drop_at, SFits}
 use Rattle.std.proofs.lemmas.List.{length-map}
 use Rattle.std.specs.Int.{w64}
@@ -23,8 +23,6 @@ use Rattle.book_files.specs.WritingLaws.{entries_few}
 use Rattle.book_files.specs.Entering.{call_in, calls_in, enter_answer}
 use Rattle.book_files.specs.Carried.{entries_fit_lem}
 use Rattle.book_files.specs.RoundTrip.{book_calls, restored, RestoresBook, restores}
-use Rattle.book_files.specs.declared.FileWritten.TheVariants.{Length, Refused}
-use Rattle.book_files.specs.declared.Entered.TheVariants.{Done}
 use Rattle.dombrelat.specs.Calls.{Returned, refused_with, bytes_next, bytes_says, open_call}
 use Rattle.dombrelat.specs.FileCalls.{FileEntered, written_word, write_call, entered_into, enter_call}
 use Rattle.dombrelat.specs.Demand3.{bytes_after, bytes_answers}
@@ -69,7 +67,7 @@ accepted_write s file k a = go (bytes_fit s) (leb (128 * length (book_entries (b
   where
     wrote : (t u v : Bool) → Returned
     wrote t u v =
-        let w = cond u (cond v (Length (128 * length (book_entries (book_of s)))) (Refused NotCarried)) (Refused NoRoom) in
+        let w = cond u (cond v (Ok (128 * length (book_entries (book_of s)))) (Err NotCarried)) (Err NoRoom) in
         cond t (record { answer = written_word w; bytes = file_left w (book_of s) file }) (refused_with 25 file)
 
     go : (t u v : Bool) → bytes_fit s ≡ t → leb (128 * length (book_entries (book_of s))) (length file) ≡ u → all_carried (book_of s) ≡ v → (wrote t u v).answer ≡ pos (128 * k) → Accepted s file k
@@ -125,7 +123,7 @@ words_said next says s [] i = refl
 words_said next says s (c ∷ cs) zero = refl
 words_said next says s (c ∷ cs) (suc i) = words_said next says (next s c) cs i
 
-enter_done : (s file before : List ℕ) → bytes_fit s ≡ true → reads file ≡ true → 8 * (length file / 128) ≤ length before → enter_call s file before ≡ entered_into Done s file before
+enter_done : (s file before : List ℕ) → bytes_fit s ≡ true → reads file ≡ true → 8 * (length file / 128) ≤ length before → enter_call s file before ≡ entered_into (Ok tt) s file before
 unfolding enter_call enter_answer
 enter_done s file before f r h = rw (f, le-leb (8 * (length file / 128)) (length before) h, r)
 

@@ -1,14 +1,13 @@
 -- Demand 3 of runs that have files entered among them: after an accepted opening, any run of C enters, strikes, undos and files entered, refused ones among them, leaves the bytes, and gave the
 -- answers, of the run of its single calls, a file's entries in their order. Of that run demand 3 says what the ledger says. Assumes nothing.
-use Rattle.std.specs.Prelude.{ℕ, ◌≡◌, refl, true, List, [], ◌∷◌, ◌++◌, length, ℤ, pos}
+use Rattle.files.specs.declared.FileRefusal.{FileRefusal}
+use Rattle.std.specs.Prelude.{ℕ, ◌≡◌, refl, true, List, [], ◌∷◌, ◌++◌, length, ℤ, pos, Result, Ok, Err}
 use Rattle.std.proofs.Common.{sym, ap, ◌∙◌}
 use Rattle.words.specs.Runs.{put_words}
 use Rattle.book.specs.declared.Call.{Call}
 use Rattle.book.specs.Run.{final, answers, final-append, answers-append}
 use Rattle.layout.specs.Bytes.{bytes_fit}
 use Rattle.book_files.specs.Entering.{calls_in, enter_answer}
-use Rattle.book_files.specs.declared.Entered.{Entered}
-use Rattle.book_files.specs.declared.Entered.TheVariants.{Done, Refused}
 use Rattle.dombrelat.specs.Calls.{bytes_next, bytes_says, open_call}
 use Rattle.dombrelat.specs.FileCalls.{entered_into, enter_call}
 use Rattle.dombrelat.specs.FileCallLaws.{run_fits}
@@ -22,9 +21,9 @@ pub data Step : Type 0 where
   whole : (file before : List ℕ) → Step
 
 -- the calls that a step makes: those of a file's entries, none of a file that is refused
-abbrev pub entered_calls : Entered → List ℕ → List Call
-entered_calls Done file = calls_in file
-entered_calls (Refused r) file = []
+abbrev pub entered_calls : Result (Unit {0}) FileRefusal → List ℕ → List Call
+entered_calls (Ok u) file = calls_in file
+entered_calls (Err r) file = []
 
 abbrev pub calls_of : Step → List Call
 calls_of (single c) = c ∷ []
@@ -60,9 +59,9 @@ unfolding final enter_call
 step_run s f (single c) = refl
 step_run s f (whole file before) = let z : (enter_call s file before).book ≡ final bytes_next s (entered_calls (enter_answer file (length before)) file) = rw f (go (enter_answer file (length before))) in z
   where
-    go : (e : Entered) → (entered_into e s file before).book ≡ final bytes_next s (entered_calls e file)
-    go Done = refl
-    go (Refused r) = refl
+    go : (e : Result (Unit {0}) FileRefusal) → (entered_into e s file before).book ≡ final bytes_next s (entered_calls e file)
+    go (Ok u) = refl
+    go (Err r) = refl
 
 step_fits : (s : List ℕ) → bytes_fit s ≡ true → (x : Step) → bytes_fit (step_next s x) ≡ true
 step_fits s f x = ap bytes_fit (step_run s f x) ∙ run_fits s f (calls_of x)
@@ -83,7 +82,7 @@ steps_said s f (x ∷ xs) =
     ∙ sym (answers-append bytes_next bytes_says s (calls_of x) (all_calls xs))
 
 -- the words that a file entered writes are the answers to its calls
-pub answers-written : (s file before : List ℕ) → bytes_fit s ≡ true → enter_answer file (length before) ≡ Done → (enter_call s file before).answers ≡ put_words before 0 (step_says s (whole file before))
+pub answers-written : (s file before : List ℕ) → bytes_fit s ≡ true → enter_answer file (length before) ≡ Ok tt → (enter_call s file before).answers ≡ put_words before 0 (step_says s (whole file before))
 unfolding enter_call
 answers-written s file before f e = rw (f, e)
 

@@ -29,7 +29,7 @@ use Rattle.network.specs.declared.Station.{Station}
 use Rattle.network.specs.declared.Place.{Place}
 use Rattle.network.specs.declared.Record.{Record}
 use Rattle.book.specs.declared.Book.{Book}
-use Rattle.book.specs.declared.Edited.{Edited}
+use Rattle.book.specs.Outcome.{Outcome}
 use Rattle.book.specs.declared.Change.{Change}
 use Rattle.book.specs.declared.Call.{Call}
 use Rattle.book.specs.declared.Call.TheVariants as call
@@ -215,7 +215,7 @@ opens_again s out t e long room =
     let o = (fits-sound s e).network in
     let opened : opening w ≡ record { refusal = 0; book = opened_book net } = rw (list_opens net o (read_stations s), list_back net o (read_stations s)) in
     ap (λ (l : List ℕ). open_call l t) is
-    ∙ rw (le-leb book_bytes (length t) room, even) (ap (λ (x : Edited). answered_with t x) (ap opening read ∙ opened))
+    ∙ rw (le-leb book_bytes (length t) room, even) (ap (λ (x : Outcome). answered_with t x) (ap opening read ∙ opened))
 
 -- ════ what an accepted edit put at its place
 module _ (s : List ℕ) (p : ℤ) (c : Change) (out : List ℕ) (room : 112 ≤ length out) where

@@ -1,5 +1,5 @@
 -- What a C host finds after a salvage that is not refused (`salvage_found`), and how much room is never too little (`salvage_enough`). Assumes nothing.
-use Rattle.std.specs.Prelude.{ℕ, ◌+◌, ◌*◌, ◌/◌, ◌<◌, ◌≤◌, ◌^◌, ◌≡◌, refl, Bool, cond, ◌⊎◌, leb, pos, nat_abs}
+use Rattle.std.specs.Prelude.{ℕ, ◌+◌, ◌*◌, ◌/◌, ◌<◌, ◌≤◌, ◌^◌, ◌≡◌, refl, Bool, cond, ◌⊎◌, leb, pos, nat_abs, Ok}
 use Rattle.std.proofs.Common.{sym, ◌∙◌, inl, inr, arith}
 use Rattle.std.proofs.Math.Path.{ap, subst}
 use Rattle.std.proofs.Math.Bool.{true, false}
@@ -13,7 +13,6 @@ use Rattle.words.specs.Runs.{words_at, put_words}
 use Rattle.files.specs.Files.{reads, entries_of}
 use Rattle.salvage.specs.Salvage.{kept_starts, kept_entries, skipped_runs, kept_pairs, pair_words, fresh_file, salvage_counts, room_for, salvage_answer, fresh_left, skipped_left, kept_left}
 use Rattle.salvage.proofs.SalvageLaws.{room-each, room-enough, length-kept, fresh_reads, fresh_entries, fresh_front, fresh-beyond, pairs_back, pairs_beyond, length-kept_pairs}
-use Rattle.salvage.specs.declared.Salvaged.TheVariants.{Counts}
 use Rattle.dombrelat.specs.SalvageCall.{SalvageReturned, salvage_call}
 
 -- the lent slices after a salvage that is not refused, which came as `fresh`, `skipped`, `kept` and `counts`
@@ -65,7 +64,7 @@ module _ (damaged fresh skipped kept counts : List ℕ) where
       → salvage_call damaged fresh skipped kept counts
       ≡ record {
         answer = pos 0;
-        fresh = fresh_left (Counts (salvage_counts damaged)) damaged fresh;
+        fresh = fresh_left (Ok (salvage_counts damaged)) damaged fresh;
         skipped = put_words skipped 0 (pair_words (skipped_runs damaged));
         kept = put_words kept 0 (pair_words (kept_pairs 0 (kept_starts damaged)));
         counts = put_words counts 0 (signed (length (skipped_runs damaged)) ∷ signed (length (kept_starts damaged)) ∷ []);
@@ -87,12 +86,12 @@ module _ (damaged fresh skipped kept counts : List ℕ) where
       subst (SalvageFound damaged fresh skipped kept counts) (sym (call_is t.0 t.1))
       (record {
         counted = pairs_back counts both two;
-        file = ap (λ (m : ℕ). take (128 * m) (fresh_left (Counts n) damaged fresh)) (sym l) ∙ fresh_front damaged b n fresh each.0;
+        file = ap (λ (m : ℕ). take (128 * m) (fresh_left (Ok n) damaged fresh)) (sym l) ∙ fresh_front damaged b n fresh each.0;
         readable = fresh_reads damaged b h;
         entries = fresh_entries damaged b;
         runs = pairs_back skipped (skipped_runs damaged) each.1;
         starts = rw p at (pairs_back kept ps (omega (arith, p, each.2)));
-        fresh_beyond = ap (λ (m : ℕ). drop (128 * m) (fresh_left (Counts n) damaged fresh)) (sym l) ∙ fresh-beyond damaged b n fresh each.0 ∙ ap (λ (m : ℕ). drop (128 * m) fresh) l;
+        fresh_beyond = ap (λ (m : ℕ). drop (128 * m) (fresh_left (Ok n) damaged fresh)) (sym l) ∙ fresh-beyond damaged b n fresh each.0 ∙ ap (λ (m : ℕ). drop (128 * m) fresh) l;
         skipped_beyond = pairs_beyond skipped (skipped_runs damaged) each.1;
         kept_beyond = rw p at (pairs_beyond kept ps (omega (arith, p, each.2)));
         counts_beyond = pairs_beyond counts both two;

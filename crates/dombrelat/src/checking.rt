@@ -2,6 +2,7 @@
 ghost use Rattle.std.specs.Prelude.{◌≡◌};
 ghost use Rattle.dombrelat.specs.CheckCalls.{check_call, sheet_call, distance_of, distance_call};
 
+use super::NO_BOOK;
 use distances::CheckDistance;
 
 // Checks corrections x and M against the book.
@@ -10,7 +11,7 @@ pub extern "C" fn dombrelat_check(book: &[u8], x: &[u8], m: &[u8]) -> i64
     ensures { result ≡ check_call book.now x.now m.now }
 {
     if !layout::holds_book(book) {
-        return 25;
+        return NO_BOOK;
     }
     let a = lent_checks::check_lent(book, x, m);
     lent_checks::answer_word(a)
@@ -23,7 +24,7 @@ pub extern "C" fn dombrelat_check_sheet(book: &[u8], x: &[u8], m: &[u8], out: &m
     ensures out_after { out.new ≡ (sheet_call book.now x.now m.now out.old).sheet }
 {
     if !layout::holds_book(book) {
-        return 25;
+        return NO_BOOK;
     }
     let a = lent_checks::check_sheet_lent(book, x, m, out);
     lent_checks::answer_word(a)
@@ -45,7 +46,7 @@ pub extern "C" fn dombrelat_check_distance(
     ensures { result ≡ distance_call book.now x.now m.now (distance_of from to distance instrument target tolerance) }
 {
     if !layout::holds_book(book) {
-        return 25;
+        return NO_BOOK;
     }
     let d = CheckDistance {
         from,

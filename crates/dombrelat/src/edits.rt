@@ -3,17 +3,17 @@ ghost use Rattle.std.specs.Prelude.{◌≡◌, [], ◌∷◌};
 ghost use Rattle.network.specs.Records.{baseline_of, height_of, position_of};
 ghost use Rattle.dombrelat.specs.Calls.{edit_call};
 
-use book::{Call, Change};
+use super::NO_BOOK;
+use book::{Call, Change, call_word};
 
 // The book that the bytes hold, edited: 25 before all others.
 fn edit_bytes(book: &mut [u8], call: Call) -> i64
     ensures { (result ≡ (edit_call book.old call).answer) × (book.new ≡ (edit_call book.old call).bytes) }
 {
     if !layout::holds_book(book) {
-        return 25;
+        return NO_BOOK;
     }
-    let n = lent_edits::apply(book, call);
-    n as i64
+    call_word(lent_edits::apply(book, call))
 }
 
 // Enters a baseline at a place, be it empty or filled; hf and ht are the antenna heights at from and at to.

@@ -2,8 +2,8 @@
 ghost use Rattle.std.specs.Prelude.{◌≡◌, ◌≤◌, length};
 ghost use Rattle.dombrelat.specs.FileCalls.{LengthSmall, written_word, entered_word, write_call, check_file_call, found_in, given_found, found_call, enter_call};
 
-use book_files::{Entered, FileWritten};
-use files::{EntryFound, FileEntry};
+use super::{BAD_PLACE, NO_BOOK, NO_ROOM};
+use files::{EntryFound, FileRefusal};
 
 // The files that an entry in force is in.
 const NIGHT: i64 = 1;
@@ -13,22 +13,22 @@ const DAY: i64 = 2;
 // The bytes of the two words that say where an entry is.
 const FOUND_BYTES: usize = 16;
 
-fn written_word(w: FileWritten) -> i64
+fn written_word(w: Result<usize, FileRefusal>) -> i64
     requires { LengthSmall w }
     ensures { result ≡ written_word w }
 {
     match w {
-        FileWritten::Length(n) => n as i64,
-        FileWritten::Refused(refusal) => files::file_number(refusal) as i64,
+        Ok(n) => n as i64,
+        Err(refusal) => i64::from(refusal),
     }
 }
 
-fn entered_word(e: Entered) -> i64
+fn entered_word(e: Result<(), FileRefusal>) -> i64
     ensures { result ≡ entered_word e }
 {
     match e {
-        Entered::Done => 0,
-        Entered::Refused(refusal) => files::file_number(refusal) as i64,
+        Ok(()) => 0,
+        Err(refusal) => i64::from(refusal),
     }
 }
 
@@ -39,7 +39,7 @@ pub extern "C" fn dombrelat_write_file(book: &[u8], file: &mut [u8]) -> i64
     ensures file_after { file.new ≡ (write_call book.now file.old).bytes }
 {
     if !layout::holds_book(book) {
-        return 25;
+        return NO_BOOK;
     }
     let w = book_files::write_file(book, file);
     written_word(w)
@@ -63,14 +63,14 @@ fn put_found(out: &mut [u8], file: i64, at: usize) -> i64
     0
 }
 
-fn give_found(found: EntryFound, out: &mut [u8]) -> i64
+fn give_found(found: Result<EntryFound, FileRefusal>, out: &mut [u8]) -> i64
     requires { 16 ≤ length out.old }
     ensures { (result ≡ (given_found found out.old).answer) × (out.new ≡ (given_found found out.old).bytes) }
 {
     match found {
-        EntryFound::InNight(at) => put_found(out, NIGHT, at),
-        EntryFound::InDay(at) => put_found(out, DAY, at),
-        EntryFound::Refused(refusal) => files::file_number(refusal) as i64,
+        Ok(EntryFound::InNight(at)) => put_found(out, NIGHT, at),
+        Ok(EntryFound::InDay(at)) => put_found(out, DAY, at),
+        Err(refusal) => i64::from(refusal),
     }
 }
 
@@ -85,11 +85,11 @@ pub extern "C" fn dombrelat_entry_in_force(
     ensures value { result ≡ (found_call night.now day.now place found.old).answer }
     ensures found_after { found.new ≡ (found_call night.now day.now place found.old).bytes }
 {
-    if !words::between(place, 1, FileEntry::PLACES) {
-        return 2;
+    if !files::is_place(place) {
+        return BAD_PLACE;
     }
     if found.len() < FOUND_BYTES {
-        return 10;
+        return NO_ROOM;
     }
     let f = files::find(night, day, place);
     give_found(f, found)
@@ -103,7 +103,7 @@ pub extern "C" fn dombrelat_enter_file(book: &mut [u8], file: &[u8], answers: &m
     ensures answers_after { answers.new ≡ (enter_call book.old file.now answers.old).answers }
 {
     if !layout::holds_book(book) {
-        return 25;
+        return NO_BOOK;
     }
     let e = book_files::enter_file(book, file, answers);
     entered_word(e)

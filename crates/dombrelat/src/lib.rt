@@ -11,3 +11,13 @@ mod opening;
 mod proposing;
 mod reading;
 mod salvaging;
+
+// The refusals that the C calls tell by themselves (docs/REFUSALS.md).
+// Stays: numbers, since they are the words that C is given.
+const BAD_LIST: i64 = 1;
+
+const BAD_PLACE: i64 = 2;
+
+const NO_ROOM: i64 = 10;
+
+const NO_BOOK: i64 = 25;

@@ -2,6 +2,7 @@
 ghost use Rattle.std.specs.Prelude.{◌≡◌, ◌≤◌};
 ghost use Rattle.dombrelat.specs.Reading.{numbered, number_most, gives, unknowns_call, sheet_bytes_call, stations_call, record_call};
 
+use super::{BAD_PLACE, NO_BOOK, NO_ROOM};
 use network::Unit;
 
 // The result of a call that gives a number.
@@ -18,7 +19,7 @@ fn give(number: usize, w: &[i64], out: &mut [u8]) -> i64
     ensures { (result ≡ (gives number w.now out.old).answer) × (out.new ≡ (gives number w.now out.old).bytes) }
 {
     if out.len() / 8 < w.len() {
-        return 10;
+        return NO_ROOM;
     }
     words::write_words(out, 0, w);
     numbered_word(number)
@@ -30,7 +31,7 @@ pub extern "C" fn dombrelat_unknowns(book: &[u8]) -> i64
     ensures { result ≡ unknowns_call book.now }
 {
     if !layout::holds_book(book) {
-        return 25;
+        return NO_BOOK;
     }
     let net = layout::network_in(book);
     let stations = net.stations;
@@ -44,7 +45,7 @@ pub extern "C" fn dombrelat_sheet_bytes(book: &[u8]) -> i64
     ensures { result ≡ sheet_bytes_call book.now }
 {
     if !layout::holds_book(book) {
-        return 25;
+        return NO_BOOK;
     }
     let n = checks::room_in(book);
     numbered_word(8 * n)
@@ -57,7 +58,7 @@ pub extern "C" fn dombrelat_stations(book: &[u8], list: &mut [u8]) -> i64
     ensures list_after { list.new ≡ (stations_call book.now list.old).bytes }
 {
     if !layout::holds_book(book) {
-        return 25;
+        return NO_BOOK;
     }
     let net = layout::network_in(book);
     let n = net.count;
@@ -73,11 +74,11 @@ pub extern "C" fn dombrelat_record(book: &[u8], place: i64, out: &mut [u8]) -> i
     ensures out_after { out.new ≡ (record_call book.now place out.old).bytes }
 {
     if !layout::holds_book(book) {
-        return 25;
+        return NO_BOOK;
     }
     let i = words::index_in(place, Unit::PLACES);
     if i >= Unit::PLACES {
-        return 2;
+        return BAD_PLACE;
     }
     let r = layout::record_in(book, i);
     let w = network::record_words(r);

@@ -4,7 +4,9 @@ ghost use Rattle.words.specs.Signed.{signed};
 ghost use Rattle.words.specs.Runs.{put_words};
 ghost use Rattle.dombrelat.specs.SalvageCall.{salvaged_word, counts_left, salvage_call};
 
-use salvage::{SalvageCounts, Salvaged};
+use super::NO_ROOM;
+use files::FileRefusal;
+use salvage::SalvageCounts;
 
 // The bytes of the two words that count.
 const COUNTS_BYTES: usize = 16;
@@ -18,13 +20,13 @@ fn put_salvage_counts(n: SalvageCounts, counts: &mut [u8]) -> i64
     0
 }
 
-fn give_salvaged(s: Salvaged, counts: &mut [u8]) -> i64
+fn give_salvaged(s: Result<SalvageCounts, FileRefusal>, counts: &mut [u8]) -> i64
     requires { 16 ≤ length counts.old }
     ensures { (result ≡ salvaged_word s) × (counts.new ≡ counts_left s counts.old) }
 {
     match s {
-        Salvaged::Counts(n) => put_salvage_counts(n, counts),
-        Salvaged::Refused(refusal) => files::file_number(refusal) as i64,
+        Ok(n) => put_salvage_counts(n, counts),
+        Err(refusal) => i64::from(refusal),
     }
 }
 
@@ -44,7 +46,7 @@ pub extern "C" fn dombrelat_salvage(
     ensures counts_after { counts.new ≡ (salvage_call damaged.now fresh.old skipped.old kept.old counts.old).counts }
 {
     if counts.len() < COUNTS_BYTES {
-        return 10;
+        return NO_ROOM;
     }
     let s = salvage::salvage(damaged, fresh, skipped, kept);
     give_salvaged(s, counts)

@@ -1,22 +1,10 @@
--- By the case; a refusal's number is small. Assumes nothing.
-use native.Mathlib.Omega.{arith}
-use mathlib.Core.Path.{ap, ◌∙◌}
-use lib.IntN.{pos}
-use mir.Syntax.{w64}
-use mir.Val.{SFits}
-use mir.Facts.{to_z-of_z}
-use Rattle.dombrelat.specs.FileCallLaws.{number_most_lem}
+-- By the case. Assumes nothing.
+use Rattle.std.proofs.Common.{◌∙◌, to_z-of_z, w64}
+use borrow.Author.Rules.{sfits_of}
 use Rattle.dombrelat.proofs.filing.entered_word.Goals as goal
 
-pub overflow_cast-result : goal.overflow_cast-result
-overflow_cast-result c =
-    let small : SFits w64 (pos c.file_number.result) = record { sfits = omega (arith, c.file_number.ensures, number_most_lem c.in-Refused.refusal) } in
-    small
+pub returns-in-Ok : goal.returns-in-Ok
+returns-in-Ok c = rw c.in-Ok.is
 
-pub returns-in-Done : goal.returns-in-Done
-returns-in-Done c = rw c.in-Done.is
-
-pub returns-in-Refused : goal.returns-in-Refused
-returns-in-Refused c =
-    let small : SFits w64 (pos c.file_number.result) = record { sfits = omega (arith, c.file_number.ensures, number_most_lem c.in-Refused.refusal) } in
-    to_z-of_z {w = w64} small ∙ rw c.in-Refused.is (ap pos c.file_number.ensures)
+pub returns-in-Err : goal.returns-in-Err
+returns-in-Err c = to_z-of_z {w = w64} {z = c.from.result} (sfits_of c.from.type_inv) ∙ rw c.in-Err.is c.from.ensures

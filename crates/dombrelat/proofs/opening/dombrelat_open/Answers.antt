@@ -2,7 +2,10 @@
 use Prim.Native.Nat.{ℕ, ◌/◌, ◌-◌, ◌≤◌}
 use native.Mathlib.Nat.{sub-zero}
 use native.Mathlib.Omega.{arith}
-use lib.ListN.{length, take}
+use mathlib.Core.List.{List}
+use lib.IntN.{ℤ, pos}
+use lib.ListN.{length, take, replicate}
+use Rattle.std.proofs.lemmas.List.{length-replicate}
 use lib.Seq.{length-take-le}
 use mathlib.Core.Path.{◌≡◌, refl, ap, ◌∙◌}
 use mir.Syntax.{w64}
@@ -24,9 +27,9 @@ returns-then-list-ne0 c =
     let e = opens_odd c.args.list.now c.args.book.now c.if-book-lt-BOOK_BYTES.false c.if-list-ne0.true in
     record { value = ap (λ (r : Returned). r.answer) e; book_after = ap (λ (r : Returned). r.bytes) e }
 
-pub returns-then-list-gt1024 : goal.returns-then-list-gt1024
-returns-then-list-gt1024 c =
-    let e = opens_many c.args.list.now c.args.book.now c.if-book-lt-BOOK_BYTES.false c.if-list-ne0.false c.if-list-gt1024.true in
+pub returns-then-list-gt-LIST_BYTES : goal.returns-then-list-gt-LIST_BYTES
+returns-then-list-gt-LIST_BYTES c =
+    let e = opens_many c.args.list.now c.args.book.now c.if-book-lt-BOOK_BYTES.false c.if-list-ne0.false c.if-list-gt-LIST_BYTES.true in
     record { value = ap (λ (r : Returned). r.answer) e; book_after = ap (λ (r : Returned). r.bytes) e }
 
 pub returns : goal.returns
@@ -34,8 +37,8 @@ returns c =
     let l = c.args.list.now in
     let b = c.args.book.now in
     let p = c.open_list in
-    let w = c.station_words-w in
-    let room : length l / 8 - 0 ≤ length w.result = omega (arith, w.ensures, c.if-list-gt1024.false) in
-    let n : length (take (length l / 8 - 0) w.result) ≡ length l / 8 = length-take-le (length l / 8 - 0) w.result room ∙ sub-zero (length l / 8) in
+    let w : List ℤ = replicate 128 (pos 0) in
+    let room : length l / 8 - 0 ≤ length w = omega (arith, length-replicate 128 (pos 0), c.if-list-gt-LIST_BYTES.false) in
+    let n : length (take (length l / 8 - 0) w) ≡ length l / 8 = length-take-le (length l / 8 - 0) w room ∙ sub-zero (length l / 8) in
     let e = ap (λ (c : ℕ). answered_with b (opening (words_at l 0 c))) n ∙ opens_done l b c.if-book-lt-BOOK_BYTES.false c.if-list-ne0.false _ refl in
     record { value = to_z-of_z {w = w64} {z = p.result} (sfits_of p.type_inv) ∙ p.ensures.0 ∙ ap (λ (r : Returned). r.answer) e; book_after = p.ensures.1 ∙ ap (λ (r : Returned). r.bytes) e }

@@ -21,5 +21,5 @@ propose_lent-requires c =
 pub returns : goal.returns
 returns c =
     let fit : bytes_fit c.args.book.now ≡ true = sym c.holds_book.ensures ∙ c.if-not-holds_book.false in
-    let p = c.propose_lent in
-    proposed _ p.result _ _ _ _ _ fit (to_z-of_z {w = w64} {z = p.result} (sfits_of p.type_inv)) p.ensures
+    let w = c.proposal_word in
+    proposed _ w.result _ _ _ _ _ fit (to_z-of_z {w = w64} {z = w.result} (sfits_of w.type_inv)) (rw w.ensures c.propose_lent.ensures)
