@@ -1,15 +1,14 @@
 -- The flat numbers of a list of stations: one station more, and why none of a list that is too long need be read. Assumes nothing.
-use Rattle.std.specs.Prelude.{ℕ, suc, ◌+◌, ◌*◌, ◌/◌, ◌%◌, ◌<◌, ◌≤◌, ◌≡◌, refl, true, false, List, [], ◌∷◌, ◌++◌, length, take, drop, get_or, set, ℤ}
-use Rattle.std.proofs.Common.{◌∙◌, subst, add-one, arith, le-leb, eq-eqb, length-append, take-suc, take_at, length-take-le}
+use Rattle.std.specs.Prelude.{ℕ, ◌+◌, ◌*◌, ◌/◌, ◌%◌, ◌<◌, ◌≤◌, ◌≡◌, refl, true, false, List, [], ◌++◌, length, take, get_or, ℤ}
+use Rattle.std.proofs.Common.{◌∙◌, add-one, arith, le-leb, eq-eqb, take-suc}
 use Rattle.std.proofs.Math.Decide.{dec_le}
 use Rattle.std.proofs.lemmas.Bool.{lt-leb}
 use Rattle.std.proofs.Math.Seq.{take-length}
-use Rattle.std.proofs.lemmas.List.Edits.{sets-eq}
 use Rattle.network.specs.Units.{most_stations}
 use Rattle.network.specs.Stations.{blank_station, whole_stations, count_fits, opens}
 use Rattle.network.specs.declared.Station.{Station}
 use Rattle.book.specs.Book.{opening, sound}
-use Rattle.book.specs.declared.Edited.{Edited}
+use Rattle.book.specs.Outcome.{Outcome}
 use Rattle.network.specs.StationWords.{station_words, flat, flat-length, flat-one}
 use Rattle.stations.specs.Flat.{read_count}
 
@@ -21,17 +20,6 @@ flat-more ys i h = rw (add-one, take-suc ys i blank_station, flat-one)
 pub flat_step : (ys : List Station) (i : ℕ) (w next : List ℤ) (s : Station) → i < length ys → s ≡ get_or ys i blank_station → take (i * 4) w ≡ flat (take i ys)
     → take ((i + 1) * 4) next ≡ take (i * 4) w ++ station_words s → take ((i + 1) * 4) next ≡ flat (take (i + 1) ys)
 flat_step ys i w next s h e held put = put ∙ rw (held, e, flat-more ys i h)
-
--- ════ four numbers put one after the other: a, b, c, d, which the code has as p, q, r, s
-pub put_flat : (w : List ℤ) (at n : ℕ) {a b c d p q r s : ℤ} → n ≡ at + 4 → at + 4 ≤ length w → p ≡ a → q ≡ b → r ≡ c → s ≡ d
-    → take n (set (set (set (set w at p) (at + 1) q) (at + 2) r) (at + 3) s) ≡ take at w ++ (a ∷ b ∷ c ∷ d ∷ [])
-put_flat w at n {a} {b} {c} {d} e h ea eb ec ed =
-    let four : List ℤ = a ∷ b ∷ c ∷ d ∷ [] in
-    let e1 : at + 1 ≡ suc at = omega arith in
-    let e2 : at + 2 ≡ suc (suc at) = omega arith in
-    let e3 : at + 3 ≡ suc (suc (suc at)) = omega arith in
-    let long : length (take at w ++ four) ≡ at + 4 = simp (length-append, length-take-le at w (omega arith)) in
-    rw (e, ea, eb, ec, ed, e1, e2, e3, sets-eq four w at h) (take_at (take at w ++ four) (drop (at + 4) w) (at + 4) long)
 
 -- ════ how many are read
 pub read_fits : (n : ℕ) → n ≤ most_stations → read_count n ≡ n
@@ -80,16 +68,16 @@ no_stations : opens [] ≡ false
 unfolding opens whole_stations
 no_stations = refl
 
--- what `Book::open` says of its answer
-abbrev pub Opened : List ℤ → Edited → Type 0
+pub read_alike : (ys : List Station) → (opening (flat (take (read_count (length ys)) ys)) ≡ opening (flat ys)) × (opens (flat (take (read_count (length ys)) ys)) ≡ opens (flat ys))
+read_alike ys = by_test (dec_le (length ys) most_stations)
+  where
+    by_test : Dec (length ys ≤ most_stations) → (opening (flat (take (read_count (length ys)) ys)) ≡ opening (flat ys)) × (opens (flat (take (read_count (length ys)) ys)) ≡ opens (flat ys))
+    by_test (yes p) = (rw (read_all ys p), rw (read_all ys p))
+    by_test (no p) = let h : most_stations < length ys = omega arith in (rw (read_none ys h, no_stations, too_long ys h), rw (read_none ys h, no_stations, too_long ys h))
+
+-- what an opening's outcome says
+abbrev pub Opened : List ℤ → Outcome → Type 0
 Opened list e = (e ≡ opening list) × (opens list ≡ true → sound e.book ≡ true)
 
-pub read_opened : (ys : List Station) (e : Edited) → Opened (flat (take (read_count (length ys)) ys)) e → Opened (flat ys) e
-read_opened ys e o = by_test (dec_le (length ys) most_stations)
-  where
-    by_test : Dec (length ys ≤ most_stations) → Opened (flat ys) e
-    by_test (yes p) = subst (λ (zs : List Station). Opened (flat zs) e) (read_all ys p) o
-    by_test (no p) =
-        let h : most_stations < length ys = omega arith in
-        let n : Opened [] e = subst (λ (l : List ℤ). Opened l e) (read_none ys h) o in
-        (n.0 ∙ rw (no_stations, too_long ys h), λ t. cc (too_long ys h))
+pub read_opened : (ys : List Station) (e : Outcome) → Opened (flat (take (read_count (length ys)) ys)) e → Opened (flat ys) e
+read_opened ys e o = (o.0 ∙ (read_alike ys).0, λ t. o.1 ((read_alike ys).1 ∙ t))

@@ -4,43 +4,32 @@
 
 mod numbers;
 
-ghost use Rattle.std.specs.Prelude.{◌≡◌, true, ◌*◌, ◌<◌, length, get_or, take};
-ghost use Rattle.network.specs.Stations.{blank_station, opens};
+ghost use Rattle.std.specs.Prelude.{◌≡◌, true, ◌*◌, length, take, IfOk};
 ghost use Rattle.book.specs.Book.{opening, sound};
+ghost use Rattle.book.specs.Outcomes.{opened_as};
 ghost use Rattle.network.specs.StationWords.{flat};
 ghost use Rattle.stations.specs.Flat.{read_count};
 
-use book::Edited;
+use book::{Book, Refusal};
 use network::Station;
-use numbers::{open_words, put, read_count, zeros};
-
-// The station at i, counted from 0.
-fn station_at(list: &[Station], i: usize) -> Station
-    requires { i < length list.now }
-    ensures { result ≡ get_or list.now i blank_station }
-{
-    list[i]
-}
+use numbers::{NUMBERS, open_words, put, read_count};
 
 // The flat numbers of the stations that are read stand first; the rest is free.
-fn flat_words(list: &[Station]) -> [i64; 128]
+fn flat_words(list: &[Station]) -> [i64; NUMBERS]
     ensures { take (read_count (length list.now) * 4) result ≡ flat (take (read_count (length list.now)) list.now) }
 {
     let n = read_count(list.len());
-    let mut out = zeros();
-    let mut i: usize = 0;
-    while i < n {
-        let s = station_at(list, i);
-        let next = put(out, i, s);
-        out = next;
-        i += 1;
+    let mut out = [0; NUMBERS];
+    for i in 0..n {
+        put(&mut out, i, list[i]);
     }
     out
 }
 
 // A book on a lent list of stations: what `Book::open` gives on the list's flat numbers.
-pub fn open_stations(list: &[Station]) -> Edited
-    ensures { (result ≡ opening (flat list.now)) × (opens (flat list.now) ≡ true → sound result.book ≡ true) }
+pub fn open_stations(list: &[Station]) -> Result<Book, Refusal>
+    ensures opened { opened_as result ≡ opening (flat list.now) }
+    ensures sound { IfOk result (λ b. sound b ≡ true) }
 {
     let w = flat_words(list);
     open_words(list.len(), w)

@@ -1,12 +1,12 @@
 // A station's four numbers, and the opening on the numbers that stand first in an array.
-ghost use Rattle.std.specs.Prelude.{◌≡◌, true, ◌++◌, ◌+◌, ◌*◌, ◌<◌, pos, take, replicate};
+ghost use Rattle.std.specs.Prelude.{◌≡◌, true, ◌++◌, ◌+◌, ◌*◌, ◌<◌, take, IfOk};
 ghost use Rattle.network.specs.Units.{most_stations};
-ghost use Rattle.network.specs.Stations.{opens};
 ghost use Rattle.book.specs.Book.{opening, sound};
+ghost use Rattle.book.specs.Outcomes.{opened_as};
 ghost use Rattle.network.specs.StationWords.{station_words};
 ghost use Rattle.stations.specs.Flat.{read_count};
 
-use book::{Book, Edited};
+use book::{Book, Refusal};
 use network::{Station, Unit};
 
 // How many stations of n are read: none where they are more than a list may have, since no such list opens.
@@ -16,36 +16,23 @@ pub(crate) fn read_count(n: usize) -> usize
     if n <= Unit::STATIONS { n } else { 0 }
 }
 
-// Room for the numbers of a full list.
-pub(crate) fn zeros() -> [i64; 128]
-    ensures { result ≡ replicate 128 (pos 0) }
-{
-    [0; 128]
-}
+// The numbers of a full list, four a station.
+pub(crate) const NUMBERS: usize = 4 * Unit::STATIONS;
 
 // The station's four numbers after those of the i stations before it; what stands beyond them is free.
-pub(crate) fn put(out: [i64; 128], i: usize, s: Station) -> [i64; 128]
+pub(crate) fn put(out: &mut [i64; NUMBERS], i: usize, s: Station)
     requires { i < most_stations }
-    ensures { take ((i + 1) * 4) result ≡ take (i * 4) out ++ station_words s }
+    ensures { take ((i + 1) * 4) out.new ≡ take (i * 4) out.old ++ station_words s }
 {
-    let mut w = out;
-    let at = i * 4;
-    let kind = s.kind;
-    let k = network::kind_word(kind);
-    let e = s.east;
-    let n = s.north;
-    let u = s.up;
-    w[at] = k;
-    w[at + 1] = e;
-    w[at + 2] = n;
-    w[at + 3] = u;
-    w
+    let words = network::station_words(s);
+    out[i * 4..i * 4 + 4].copy_from_slice(&words);
 }
 
 // The opening on the first numbers of w: those of n stations, or none.
-pub(crate) fn open_words(n: usize, w: [i64; 128]) -> Edited
-    ensures { (result ≡ opening (take (read_count n * 4) w)) × (opens (take (read_count n * 4) w) ≡ true → sound result.book ≡ true) }
+pub(crate) fn open_words(n: usize, w: [i64; NUMBERS]) -> Result<Book, Refusal>
+    ensures opened { opened_as result ≡ opening (take (read_count n * 4) w) }
+    ensures sound { IfOk result (λ b. sound b ≡ true) }
 {
     let m = read_count(n) * 4;
-    Book::open(&w[0..m])
+    Book::open(&w[..m])
 }

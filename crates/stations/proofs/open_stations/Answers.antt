@@ -1,11 +1,8 @@
--- What is read of a list that is too long is nothing, and of any other all (`read_opened`). Assumes nothing.
-use Rattle.std.proofs.Common.{subst}
-use mathlib.Core.List.{List}
-use lib.IntN.{ℤ}
-use Rattle.stations.specs.FlatLaws.{Opened, read_opened}
+-- What is read of a list that is too long is nothing, and of any other all (`read_alike`). Assumes nothing.
+use Rattle.std.proofs.Common.{◌∙◌, ap}
+use Rattle.book.specs.Book.{opening}
+use Rattle.stations.specs.FlatLaws.{read_alike}
 use Rattle.stations.proofs.open_stations.Goals as goal
 
 pub returns : goal.returns
-returns c =
-    read_opened c.args.list.now c.open_words.result
-    (subst (λ (l : List ℤ). Opened l c.open_words.result) c.flat_words-w.ensures c.open_words.ensures)
+returns c = record { opened = c.open_words.ensures.opened ∙ ap opening c.flat_words-w.ensures ∙ (read_alike c.args.list.now).0; sound = c.open_words.ensures.sound }
