@@ -1,5 +1,5 @@
 -- What a line brings: corrections, a matrix, or neither; and that just these are stored. Assumes nothing.
-use Rattle.std.specs.Prelude.{ℕ, ◌≤◌, ◌≡◌, Bool, cond, eqb, leb}
+use Rattle.std.specs.Prelude.{ℕ, ◌≤◌, ◌≡◌, Bool, cond, Option, Some, None, eqb, leb}
 use Rattle.std.proofs.Math.Path.{refl}
 use Rattle.std.proofs.Math.Bool.{true, false}
 use mathlib.Core.List.{List, [], ◌∷◌}
@@ -11,7 +11,6 @@ use Rattle.text.specs.Numbers.{number_in}
 use Rattle.text.specs.Fields.{rest_fields, letter_of, FieldNumbers, numbers, unreadable, numbers_in, at_most, stored_in}
 use Rattle.text.specs.Lines.{KeptLine}
 use Rattle.commands.specs.declared.Entry.{Entry}
-use Rattle.commands.specs.declared.Entry.TheVariants as entry
 use Rattle.commands.specs.declared.Command.{Command}
 use Rattle.commands.specs.declared.Command.TheVariants.{Station, Call, Corrections, Matrix, Unreadable}
 use Rattle.commands.specs.Commands.{most_corrections, most_entries, letter_K, letter_F, letter_V, letter_S, letter_R, letter_D, letter_U, letter_X, letter_M, exactly, entry_of, entered, after_r, strike_of, undo_of, counted_as, corrections_in, matrix_in, station_of_kind, numbered_in_turn, station_of, other_of, fields_command, letter_in, kept_command, corrections_after, matrix_after, Obeys}
@@ -54,10 +53,10 @@ module _ (part : SolutionPart) where
   cond-brings-none true a b p q = p
   cond-brings-none false a b p q = q
 
-  entered-brings-none : (e : Entry) → brings (entered e) part ≡ false
+  entered-brings-none : (e : Option Entry) → brings (entered e) part ≡ false
   unfolding entered brings
-  entered-brings-none (entry.Of p r) = refl
-  entered-brings-none entry.Unreadable = refl
+  entered-brings-none (Some e) = refl
+  entered-brings-none None = refl
 
   after-brings-none : (fs : List (List ℕ)) → brings (after_r fs) part ≡ false
   unfolding after_r brings

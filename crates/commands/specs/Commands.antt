@@ -1,5 +1,5 @@
 -- A line to a command, in the words of document 01's "The night print". Assumes nothing.
-use Rattle.std.specs.Prelude.{◌≡◌, ℕ, suc, ◌*◌, Bool, cond, false, List, [], ◌∷◌, ltb, eqb, length, get_or, ℤ, pos}
+use Rattle.std.specs.Prelude.{◌≡◌, ℕ, suc, ◌*◌, Bool, cond, false, List, [], ◌∷◌, ltb, eqb, Option, Some, None, length, get_or, ℤ, pos}
 use Rattle.words.specs.Signed.{eq_z}
 use Rattle.network.specs.Records.{baseline_of, height_of, position_of}
 use Rattle.network.specs.declared.Kind.{Kind}
@@ -9,10 +9,7 @@ use Rattle.book.specs.declared.Call.TheVariants.{Edit, Undo}
 use Rattle.text.specs.Numbers.{number_in}
 use Rattle.text.specs.Fields.{first_field, rest_fields, letter_of, FieldNumbers, numbers, unreadable, numbers_in, at_most, stored_in}
 use Rattle.text.specs.Lines.{KeptLine}
-use Rattle.text.specs.declared.Number.{Number}
-use Rattle.text.specs.declared.Number.TheVariants as number
 use Rattle.commands.specs.declared.Entry.{Entry}
-use Rattle.commands.specs.declared.Entry.TheVariants as entry
 use Rattle.commands.specs.declared.Command.{Command}
 use Rattle.commands.specs.declared.Command.TheVariants.{Station, Call, Corrections, Matrix, Unreadable}
 
@@ -63,40 +60,45 @@ unfoldable pub exactly : {A : Type 0} → ℕ → A → ((ℕ → ℤ) → A) �
 exactly k other f unreadable = other
 exactly k other f (numbers vs) = cond (eqb (length vs) k) (f (λ i. get_or vs i (pos 0))) other
 
+-- the same of just k numbers, as they stand
+unfoldable pub just : ℕ → FieldNumbers → Option (List ℤ)
+just k unreadable = None
+just k (numbers vs) = cond (eqb (length vs) k) (Some vs) None
+
 -- ════ H, B and P
 -- "H: place, from, to, difference, weight"
-abbrev pub level_entry : (ℕ → ℤ) → Entry
-level_entry v = entry.Of (v 0) (height_of (v 1) (v 2) (v 3) (v 4))
+abbrev pub level_entry : (ℕ → ℤ) → Option Entry
+level_entry v = Some (record { place = v 0; of = height_of (v 1) (v 2) (v 3) (v 4) })
 
 -- "B: place, from, to, three differences, weights EE EN EU NN NU UU", with antenna heights
-abbrev pub baseline_entry : List ℤ → (ℕ → ℤ) → Entry
-baseline_entry heights v = entry.Of (v 0) (baseline_of (v 1) (v 2) (v 3 ∷ v 4 ∷ v 5 ∷ []) (v 6 ∷ v 7 ∷ v 8 ∷ v 9 ∷ v 10 ∷ v 11 ∷ []) heights)
+abbrev pub baseline_entry : List ℤ → (ℕ → ℤ) → Option Entry
+baseline_entry heights v = Some (record { place = v 0; of = baseline_of (v 1) (v 2) (v 3 ∷ v 4 ∷ v 5 ∷ []) (v 6 ∷ v 7 ∷ v 8 ∷ v 9 ∷ v 10 ∷ v 11 ∷ []) heights })
 
 -- document 02, request 4: "The heights end a B line, from first; lines without them mean zero". So a B line has 12 numbers or 14
-abbrev pub without_heights : (ℕ → ℤ) → Entry
+abbrev pub without_heights : (ℕ → ℤ) → Option Entry
 without_heights = baseline_entry (pos 0 ∷ pos 0 ∷ [])
 
-abbrev pub with_heights : (ℕ → ℤ) → Entry
+abbrev pub with_heights : (ℕ → ℤ) → Option Entry
 with_heights v = baseline_entry (v 12 ∷ v 13 ∷ []) v
 
-abbrev pub baseline_line : FieldNumbers → Entry
-baseline_line ns = exactly 12 (exactly 14 entry.Unreadable with_heights ns) without_heights ns
+abbrev pub baseline_line : FieldNumbers → Option Entry
+baseline_line ns = exactly 12 (exactly 14 None with_heights ns) without_heights ns
 
 -- document 02, request 5: "Its line is P …: place, station, coordinates, weights"
-abbrev pub position_entry : (ℕ → ℤ) → Entry
-position_entry v = entry.Of (v 0) (position_of (v 1) (v 2 ∷ v 3 ∷ v 4 ∷ []) (v 5 ∷ v 6 ∷ v 7 ∷ v 8 ∷ v 9 ∷ v 10 ∷ []))
+abbrev pub position_entry : (ℕ → ℤ) → Option Entry
+position_entry v = Some (record { place = v 0; of = position_of (v 1) (v 2 ∷ v 3 ∷ v 4 ∷ []) (v 5 ∷ v 6 ∷ v 7 ∷ v 8 ∷ v 9 ∷ v 10 ∷ []) })
 
 -- the fields after the letter
-unfoldable pub entry_of : ℕ → List (List ℕ) → Entry
+unfoldable pub entry_of : ℕ → List (List ℕ) → Option Entry
 entry_of letter fields =
-    cond (eqb letter letter_H) (exactly 5 entry.Unreadable level_entry (numbers_in fields))
+    cond (eqb letter letter_H) (exactly 5 None level_entry (numbers_in fields))
     (cond (eqb letter letter_B) (baseline_line (numbers_in fields))
-    (cond (eqb letter letter_P) (exactly 11 entry.Unreadable position_entry (numbers_in fields)) entry.Unreadable))
+    (cond (eqb letter letter_P) (exactly 11 None position_entry (numbers_in fields)) None))
 
 -- H, B or P enters (document 02, request 3: "One "enter" fills or overwrites")
-unfoldable pub entered : Entry → Command
-entered (entry.Of place r) = Call (Edit place (Enter r))
-entered entry.Unreadable = Unreadable
+unfoldable pub entered : Option Entry → Command
+entered (Some e) = Call (Edit e.place (Enter e.of))
+entered None = Unreadable
 
 -- "A line's R then changes nothing", and P is "with or without R before it": the fields after an R are an H, B or P and what comes with it, and enter too
 unfoldable pub after_r : List (List ℕ) → Command
@@ -143,9 +145,9 @@ station_of_kind letter ns =
     (cond (eqb letter letter_V) (exactly 3 Unreadable (station_with kind.Height) ns) Unreadable))
 
 -- "not numbered in turn from 1": the number is one more than there were S lines read
-unfoldable pub numbered_in_turn : ℕ → Number → Bool
-numbered_in_turn read number.Unreadable = false
-numbered_in_turn read (number.Value v) = eq_z v (pos (suc read))
+unfoldable pub numbered_in_turn : ℕ → Option ℤ → Bool
+numbered_in_turn read None = false
+numbered_in_turn read (Some v) = eq_z v (pos (suc read))
 
 unfoldable pub station_of : ℕ → List (List ℕ) → Command
 station_of read [] = Unreadable

@@ -21,12 +21,13 @@ pub enum Command {
     Corrections(usize),
     // M: so many entries of the matrix, by rows
     Matrix(usize),
+    // Stays: a line that can't be read is a kind of line, with a message of its own, and the theorems of `command_of` name it.
     Unreadable,
 }
 
 // What the fields of an H, B or P line say: a place, and the record for it.
 #[derive(Clone, Copy)]
-enum Entry {
-    Of(i64, Record),
-    Unreadable,
+struct Entry {
+    place: i64,
+    of: Record,
 }

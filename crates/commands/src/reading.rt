@@ -1,265 +1,205 @@
 // A line to a command.
-ghost use Rattle.std.specs.Prelude.{◌≡◌, suc, ◌≤◌, pos, length, drop, get_or};
+ghost use Rattle.std.specs.Prelude.{◌≡◌, false, suc, ◌≤◌, pos, length, drop};
+ghost use Rattle.std.specs.Option.{unwrap_or};
 ghost use Rattle.words.specs.Signed.{eq_z};
 ghost use Rattle.text.specs.Fields.{first_field, rest_fields, letter_of, numbers_in, stored_in};
-ghost use Rattle.commands.specs.Commands.{most_corrections, most_entries, exactly, level_entry, with_heights, baseline_line, position_entry, entry_of, entered, after_r, strike_of, undo_of};
-ghost use Rattle.commands.specs.Commands.{counted_as, corrections_in, matrix_in, station_with, station_of_kind, station_of, other_of, letter_in, is_station_line, Obeys};
-ghost use Rattle.commands.specs.declared.Entry.TheVariants as entry;
+ghost use Rattle.commands.specs.Commands.{most_corrections, most_entries, exactly, just, level_entry, baseline_line, position_entry, entry_of, entered, after_r, strike_of, undo_of};
+ghost use Rattle.commands.specs.Commands.{counted_as, corrections_in, matrix_in, station_with, station_of_kind, station_of, is_station_line, Obeys};
 ghost use Rattle.commands.specs.declared.Command.TheVariants as command;
 
 use super::{Command, Entry};
 use book::{Call, Change};
 use network::{Kind, Station, Unit};
-use text::{Count, Number};
 
 // Entries of the matrix of a book with 48 unknowns.
 const MATRIX_ENTRIES: usize = Unit::UNKNOWNS * Unit::UNKNOWNS;
 
+// The numbers that the fields after the one at `from` are, where there are just N.
+fn numbers<const N: usize>(line: &[u8], from: usize) -> Option<[i64; N]>
+    ensures { result ≡ just N (numbers_in (rest_fields (drop from line.now))) }
+{
+    let mut a = [0i64; N];
+    let n = text::read_rest(line, from, N, &mut a)?;
+    if n == N { Some(a) } else { None }
+}
+
 // The fields after the letter at `from`: place, from, to, difference, weight.
-fn level_entry(line: &[u8], from: usize) -> Entry
-    ensures { result ≡ exactly 5 entry.Unreadable level_entry (numbers_in (rest_fields (drop from line.now))) }
+fn level_entry(line: &[u8], from: usize) -> Option<Entry>
+    ensures { result ≡ exactly 5 None level_entry (numbers_in (rest_fields (drop from line.now))) }
 {
-    let mut a = [0i64; 5];
-    match text::read_rest(line, from, 5, &mut a) {
-        Count::Unreadable => Entry::Unreadable,
-        Count::Numbers(n) => {
-            if n != 5 {
-                return Entry::Unreadable;
-            }
-            let of = network::height_of(a[1], a[2], a[3], a[4]);
-            Entry::Of(a[0], of)
-        }
-    }
+    let [place, start, end, difference, weight] = numbers::<5>(line, from)?;
+    let of = network::height_of(start, end, difference, weight);
+    Some(Entry { place, of })
 }
 
-// The place and the baseline of these numbers; of a line without heights they are the 0 that the array had.
-fn with_heights(a: &[i64; 14]) -> Entry
-    ensures { result ≡ with_heights (λ i. get_or a.now i (pos 0)) }
-{
-    let of = network::baseline_in(a, 0);
-    Entry::Of(a[0], of)
-}
-
-// The fields after the letter at `from`: place, from, to, three differences, six weights, then two antenna heights or none.
-fn baseline_line(line: &[u8], from: usize) -> Entry
+// The fields after the letter at `from`: place, from, to, three differences, six weights, then two antenna heights or none. Of a line
+// without heights they are the 0 that the array had.
+// Stays: 12 numbers or 14 are right here, so one array of 14 is read and its count looked at; `numbers` twice would read the line twice.
+fn baseline_line(line: &[u8], from: usize) -> Option<Entry>
     ensures { result ≡ baseline_line (numbers_in (rest_fields (drop from line.now))) }
 {
     let mut a = [0i64; 14];
-    match text::read_rest(line, from, 14, &mut a) {
-        Count::Unreadable => Entry::Unreadable,
-        Count::Numbers(n) => {
-            if n == 12 {
-                return with_heights(&a);
-            }
-            if n == 14 {
-                return with_heights(&a);
-            }
-            Entry::Unreadable
-        }
+    let n = text::read_rest(line, from, 14, &mut a)?;
+    if n != 12 && n != 14 {
+        return None;
     }
-}
-
-// The place and the position of these numbers.
-fn position_entry(a: &[i64; 11]) -> Entry
-    ensures { result ≡ position_entry (λ i. get_or a.now i (pos 0)) }
-{
-    let of = network::position_of(
-        a[1],
-        [a[2], a[3], a[4]],
-        [a[5], a[6], a[7], a[8], a[9], a[10]],
-    );
-    Entry::Of(a[0], of)
+    let of = network::baseline_in(&a, 0);
+    Some(Entry { place: a[0], of })
 }
 
 // The fields after the letter at `from`: place, station, three coordinates, six weights.
-fn position_line(line: &[u8], from: usize) -> Entry
-    ensures { result ≡ exactly 11 entry.Unreadable position_entry (numbers_in (rest_fields (drop from line.now))) }
+fn position_line(line: &[u8], from: usize) -> Option<Entry>
+    ensures { result ≡ exactly 11 None position_entry (numbers_in (rest_fields (drop from line.now))) }
 {
-    let mut a = [0i64; 11];
-    match text::read_rest(line, from, 11, &mut a) {
-        Count::Unreadable => Entry::Unreadable,
-        Count::Numbers(n) => {
-            if n != 11 {
-                return Entry::Unreadable;
-            }
-            position_entry(&a)
-        }
-    }
+    let [place, station, east, north, up, ee, en, eu, nn, nu, uu] = numbers::<11>(line, from)?;
+    let of = network::position_of(station, [east, north, up], [ee, en, eu, nn, nu, uu]);
+    Some(Entry { place, of })
 }
 
 // The field at `from` is the letter of a record; what it says with the fields after it.
-fn entry_at(line: &[u8], from: usize) -> Entry
+fn entry_at(line: &[u8], from: usize) -> Option<Entry>
     ensures { result ≡ entry_of (letter_of (first_field (drop from line.now))) (rest_fields (drop from line.now)) }
 {
-    let letter = text::letter_at(line, from);
-    if letter == b'H' {
-        return level_entry(line, from);
+    match text::letter_at(line, from)? {
+        b'H' => level_entry(line, from),
+        b'B' => baseline_line(line, from),
+        b'P' => position_line(line, from),
+        _ => None,
     }
-    if letter == b'B' {
-        return baseline_line(line, from);
-    }
-    if letter == b'P' {
-        return position_line(line, from);
-    }
-    Entry::Unreadable
 }
 
-fn enter(e: Entry) -> Command
-    ensures { result ≡ entered e }
+// The field at `from` is the letter of a record, which is entered.
+fn record_line(line: &[u8], from: usize) -> Option<Command>
+    ensures { unwrap_or result command.Unreadable ≡ entered (entry_of (letter_of (first_field (drop from line.now))) (rest_fields (drop from line.now))) }
 {
-    match e {
-        Entry::Of(place, of) => Command::Call(Call::Edit(place, Change::Enter(of))),
-        Entry::Unreadable => Command::Unreadable,
-    }
+    let Entry { place, of } = entry_at(line, from)?;
+    Some(Command::Call(Call::Edit(place, Change::Enter(of))))
 }
 
 // A line whose first field is R: the record that the fields after it give, as if they stood alone.
-fn after_r(line: &[u8]) -> Command
-    ensures { result ≡ after_r (rest_fields line.now) }
+fn after_r(line: &[u8]) -> Option<Command>
+    ensures { unwrap_or result command.Unreadable ≡ after_r (rest_fields line.now) }
 {
     let end = text::field_end(line, 0);
     if line.len() <= end {
-        return Command::Unreadable;
+        return None;
     }
-    enter(entry_at(line, end + 1))
+    record_line(line, end + 1)
 }
 
-fn strike_line(line: &[u8]) -> Command
-    ensures { result ≡ exactly 1 command.Unreadable strike_of (numbers_in (rest_fields line.now)) }
+fn strike_line(line: &[u8]) -> Option<Command>
+    ensures { unwrap_or result command.Unreadable ≡ exactly 1 command.Unreadable strike_of (numbers_in (rest_fields line.now)) }
 {
-    let mut a = [0i64; 1];
-    match text::read_rest(line, 0, 1, &mut a) {
-        Count::Unreadable => Command::Unreadable,
-        Count::Numbers(n) => {
-            if n != 1 {
-                return Command::Unreadable;
-            }
-            Command::Call(Call::Edit(a[0], Change::Strike))
-        }
-    }
+    let [place] = numbers::<1>(line, 0)?;
+    Some(Command::Call(Call::Edit(place, Change::Strike)))
 }
 
-fn undo_line(line: &[u8]) -> Command
-    ensures { result ≡ undo_of (rest_fields line.now) }
+fn undo_line(line: &[u8]) -> Option<Command>
+    ensures { unwrap_or result command.Unreadable ≡ undo_of (rest_fields line.now) }
 {
     let end = text::field_end(line, 0);
     if line.len() <= end {
-        return Command::Call(Call::Undo);
+        Some(Command::Call(Call::Undo))
+    } else {
+        None
     }
-    Command::Unreadable
 }
 
-fn corrections_line(line: &[u8], x: &mut [i64]) -> Command
+// Stays: `matrix_line` is its twin, but of two lines each; one function for both would take the limit and the variant, and be no plainer.
+fn corrections_line(line: &[u8], x: &mut [i64]) -> Option<Command>
     requires { most_corrections ≤ length x.old }
-    ensures { (result ≡ counted_as command.Corrections (corrections_in (rest_fields line.now))) × (x.new ≡ stored_in x.old (corrections_in (rest_fields line.now))) }
+    ensures { (unwrap_or result command.Unreadable ≡ counted_as command.Corrections (corrections_in (rest_fields line.now))) × (x.new ≡ stored_in x.old (corrections_in (rest_fields line.now))) }
 {
-    match text::read_rest(line, 0, Unit::UNKNOWNS, x) {
-        Count::Unreadable => Command::Unreadable,
-        Count::Numbers(n) => Command::Corrections(n),
-    }
+    let n = text::read_rest(line, 0, Unit::UNKNOWNS, x)?;
+    Some(Command::Corrections(n))
 }
 
-fn matrix_line(line: &[u8], m: &mut [i64]) -> Command
+fn matrix_line(line: &[u8], m: &mut [i64]) -> Option<Command>
     requires { most_entries ≤ length m.old }
-    ensures { (result ≡ counted_as command.Matrix (matrix_in (rest_fields line.now))) × (m.new ≡ stored_in m.old (matrix_in (rest_fields line.now))) }
+    ensures { (unwrap_or result command.Unreadable ≡ counted_as command.Matrix (matrix_in (rest_fields line.now))) × (m.new ≡ stored_in m.old (matrix_in (rest_fields line.now))) }
 {
-    match text::read_rest(line, 0, MATRIX_ENTRIES, m) {
-        Count::Unreadable => Command::Unreadable,
-        Count::Numbers(n) => Command::Matrix(n),
-    }
+    let n = text::read_rest(line, 0, MATRIX_ENTRIES, m)?;
+    Some(Command::Matrix(n))
 }
 
 // A station of a kind, with the three coordinates in the fields after the one at `from`.
-fn station_with(line: &[u8], from: usize, kind: Kind) -> Command
-    ensures { result ≡ exactly 3 command.Unreadable (station_with kind) (numbers_in (rest_fields (drop from line.now))) }
+fn station_with(line: &[u8], from: usize, kind: Kind) -> Option<Command>
+    ensures { unwrap_or result command.Unreadable ≡ exactly 3 command.Unreadable (station_with kind) (numbers_in (rest_fields (drop from line.now))) }
 {
-    let mut a = [0i64; 3];
-    match text::read_rest(line, from, 3, &mut a) {
-        Count::Unreadable => Command::Unreadable,
-        Count::Numbers(n) => {
-            if n != 3 {
-                return Command::Unreadable;
-            }
-            let station = Station {
-                kind,
-                east: a[0],
-                north: a[1],
-                up: a[2],
-            };
-            Command::Station(station)
-        }
-    }
+    let [east, north, up] = numbers::<3>(line, from)?;
+    Some(Command::Station(Station {
+        kind,
+        east,
+        north,
+        up,
+    }))
 }
 
 // The field at `from` is the letter of a kind.
-fn kind_at(line: &[u8], from: usize) -> Command
-    ensures { result ≡ station_of_kind (letter_of (first_field (drop from line.now))) (numbers_in (rest_fields (drop from line.now))) }
+fn kind_at(line: &[u8], from: usize) -> Option<Command>
+    ensures { unwrap_or result command.Unreadable ≡ station_of_kind (letter_of (first_field (drop from line.now))) (numbers_in (rest_fields (drop from line.now))) }
 {
-    let letter = text::letter_at(line, from);
-    if letter == b'K' {
-        return station_with(line, from, Kind::Known);
+    match text::letter_at(line, from)? {
+        b'K' => station_with(line, from, Kind::Known),
+        b'F' => station_with(line, from, Kind::Free),
+        b'V' => station_with(line, from, Kind::Height),
+        _ => None,
     }
-    if letter == b'F' {
-        return station_with(line, from, Kind::Free);
-    }
-    if letter == b'V' {
-        return station_with(line, from, Kind::Height);
-    }
-    Command::Unreadable
 }
 
 // v is one more than `read`.
 fn in_turn(v: i64, read: u64) -> bool
     ensures { result ≡ eq_z v (pos (suc read)) }
 {
-    if words::is_negative(v) {
-        return false;
-    }
-    let n = words::size(v);
-    if n == 0 {
-        return false;
-    }
-    n - 1 == read
+    0 < v && v.unsigned_abs() - 1 == read
 }
 
-fn station_line(line: &[u8], read: u64) -> Command
-    ensures { result ≡ station_of read (rest_fields line.now) }
+fn station_line(line: &[u8], read: u64) -> Option<Command>
+    ensures { unwrap_or result command.Unreadable ≡ station_of read (rest_fields line.now) }
 {
     let letter_end = text::field_end(line, 0);
     if line.len() <= letter_end {
-        return Command::Unreadable;
+        return None;
     }
     let from = letter_end + 1;
     let end = text::field_end(line, from);
     if line.len() <= end {
-        return Command::Unreadable;
+        return None;
     }
-    match text::number_of(&line[from..end]) {
-        Number::Unreadable => Command::Unreadable,
-        Number::Value(v) => {
-            if !in_turn(v, read) {
-                return Command::Unreadable;
-            }
-            kind_at(line, end + 1)
-        }
+    let v = text::number_of(&line[from..end])?;
+    if in_turn(v, read) {
+        kind_at(line, end + 1)
+    } else {
+        None
     }
 }
 
-// A line whose first field is `letter`, and neither S nor X nor M.
-fn other_line(line: &[u8], letter: u8) -> Command
-    requires { letter ≡ letter_in line.now }
-    ensures { result ≡ other_of letter (rest_fields line.now) }
+// What a line that was not cut asks, where it is readable.
+fn command_in(
+    line: &[u8],
+    read: u64,
+    unopened: bool,
+    x: &mut [i64],
+    m: &mut [i64],
+) -> Option<Command>
+    requires { (most_corrections ≤ length x.old) × (most_entries ≤ length m.old) }
+    ensures { Obeys read unopened (record { text = line.now; over = false }) x.old m.old (unwrap_or result command.Unreadable) x.new m.new }
 {
-    if letter == b'R' {
-        return after_r(line);
+    match text::letter_at(line, 0)? {
+        b'S' => {
+            if unopened {
+                station_line(line, read)
+            } else {
+                None
+            }
+        }
+        b'X' => corrections_line(line, x),
+        b'M' => matrix_line(line, m),
+        b'R' => after_r(line),
+        b'D' => strike_line(line),
+        b'U' => undo_line(line),
+        _ => record_line(line, 0),
     }
-    if letter == b'D' {
-        return strike_line(line);
-    }
-    if letter == b'U' {
-        return undo_line(line);
-    }
-    enter(entry_at(line, 0))
 }
 
 // What a line asks, after `read` S lines; `over` where it was cut. The numbers of an X or M line go to the front of x or m.
@@ -277,25 +217,12 @@ pub fn read_command(
     if over {
         return Command::Unreadable;
     }
-    let letter = text::letter_at(line, 0);
-    if letter == b'S' {
-        if unopened {
-            return station_line(line, read);
-        }
-        return Command::Unreadable;
-    }
-    if letter == b'X' {
-        return corrections_line(line, x);
-    }
-    if letter == b'M' {
-        return matrix_line(line, m);
-    }
-    other_line(line, letter)
+    command_in(line, read, unopened, x, m).unwrap_or(Command::Unreadable)
 }
 
 // Whether a line keeps the station list open.
 pub fn is_station_line(line: &[u8]) -> bool
     ensures { result ≡ is_station_line line.now }
 {
-    text::letter_at(line, 0) == b'S'
+    text::letter_at(line, 0) == Some(b'S')
 }

@@ -1,26 +1,33 @@
 -- By the letter, as `entry_of` goes through them. Assumes nothing.
-use Rattle.commands.specs.CommandLaws.{it_is, it_is_not}
+use Rattle.std.proofs.Common.{arith}
+use Rattle.commands.specs.CommandLaws.{it_is, it_is_not, letter_some, letter_none}
 use Rattle.commands.specs.Commands.{letter_H, letter_B, letter_P, entry_of}
 use Rattle.commands.proofs.reading.entry_at.Goals as goal
 
-pub returns-then-letter-eq72 : goal.returns-then-letter-eq72
+pub returns-in_err-letter_at : goal.returns-in_err-letter_at
 unfolding entry_of
-returns-then-letter-eq72 c = let l = c.letter_at-letter.ensures in rw (it_is l letter_H c.if-letter-eq72.true) c.level_entry.ensures
+returns-in_err-letter_at c =
+    let l = letter_none _ c.letter_at.ensures c.in_err-letter_at.was in
+    rw (it_is_not l letter_H (λ e. omega arith), it_is_not l letter_B (λ e. omega arith), it_is_not l letter_P (λ e. omega arith)) c.from_residual.ensures
 
-pub returns-then-letter-eq66 : goal.returns-then-letter-eq66
+pub returns-in-72 : goal.returns-in-72
 unfolding entry_of
-returns-then-letter-eq66 c =
-    let l = c.letter_at-letter.ensures in
-    rw (it_is_not l letter_H c.if-letter-eq72.false, it_is l letter_B c.if-letter-eq66.true) c.baseline_line.ensures
+returns-in-72 c = let l = letter_some _ c.letter_at.ensures _ c.in_ok-letter_at.was in rw (it_is l letter_H c.in-72.is) c.level_entry.ensures
 
-pub returns-then-letter-eq80 : goal.returns-then-letter-eq80
+pub returns-in-66 : goal.returns-in-66
 unfolding entry_of
-returns-then-letter-eq80 c =
-    let l = c.letter_at-letter.ensures in
-    rw (it_is_not l letter_H c.if-letter-eq72.false, it_is_not l letter_B c.if-letter-eq66.false, it_is l letter_P c.if-letter-eq80.true) c.position_line.ensures
+returns-in-66 c =
+    let l = letter_some _ c.letter_at.ensures _ c.in_ok-letter_at.was in
+    rw (it_is_not l letter_H (λ e. omega arith), it_is l letter_B c.in-66.is) c.baseline_line.ensures
 
-pub returns : goal.returns
+pub returns-in-80 : goal.returns-in-80
 unfolding entry_of
-returns c =
-    let l = c.letter_at-letter.ensures in
-    rw (it_is_not l letter_H c.if-letter-eq72.false, it_is_not l letter_B c.if-letter-eq66.false, it_is_not l letter_P c.if-letter-eq80.false)
+returns-in-80 c =
+    let l = letter_some _ c.letter_at.ensures _ c.in_ok-letter_at.was in
+    rw (it_is_not l letter_H (λ e. omega arith), it_is_not l letter_B (λ e. omega arith), it_is l letter_P c.in-80.is) c.position_line.ensures
+
+pub returns-in_default : goal.returns-in_default
+unfolding entry_of
+returns-in_default c =
+    let l = letter_some _ c.letter_at.ensures _ c.in_ok-letter_at.was in
+    rw (it_is_not l letter_H (λ e. omega arith), it_is_not l letter_B (λ e. omega arith), it_is_not l letter_P (λ e. omega arith))

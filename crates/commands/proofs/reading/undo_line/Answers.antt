@@ -5,5 +5,5 @@ use Rattle.commands.proofs.reading.undo_line.Goals as goal
 pub returns-then-line-end : goal.returns-then-line-end
 returns-then-line-end c = undo_none _ _ c.field_end-end.ensures c.if-line-end.true
 
-pub returns : goal.returns
-returns c = undo_some _ _ c.field_end-end.ensures c.if-line-end.false
+pub returns-else-line-end : goal.returns-else-line-end
+returns-else-line-end c = undo_some _ _ c.field_end-end.ensures c.if-line-end.false
