@@ -1,8 +1,6 @@
 -- What a check prints, and what the engine's proposal prints. Assumes nothing.
-use Rattle.std.specs.Prelude.{ℕ, ◌≤◌, ◌≡◌, true, cond, List, eqb, ℤ}
-use Rattle.acceptance.specs.Judge.{refusal_number, refusal_unknown}
-use Rattle.acceptance.specs.declared.Answer.{Answer}
-use Rattle.acceptance.specs.declared.Answer.TheVariants.{Accepted, Refused}
+use Rattle.std.specs.Prelude.{ℕ, ◌≤◌, ◌≡◌, true, cond, List, eqb, ℤ, Ok, Err}
+use Rattle.acceptance.specs.Judge.{refusal_number, refusal_unknown, Answer}
 use Rattle.book.specs.declared.Book.{Book}
 use Rattle.sheet.specs.Sheet.{sheet_words}
 use Rattle.checks.specs.Checks.{checked}
@@ -20,8 +18,8 @@ unfoldable pub refusal_says : ℕ → ℕ → List ℕ
 refusal_says number unknown = cond (eqb number 11) (refused_unknown_text unknown) (refused_text number)
 
 unfoldable pub answer_says : Answer → List ℕ → List ℕ
-answer_says Accepted sheet = sheet
-answer_says (Refused refusal) sheet = refusal_says (refusal_number refusal) (refusal_unknown refusal)
+answer_says (Ok u) sheet = sheet
+answer_says (Err refusal) sheet = refusal_says (refusal_number refusal) (refusal_unknown refusal)
 
 unfoldable pub check_says : Book → List ℤ → List ℤ → List ℕ
 check_says b x m = answer_says (checked b x m true) (sheet_of b x m)
@@ -33,7 +31,7 @@ pub data Offer : Type 0 where
 
 pub data ValidOffer (b : Book) : Offer → Type 0 where
   no_pair : ValidOffer b none
-  accepted : {x m : List ℤ} → checked b x m true ≡ Accepted → ValidOffer b (pair x m)
+  accepted : {x m : List ℤ} → checked b x m true ≡ Ok tt → ValidOffer b (pair x m)
 
 -- "Without a readable X or M line the engine proposes; with no proposal, `NO PROPOSAL`"
 unfoldable pub offer_says : Book → Offer → List ℕ

@@ -2,27 +2,15 @@
 ghost use Rattle.std.specs.Prelude.{◌≡◌, true, ◌≤◌, length};
 ghost use Rattle.layout.specs.Bytes.{book_of, bytes_fit};
 ghost use Rattle.sheet.specs.Sheet.{room};
+ghost use Rattle.sheet.specs.Sheet.{room};
 ghost use Rattle.text.specs.Writing.{Written};
-ghost use Rattle.printing.specs.Rooms.{sheet_room, longest_sheet};
+ghost use Rattle.printing.specs.Rooms.{sheet_room};
 ghost use Rattle.printing.specs.SheetText.{sheet_text};
 ghost use Rattle.printing.specs.Reports.{refusal_says, check_says};
+ghost use Rattle.acceptance.specs.Judge.{refusal_number, refusal_unknown};
 
-use super::{messages, sheet_text};
-use acceptance::Answer;
-use network::Unit;
-
-// The words of the longest sheet: two counts, 7 for each station and each baseline, and 3 of the global test.
-const LONGEST_SHEET: usize = 2 + Unit::STATIONS * 7 + Unit::PLACES * 7 + 3;
-
-// The words that the book's sheet takes.
-fn room_in(s: &[u8]) -> usize
-    requires { bytes_fit s.now ≡ true }
-    ensures { result ≡ room (book_of s.now).network (book_of s.now).places }
-{
-    let net = layout::network_in(s);
-    let places = layout::places_in(s);
-    sheet::room_of(net, &places)
-}
+use super::{messages, sheet_text, zeros};
+use acceptance::Refusal;
 
 // The sheet of the book, from its words.
 fn write_words(out: &mut [u8], s: &[u8], words: &[i64]) -> usize
@@ -36,15 +24,15 @@ fn write_words(out: &mut [u8], s: &[u8], words: &[i64]) -> usize
 }
 
 // A refusal by its number, and for 11 the unknown.
-fn write_refusal(out: &mut [u8], number: u64, unknown: u64) -> usize
+fn write_refusal(out: &mut [u8], refusal: Refusal) -> usize
     requires { sheet_room ≤ length out.old }
-    ensures written { Written out.old 0 (refusal_says number unknown) result out.new }
+    ensures written { Written out.old 0 (refusal_says (refusal_number refusal) (refusal_unknown refusal)) result out.new }
     ensures upper_bound { result ≤ sheet_room }
 {
-    if number == 11 {
-        return messages::write_refused_unknown(out, 0, unknown);
+    match refusal {
+        Refusal::Untied(unknown) => messages::write_refused_unknown(out, 0, unknown),
+        _ => messages::write_refused(out, 0, u64::from(refusal)),
     }
-    messages::write_refused(out, 0, number)
 }
 
 // The check of a pair, printed; it works in `words`, of just the sheet's room.
@@ -55,20 +43,9 @@ fn report_check(out: &mut [u8], s: &[u8], x: &[i64], m: &[i64], words: &mut [i64
 {
     let answer = checks::check_sheet_in(s, x, m, words);
     match answer {
-        Answer::Accepted => write_words(out, s, words),
-        Answer::Refused(_) => write_refusal(
-            out,
-            acceptance::number(answer),
-            acceptance::unknown(answer),
-        ),
+        Ok(()) => write_words(out, s, words),
+        Err(refusal) => write_refusal(out, refusal),
     }
-}
-
-// Room for the words of any sheet.
-fn no_words() -> [i64; LONGEST_SHEET]
-    ensures { longest_sheet ≡ length result }
-{
-    [0; LONGEST_SHEET]
 }
 
 // The check of a pair on the book that the bytes hold, printed at the front of out: the sheet, or the refusal.
@@ -77,7 +54,7 @@ pub fn write_check(out: &mut [u8], s: &[u8], x: &[i64], m: &[i64]) -> usize
     ensures written { Written out.old 0 (check_says (book_of s.now) x.now m.now) result out.new }
     ensures upper_bound { result ≤ sheet_room }
 {
-    let room = room_in(s);
-    let mut words = no_words();
+    let room = checks::room_in(s);
+    let mut words = zeros::<{ sheet::LONGEST }>();
     report_check(out, s, x, m, &mut words[0..room])
 }

@@ -1,6 +1,8 @@
 // What the program prints: message lines, the sheet, a check, and the engine's proposal. Document 01's "The night print".
 #![tactic(auto)]
 
+ghost use Rattle.std.specs.Prelude.{◌≡◌, length};
+
 mod checking;
 mod messages;
 mod proposing;
@@ -21,4 +23,11 @@ pub use sheet_text::write_sheet;
 struct SheetPrinted {
     next: usize,
     word: usize,
+}
+
+// Room for N numbers: a sheet takes at most 2,021 words, and the pair of a book with 48 unknowns 48 and 2,304.
+fn zeros<const N: usize>() -> [i64; N]
+    ensures { N ≡ length result }
+{
+    [0; N]
 }

@@ -4,27 +4,10 @@ ghost use Rattle.layout.specs.Bytes.{book_of, bytes_fit};
 ghost use Rattle.printing.specs.Rooms.{sheet_room};
 ghost use Rattle.printing.specs.Reports.{Reported};
 
-use super::{checking, messages};
+use super::{checking, messages, zeros};
 use engine::Proposal;
 use network::Unit;
 use normals::Normals;
-
-// What the engine works in, and room for the pair of a book with 48 unknowns.
-fn no_work() -> [f64; engine::WORK] {
-    [0.0; engine::WORK]
-}
-
-fn no_corrections() -> [i64; Normals::ROW]
-    ensures { 48 ≡ length result }
-{
-    [0; Normals::ROW]
-}
-
-fn no_matrix() -> [i64; Normals::ENTRIES]
-    ensures { 2304 ≡ length result }
-{
-    [0; Normals::ENTRIES]
-}
 
 // The proposal for x and m, printed.
 fn report_proposal(
@@ -43,14 +26,6 @@ fn report_proposal(
     }
 }
 
-// The entries of an n×n matrix.
-fn square(n: usize) -> usize
-    requires { n ≤ 48 }
-    ensures { (result ≡ n * n) × (result ≤ 2304) }
-{
-    n * n
-}
-
 // The engine's proposal for the book that the bytes hold, printed at the front of out.
 pub fn write_proposal(out: &mut [u8], s: &[u8]) -> usize
     requires { (bytes_fit s.now ≡ true) × (sheet_room ≤ length out.old) }
@@ -59,9 +34,8 @@ pub fn write_proposal(out: &mut [u8], s: &[u8]) -> usize
     let network = layout::network_in(s);
     let stations = network.stations;
     let n = network::number_of(stations, Unit::COMPONENTS);
-    let entries = square(n);
-    let mut x = no_corrections();
-    let mut m = no_matrix();
-    let mut work = no_work();
-    report_proposal(out, s, &mut x[0..n], &mut m[0..entries], &mut work)
+    let mut x = zeros::<{ Normals::ROW }>();
+    let mut m = zeros::<{ Normals::ENTRIES }>();
+    let mut work = [0.0; engine::WORK];
+    report_proposal(out, s, &mut x[..n], &mut m[..n * n], &mut work)
 }

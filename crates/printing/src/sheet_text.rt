@@ -4,12 +4,17 @@ ghost use Rattle.network.specs.Places.{places_length, places_in};
 ghost use Rattle.sheet.specs.Sheet.{line_length};
 ghost use Rattle.text.specs.Writing.{Written};
 ghost use Rattle.printing.specs.Rooms.{field_room, verdict_room, head_room, station_room, baseline_room, height_room, global_room, sheet_room};
-ghost use Rattle.printing.specs.SheetText.{fields, high_verdict, verdict, head_text, station_text, baseline_text, height_text, global_text};
+ghost use Rattle.printing.specs.SheetText.{fields, verdict, head_text, station_text, baseline_text, height_text, global_text};
 ghost use Rattle.printing.specs.SheetText.{station_texts, record_text, record_start, record_texts, global_start, sheet_text};
 
 use super::SheetPrinted;
 use network::{Record, Unit};
 use text::{write_byte, write_number, write_text};
+
+// How many components a baseline observes, and so does a position; and how many a height difference.
+const BASELINE_COMPONENTS: usize = 3;
+
+const HEIGHT_COMPONENTS: usize = 1;
 
 // n words of w from o on, a blank after each.
 fn write_fields(out: &mut [u8], at: usize, w: &[i64], o: usize, n: usize) -> usize
@@ -18,28 +23,11 @@ fn write_fields(out: &mut [u8], at: usize, w: &[i64], o: usize, n: usize) -> usi
     ensures upper_bound { result ≤ at + n * field_room }
 {
     let mut p = at;
-    let mut i = 0;
-    while i < n {
+    for i in 0..n {
         let q = write_number(out, p, w[o + i]);
         p = write_byte(out, q, b' ');
-        i += 1;
     }
     p
-}
-
-// A verdict above 2.
-fn write_high_verdict(out: &mut [u8], at: usize, v: i64) -> usize
-    requires { at + verdict_room ≤ length out.old }
-    ensures written { Written out.old at (high_verdict v) result out.new }
-    ensures upper_bound { result ≤ at + verdict_room }
-{
-    if words::same(v, 3) {
-        return write_text(out, at, b"LOW");
-    }
-    if words::same(v, 4) {
-        return write_text(out, at, b"HIGH");
-    }
-    write_text(out, at, b"NONE")
 }
 
 fn write_verdict(out: &mut [u8], at: usize, v: i64) -> usize
@@ -47,16 +35,14 @@ fn write_verdict(out: &mut [u8], at: usize, v: i64) -> usize
     ensures written { Written out.old at (verdict v) result out.new }
     ensures upper_bound { result ≤ at + verdict_room }
 {
-    if words::same(v, 0) {
-        return write_text(out, at, b"PASS");
+    match v {
+        0 => write_text(out, at, b"PASS"),
+        1 => write_text(out, at, b"FAIL"),
+        2 => write_text(out, at, b"LOOSE"),
+        3 => write_text(out, at, b"LOW"),
+        4 => write_text(out, at, b"HIGH"),
+        _ => write_text(out, at, b"NONE"),
     }
-    if words::same(v, 1) {
-        return write_text(out, at, b"FAIL");
-    }
-    if words::same(v, 2) {
-        return write_text(out, at, b"LOOSE");
-    }
-    write_high_verdict(out, at, v)
 }
 
 // `SHEET 2 RECORDS 1 UNKNOWNS`
@@ -128,10 +114,8 @@ fn write_stations(out: &mut [u8], at: usize, w: &[i64], n: usize) -> usize
     ensures upper_bound { result ≤ at + n * station_room }
 {
     let mut p = at;
-    let mut i = 0;
-    while i < n {
+    for i in 0..n {
         p = write_station(out, p, w, 2 + i * 7);
-        i += 1;
     }
     p
 }
@@ -143,10 +127,10 @@ fn write_record(out: &mut [u8], at: usize, w: &[i64], o: usize, r: Record) -> us
     ensures upper_bound { result ≤ at + baseline_room }
 {
     let observed = network::observations_of(r);
-    if observed == 3 {
+    if observed == BASELINE_COMPONENTS {
         return write_baseline(out, at, w, o);
     }
-    if observed == 1 {
+    if observed == HEIGHT_COMPONENTS {
         return write_height(out, at, w, o);
     }
     at
@@ -160,12 +144,10 @@ fn write_records(out: &mut [u8], at: usize, w: &[i64], o: usize, places: &[i64])
 {
     let mut next = at;
     let mut word = o;
-    let mut p = 0;
-    while p < Unit::PLACES {
+    for p in 0..Unit::PLACES {
         let r = network::record_at(places, p);
         next = write_record(out, next, w, word, r);
         word += sheet::words_in(r);
-        p += 1;
     }
     SheetPrinted { next, word }
 }

@@ -9,4 +9,4 @@ use Rattle.printing.proofs.checking.write_check.Goals as goal
 pub slice_bounds-words-end : goal.slice_bounds-words-end
 slice_bounds-words-end c =
     let b = book_of c.args.s.now in
-    omega (arith, room_small b.network b.places (fits-network _ c.requires.0 b.network refl).0, c.room_in-room.ensures, c.no_words-words.ensures)
+    omega (arith, room_small b.network b.places (fits-network _ c.requires.0 b.network refl).0, c.room_in-room.ensures, c.zeros-words.ensures)

@@ -1,17 +1,13 @@
--- By the number: 11 has its unknown printed too. Assumes nothing.
-use native.Mathlib.Omega.{arith}
-use borrow.Author.Tests.{eq-eqb, ne_eqb}
-use Rattle.printing.specs.Reports.{refusal_says}
+-- By the refusal: 11 has its unknown printed too (`untied_says`, `other_says`). Assumes nothing.
+use Rattle.std.proofs.Common.{arith}
+use Rattle.text.specs.Writing.{written_as}
+use Rattle.printing.specs.ReportLaws.{untied_says, other_says}
 use Rattle.printing.proofs.checking.write_refusal.Goals as goal
 
-pub returns-then-number-eq11 : goal.returns-then-number-eq11
-unfolding refusal_says
-returns-then-number-eq11 c =
-    let w = c.write_refused_unknown.ensures in
-    record { written = rw (eq-eqb _ 11 c.if-number-eq11.true) w.written; upper_bound = omega (arith, w.upper_bound) }
+pub returns-in-Untied-clause-written : goal.returns-in-Untied-clause-written
+returns-in-Untied-clause-written c = written_as (untied_says _ _ c.in-Untied.is) c.write_refused_unknown.ensures.written
 
-pub returns : goal.returns
-unfolding refusal_says
-returns c =
+pub returns-in_default : goal.returns-in_default
+returns-in_default c =
     let w = c.write_refused.ensures in
-    record { written = rw (ne_eqb _ 11 c.if-number-eq11.false) w.written; upper_bound = omega (arith, w.upper_bound) }
+    record { written = written_as (other_says _ _ c.from.ensures c.in_default.not-Untied) w.written; upper_bound = omega (arith, w.upper_bound) }

@@ -1,8 +1,8 @@
 -- By the engine's answer: no proposal is told, and a pair that was made is one that the check accepts, so that its check prints its sheet (`accepted-says`). Assumes nothing.
+use Rattle.std.specs.Prelude.{Ok}
 use mathlib.Core.Path.{◌≡◌, subst}
 use mathlib.Core.Bool.{true}
 use native.Mathlib.Omega.{arith}
-use Rattle.acceptance.specs.declared.Answer.TheVariants.{Accepted}
 use Rattle.checks.specs.Checks.{checked}
 use Rattle.engine.specs.declared.Proposal.{Proposal}
 use Rattle.engine.specs.Proposals.{Proposed}
@@ -22,5 +22,5 @@ returns-in-Made c =
     let p = c.propose_in in
     let x = p.new.x in
     let m = p.new.m in
-    let e : checked b x m true ≡ Accepted = subst (λ (r : Proposal). Proposed r (checked b x m true) c.args.x.now c.args.m.now x m) c.in-Made.is p.ensures.proposed in
+    let e : checked b x m true ≡ Ok tt = subst (λ (r : Proposal). Proposed r (checked b x m true) c.args.x.now c.args.m.now x m) c.in-Made.is p.ensures.proposed in
     record { offer = pair x m; offers = accepted e; written = written_as (accepted-says b x m e) c.write_check.ensures.written; small = c.write_check.ensures.upper_bound }

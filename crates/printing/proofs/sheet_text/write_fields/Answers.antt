@@ -9,18 +9,17 @@ use Rattle.printing.specs.SheetText.{fields}
 use Rattle.printing.proofs.sheet_text.write_fields.Goals as goal
 
 pub loop-i-init : goal.loop-i-init
-loop-i-init c = (omega arith, refl, omega arith, fields-start _ _ c.args.w.now c.args.o)
+loop-i-init c = (refl, omega arith, fields-start _ _ c.args.w.now c.args.o)
 
 pub loop-i-preserved : goal.loop-i-preserved
 loop-i-preserved c = (
-  omega arith,
   search rules,
-  omega (arith, c.loop-i.invariant.2, c.write_number-q.ensures.upper_bound, c.write_byte-p.ensures.past),
+  omega (arith, c.loop-i.invariant.1, c.write_number-q.ensures.upper_bound, c.write_byte-p.ensures.past),
   written_as (fields-more c.args.w.now c.args.o c.loop-i.i (omega arith))
-      (c.loop-i.invariant.3 then written_as (by_bits decimal (sfits_of c.write_number-arg-in-loop-i-1.given)) c.write_number-q.ensures.written then c.write_byte-p.ensures),
+      (c.loop-i.invariant.2 then written_as (by_bits decimal (sfits_of c.write_number-arg-in-loop-i-1.given)) c.write_number-q.ensures.written then c.write_byte-p.ensures),
 )
 
 pub returns : goal.returns
 returns c =
-    let e : c.loop-i.i ≡ c.args.n = omega (arith, c.loop-i-test.false, c.loop-i.invariant.0) in
-    record { written = written_as (ap (fields c.args.w.now c.args.o) e) c.loop-i.invariant.3; upper_bound = omega (arith, e, c.loop-i.invariant.2) }
+    let e : c.loop-i.i ≡ c.args.n = omega (arith, c.loop-i-test.false) in
+    record { written = written_as (ap (fields c.args.w.now c.args.o) e) c.loop-i.invariant.2; upper_bound = omega (arith, e, c.loop-i.invariant.1) }

@@ -8,17 +8,16 @@ use borrow.Author.Rules.{rules}
 use Rattle.printing.proofs.sheet_text.write_stations.Goals as goal
 
 pub loop-i-init : goal.loop-i-init
-loop-i-init c = (omega arith, refl, omega arith, stations-start _ _ c.args.w.now)
+loop-i-init c = (refl, omega arith, stations-start _ _ c.args.w.now)
 
 pub loop-i-preserved : goal.loop-i-preserved
 loop-i-preserved c = (
-  omega arith,
   search rules,
-  omega (arith, c.loop-i.invariant.2, c.write_station-p.ensures.upper_bound),
-  written_as (stations-more c.args.w.now c.loop-i.i) (c.loop-i.invariant.3 then c.write_station-p.ensures.written),
+  omega (arith, c.loop-i.invariant.1, c.write_station-p.ensures.upper_bound),
+  written_as (stations-more c.args.w.now c.loop-i.i) (c.loop-i.invariant.2 then c.write_station-p.ensures.written),
 )
 
 pub returns : goal.returns
 returns c =
-    let e : c.loop-i.i ≡ c.args.n = omega (arith, c.loop-i-test.false, c.loop-i.invariant.0) in
-    record { written = written_as (ap (station_texts c.args.w.now) e) c.loop-i.invariant.3; upper_bound = omega (arith, e, c.loop-i.invariant.2) }
+    let e : c.loop-i.i ≡ c.args.n = omega (arith, c.loop-i-test.false) in
+    record { written = written_as (ap (station_texts c.args.w.now) e) c.loop-i.invariant.2; upper_bound = omega (arith, e, c.loop-i.invariant.1) }

@@ -2,12 +2,9 @@
 use Rattle.text.specs.Writing.{Written}
 use Rattle.printing.specs.SheetText.{station_texts}
 use lib.ListN.{length}
-use Prim.Native.Nat.{◌≤◌, ◌-◌, ◌+◌, ◌*◌}
+use Prim.Native.Nat.{◌≤◌, ◌+◌, ◌*◌}
 use mathlib.Core.Path.{◌≡◌}
 use Rattle.printing.proofs.sheet_text.write_stations.Given as goal
 
 abbrev pub invariant-loop-i : goal.invariant-loop-i
-invariant-loop-i l = (l.i ≤ l.n) × (length l.out ≡ length l.initial.out) × (l.p ≤ l.at + l.i * 154) × Written l.initial.out l.at (station_texts l.w l.i) l.p l.out
-
-abbrev pub decreases-loop-i : goal.decreases-loop-i
-decreases-loop-i l = l.n - l.i
+invariant-loop-i l = (length l.out ≡ length l.initial.out) × (l.p ≤ l.at + l.i * 154) × Written l.initial.out l.at (station_texts l.w l.i) l.p l.out
