@@ -1,7 +1,6 @@
 -- The last arm of a `match` on a command: what it asks is none of the arms before. Assumes nothing.
 use Prim.Native.Nat.{ℕ}
 use mathlib.Core.Path.{◌≡◌, refl}
-use mathlib.Core.Bool.{false}
 use mathlib.Core.List.{List}
 use lib.IntN.{ℤ}
 use Rattle.network.specs.declared.Station.{Station as StationOf}
@@ -9,8 +8,7 @@ use Rattle.book.specs.declared.Book.{Book}
 use Rattle.book.specs.declared.Call.{Call as CallOf}
 use Rattle.commands.specs.declared.Command.{Command}
 use Rattle.commands.specs.declared.Command.TheVariants.{Station, Call, Corrections, Matrix, Unreadable}
-use Rattle.commands.specs.Brings.{brings, corrections, matrix}
-use Rattle.input_lines.specs.Runs.{words_after, read_after, unedited, edits, refused_says, command_says}
+use Rattle.input_lines.specs.Runs.{words_after, unedited, edits, refused_says, command_says}
 
 -- no station
 pub words_other : (l : List ℤ) (c : Command) → ((s : StationOf) → c ≡ Station s → ⊥) → l ≡ words_after l c
@@ -20,31 +18,6 @@ words_other l (Call c) h = refl
 words_other l (Corrections n) h = refl
 words_other l (Matrix n) h = refl
 words_other l Unreadable h = refl
-
-pub read_other : (n : ℕ) (c : Command) → ((s : StationOf) → c ≡ Station s → ⊥) → n ≡ read_after n c
-unfolding read_after
-read_other n (Station s) h = absurd (h s refl)
-read_other n (Call c) h = refl
-read_other n (Corrections k) h = refl
-read_other n (Matrix k) h = refl
-read_other n Unreadable h = refl
-
--- no corrections, no matrix
-pub brings_no_corrections : (c : Command) → ((n : ℕ) → c ≡ Corrections n → ⊥) → brings c corrections ≡ false
-unfolding brings
-brings_no_corrections (Station s) h = refl
-brings_no_corrections (Call c) h = refl
-brings_no_corrections (Corrections n) h = absurd (h n refl)
-brings_no_corrections (Matrix n) h = refl
-brings_no_corrections Unreadable h = refl
-
-pub brings_no_matrix : (c : Command) → ((n : ℕ) → c ≡ Matrix n → ⊥) → brings c matrix ≡ false
-unfolding brings
-brings_no_matrix (Station s) h = refl
-brings_no_matrix (Call c) h = refl
-brings_no_matrix (Corrections n) h = refl
-brings_no_matrix (Matrix n) h = absurd (h n refl)
-brings_no_matrix Unreadable h = refl
 
 -- no edit
 pub edits_other : (b : Book) (c : Command) → ((e : CallOf) → c ≡ Call e → ⊥) → unedited b ≡ edits b c

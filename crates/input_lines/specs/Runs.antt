@@ -3,7 +3,7 @@ use Rattle.std.specs.Prelude.{ℕ, suc, ◌+◌, ◌*◌, Bool, true, false, con
 use Rattle.network.specs.StationWords.{station_words}
 use Rattle.network.specs.declared.Station as station
 use Rattle.book.specs.declared.Book.{Book}
-use Rattle.book.specs.declared.Edited.{Edited}
+use Rattle.book.specs.Outcome.{Outcome}
 use Rattle.book.specs.Book.{opening, outcome}
 use Rattle.text.specs.Fields.{rest_fields, FieldNumbers, numbers, unreadable}
 use Rattle.text.specs.Lines.{KeptLine}
@@ -52,7 +52,7 @@ unfoldable pub noted : List ℤ → station.Station → List ℤ
 noted words s = cond (leb (length words + 4) list_room) (words ++ station_words s) words
 
 -- ════ the opening
-abbrev pub phase_with : Edited → Phase
+abbrev pub phase_with : Outcome → Phase
 phase_with e = cond (eqb e.refusal 0) (opened e.book) ended
 
 unfoldable pub phase_opened : List ℤ → Phase → Phase
@@ -111,10 +111,10 @@ read_after n (Matrix k) = n
 read_after n Unreadable = n
 
 -- H, B or P enters; "D and a place strikes; U undoes": the number of the refusal, or 0, and the book
-abbrev pub unedited : Book → Edited
+abbrev pub unedited : Book → Outcome
 unedited b = record { refusal = 0; book = b }
 
-unfoldable pub edits : Book → Command → Edited
+unfoldable pub edits : Book → Command → Outcome
 edits b (Station s) = unedited b
 edits b (Call c) = outcome b c
 edits b (Corrections n) = unedited b

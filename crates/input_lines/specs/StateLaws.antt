@@ -1,18 +1,19 @@
 -- The steps of a line as the code takes them: the state after each is what the run's definitions say. Assumes nothing.
-use Rattle.std.specs.Prelude.{ℕ, suc, ◌+◌, ◌-◌, ◌≤◌, ◌<◌, ◌≡◌, Bool, ◌&&◌, eqb, take, drop, set, ℤ}
+use Rattle.std.specs.Prelude.{ℕ, suc, ◌+◌, ◌-◌, ◌≤◌, ◌<◌, ◌≡◌, Bool, ◌&&◌, Option, eqb, take, drop, ℤ}
 use Rattle.std.proofs.Math.Path.{refl, sym, ap}
-use Rattle.std.proofs.Common.{◌∙◌, arith, length-append, take_at, drop_at, drop-drop}
+use Rattle.std.proofs.Common.{◌∙◌, arith, append_assoc, length-append, take_at, drop_at, drop-drop}
 use Rattle.std.proofs.Math.Bool.{true, false, cond, not}
 use mathlib.Core.List.{List, [], ◌++◌}
+use borrow.Rule.Slice.PartMut.{put_mid}
 use borrow.Author.Tests.{le-leb, lt-leb, eqb-true, not-true}
 use Rattle.std.proofs.Math.ListN.{length}
 use Rattle.std.proofs.lemmas.List.Edits.{sets}
 use Rattle.std.proofs.Math.Seq.{sets-eq, length-take-le}
 use Rattle.words.specs.Bools.{and_left, and_right}
-use Rattle.network.specs.StationWords.{kind_word, station_words}
+use Rattle.network.specs.StationWords.{station_words}
 use Rattle.network.specs.declared.Station as station
 use Rattle.book.specs.declared.Book.{Book}
-use Rattle.book.specs.declared.Edited.{Edited}
+use Rattle.book.specs.Outcome.{Outcome}
 use Rattle.book.specs.Book as book
 use Rattle.layout.specs.Bytes.{book_of, bytes_fit}
 use Rattle.lent_edits.specs.LentEdits.{Opens}
@@ -26,7 +27,6 @@ use Rattle.commands.specs.Brings.{SolutionPart, brings, Brought, other, these}
 use Rattle.printing.specs.Rooms.{message_room, refused_room, line_room}
 use Rattle.input_lines.specs.declared.Phase as code-phase
 use Rattle.input_lines.specs.declared.Phase.TheVariants.{Unopened, Opened, Ended}
-use Rattle.input_lines.specs.declared.Given as code-given
 use Rattle.input_lines.specs.declared.State.{State}
 use Rattle.input_lines.specs.declared.LineRead.{LineRead}
 use Rattle.input_lines.specs.Runs.{opened, ended, given, Run, list_room, noted, phase_with, phase_opened, opening_answer, opening_says, open_run, before_line, before_line_says, is_unopened, asked, read_after, unedited, edits, phase_after, given_by, command_says, phase_says, obeyed, next, obeyed_says, says}
@@ -72,16 +72,12 @@ module _ (list : List ℤ) (words : ℕ) (s : station.Station) (room : list_room
   unfolding noted
   note_full h k = record { leaves = rw (length-take-le words list (omega arith), lt-leb (words + 4) list_room h); few = k }
 
-pub put_four : (l : List ℤ) (at : ℕ) (s : station.Station) (k e n u : ℤ) → k ≡ kind_word s.kind → e ≡ s.east → n ≡ s.north → u ≡ s.up → set (set (set (set l at k) (at + 1) e) (at + 2) n) (at + 3) u ≡ sets l at (station_words s)
-unfolding station_words
-put_four l at s k e n u p q r t =
-    let a : at + 1 ≡ suc at = omega arith in
-    let b : at + 2 ≡ suc (suc at) = omega arith in
-    let c : at + 3 ≡ suc (suc (suc at)) = omega arith in
-    rw (a, b, c, p, q, r, t)
+-- the four words from `at` on overwritten by those of a station
+pub put_four : (l : List ℤ) (at k : ℕ) (s : station.Station) → k ≡ 4 → at + 4 ≤ length l → put_mid at k l (station_words s) ≡ sets l at (station_words s)
+put_four l at k s e h = rw (e, sets-eq (station_words s) l at (rw (four s) h), four s, drop-drop 4 at l) (sym (append_assoc (take at l) (station_words s) (drop (at + 4) l)))
 
 -- ════ what a line brought
-module _ {part : SolutionPart} {most : ℕ} {c : Command} {ns : FieldNumbers} {l after : List ℤ} (b : Brought part most c ns l after) (room : most ≤ length l) (g : code-given.Given) where
+module _ {part : SolutionPart} {most : ℕ} {c : Command} {ns : FieldNumbers} {l after : List ℤ} (b : Brought part most c ns l after) (room : most ≤ length l) (g : Option ℕ) where
   pub brought_given : given_of (given_count part g c) after ≡ cond (brings c part) (given_by ns) (given_of g l)
   unfolding given_of given_by
   brought_given = by b
@@ -93,7 +89,6 @@ module _ {part : SolutionPart} {most : ℕ} {c : Command} {ns : FieldNumbers} {l
           (ap given (rw (sets-eq vs l 0 (omega arith)) (take_at vs (drop (0 + length vs) l) (length vs) refl)))
 
   pub brought_few : given_length g ≤ most → given_length (given_count part g c) ≤ most
-  unfolding given_length
   brought_few few = by b
     where
       by : Brought part most c ns l after → given_length (given_count part g c) ≤ most
@@ -106,26 +101,26 @@ asked_in read e o = rw e at o
 
 -- ════ phases
 pub unopened_is : (p : code-phase.Phase) (b : Book) → is_unopened (phase_of p b) ≡ unopened_phase p
-unfolding is_unopened phase_of unopened_phase
+unfolding is_unopened phase_of
 unopened_is Unopened b = refl
 unopened_is Opened b = refl
 unopened_is Ended b = refl
 
 -- what a line asks for in a phase: an edit where there is a book, else nothing
 phase_edited : (p : code-phase.Phase) (b : Book) (c : Command) → phase_of p (cond (opened_phase p) (edits b c) (unedited b)).book ≡ phase_after (phase_of p b) c
-unfolding phase_of opened_phase phase_after
+unfolding phase_of phase_after
 phase_edited Unopened b c = refl
 phase_edited Opened b c = refl
 phase_edited Ended b c = refl
 
 message_is : (p : code-phase.Phase) (b : Book) (c : Command) (k : ℕ) → cond (ended_phase p) [] (command_says k (cond (opened_phase p) (edits b c) (unedited b)).refusal c) ≡ phase_says (phase_of p b) k c
-unfolding phase_of opened_phase ended_phase phase_says
+unfolding phase_of phase_says
 message_is Unopened b c k = refl
 message_is Opened b c k = refl
 message_is Ended b c k = refl
 
 -- ════ the opening
-phase_with_lem : (n : ℕ) (b : Book) (e : Edited) → n ≡ e.refusal → (n ≡ 0 → b ≡ e.book) → phase_of (phase_at n) b ≡ phase_with e
+phase_with_lem : (n : ℕ) (b : Book) (e : Outcome) → n ≡ e.refusal → (n ≡ 0 → b ≡ e.book) → phase_of (phase_at n) b ≡ phase_with e
 unfolding phase_of
 phase_with_lem n b e q r = rw (← q) (by (eqb n 0) refl)
   where
@@ -134,19 +129,18 @@ phase_with_lem n b e q r = rw (← q) (by (eqb n 0) refl)
     by false z = refl
 
 unopened_only : (p : code-phase.Phase) → unopened_phase p ≡ true → p ≡ Unopened
-unfolding unopened_phase
 unopened_only Unopened e = refl
 unopened_only Opened e = let z : true ≡ false = sym e in cc
 unopened_only Ended e = let z : true ≡ false = sym e in cc
 
 opened-stays : (words : List ℤ) (p : code-phase.Phase) (b : Book) → unopened_phase p ≡ false → phase_opened words (phase_of p b) ≡ phase_of p b
-unfolding unopened_phase phase_of phase_opened
+unfolding phase_of phase_opened
 opened-stays words Unopened b e = let z : true ≡ false = e in cc
 opened-stays words Opened b e = refl
 opened-stays words Ended b e = refl
 
 opened-silent : (words : List ℤ) (p : code-phase.Phase) (b : Book) → unopened_phase p ≡ false → opening_says words (phase_of p b) ≡ []
-unfolding unopened_phase phase_of opening_says
+unfolding phase_of opening_says
 opened-silent words Unopened b e = let z : true ≡ false = e in cc
 opened-silent words Opened b e = refl
 opened-silent words Ended b e = refl
@@ -205,7 +199,6 @@ pub ready-open :
     Opens (take s.words list) bytes n after →
     length after ≡ length bytes →
     Ready (opened_with s n) after list x m
-unfolding opened_phase
 ready-open {n = n} r o l =
     record {
       room_book = let h = r.room_book in omega arith;
@@ -293,21 +286,18 @@ module _ (s : State) (b : Book) (list x m : List ℤ) (k : KeptLine) (a : LineRe
 
 module _ {s : State} {bytes : List ℕ} {list x m : List ℤ} {k : KeptLine} {before : List ℕ} {at : ℕ} {s₁ : State} {bytes₁ : List ℕ} {p : ℕ} {out : List ℕ} (e : LineBegins s bytes list k.text before at s₁ bytes₁ p out) where
   pub line-obeyed :
-      {a : LineRead} {list' x' m' : List ℤ} {opened ended : Bool} {n : ℕ} {bytes₂ : List ℕ} {q : ℕ} {after : List ℕ} →
+      {a : LineRead} {list' x' m' : List ℤ} {n : ℕ} {bytes₂ : List ℕ} {q : ℕ} {after : List ℕ} →
       Reads s₁ k list x m a list' x' m' →
-      opened ≡ opened_phase s₁.phase →
-      EditLeaves (cond opened (edits (book_of bytes₁) a.command) (unedited (book_of bytes₁))) n bytes₂ →
-      ended ≡ ended_phase s₁.phase →
-      Written out p (cond ended [] (command_says a.state.lines n a.command)) q after →
+      EditLeaves (cond (opened_phase s₁.phase) (edits (book_of bytes₁) a.command) (unedited (book_of bytes₁))) n bytes₂ →
+      Written out p (cond (ended_phase s₁.phase) [] (command_says a.state.lines n a.command)) q after →
       q ≤ p + message_room →
       RunsTo (next (run_of s (book_of bytes) list x m) k) (says (run_of s (book_of bytes) list x m) k) line_room before at (run_of a.state (book_of bytes₂) list' x' m') q after
   unfolding next says
-  line-obeyed {a} {list'} {x'} {m'} {n = n} {bytes₂} rd i d j w few =
+  line-obeyed {a} {list'} {x'} {m'} {n = n} {bytes₂} rd ed w few =
       let r = e.runs x m in
-      let ed = rw i at d in
       let said = said-is s₁ (book_of bytes₁) list x m k a list' x' m' rd n bytes₂ ed ∙ ap (λ (q : Run). obeyed_says q (asked q k)) r.run in
       record {
         run = obeyed-is s₁ (book_of bytes₁) list x m k a list' x' m' rd n bytes₂ ed ∙ ap (λ (q : Run). obeyed q k (asked q k)) r.run;
-        written = written_as (ap (λ (t : List ℕ). before_line_says (run_of s (book_of bytes) list x m) k.text ++ t) said) (r.written then (rw j at w));
+        written = written_as (ap (λ (t : List ℕ). before_line_says (run_of s (book_of bytes) list x m) k.text ++ t) said) (r.written then w);
         few = let h = r.few in omega arith;
       }

@@ -1,8 +1,8 @@
 -- A run as the code holds it: a small state, bytes that hold a book once there is one, and lent lists of words, corrections and matrix entries, each from its front. Assumes nothing.
-use Rattle.std.specs.Prelude.{ℕ, suc, ◌+◌, ◌≤◌, ◌≡◌, Bool, true, false, cond, List, eqb, length, take, ℤ}
+use Rattle.std.specs.Prelude.{ℕ, suc, ◌+◌, ◌≤◌, ◌≡◌, Bool, true, false, cond, List, Option, Some, None, unwrap_or, eqb, length, take, ℤ}
 use Rattle.network.specs.declared.Station as station
 use Rattle.book.specs.declared.Book.{Book}
-use Rattle.book.specs.declared.Edited.{Edited}
+use Rattle.book.specs.Outcome.{Outcome}
 use Rattle.layout.specs.Layout.{book_bytes}
 use Rattle.layout.specs.Bytes.{book_of, bytes_fit}
 use Rattle.text.specs.Fields.{rest_fields}
@@ -14,8 +14,6 @@ use Rattle.commands.specs.declared.Command.{Command}
 use Rattle.printing.specs.Rooms.{refused_room}
 use Rattle.input_lines.specs.declared.Phase as code-phase
 use Rattle.input_lines.specs.declared.Phase.TheVariants.{Unopened, Opened, Ended}
-use Rattle.input_lines.specs.declared.Given as code-given
-use Rattle.input_lines.specs.declared.Given.TheVariants.{Nothing, Numbers}
 use Rattle.input_lines.specs.declared.State.{State}
 use Rattle.input_lines.specs.declared.LineRead.{LineRead}
 use Rattle.input_lines.specs.Runs.{Phase, unopened, opened, ended, Given, none, given, Run, list_room, noted, before_line, before_line_says, words_after, read_after, corrections_next, matrix_next}
@@ -26,9 +24,9 @@ phase_of Unopened b = unopened
 phase_of Opened b = opened b
 phase_of Ended b = ended
 
-unfoldable pub given_of : code-given.Given → List ℤ → Given
-given_of Nothing l = none
-given_of (Numbers n) l = given (take n l)
+unfoldable pub given_of : Option ℕ → List ℤ → Given
+given_of None l = none
+given_of (Some n) l = given (take n l)
 
 abbrev pub run_of : State → Book → List ℤ → List ℤ → List ℤ → Run
 run_of s b list x m =
@@ -42,17 +40,17 @@ run_of s b list x m =
     }
 
 -- ════ its phase, in tests
-unfoldable pub unopened_phase : code-phase.Phase → Bool
+abbrev pub unopened_phase : code-phase.Phase → Bool
 unopened_phase Unopened = true
 unopened_phase Opened = false
 unopened_phase Ended = false
 
-unfoldable pub opened_phase : code-phase.Phase → Bool
+abbrev pub opened_phase : code-phase.Phase → Bool
 opened_phase Unopened = false
 opened_phase Opened = true
 opened_phase Ended = false
 
-unfoldable pub ended_phase : code-phase.Phase → Bool
+abbrev pub ended_phase : code-phase.Phase → Bool
 ended_phase Unopened = false
 ended_phase Opened = false
 ended_phase Ended = true
@@ -62,13 +60,8 @@ abbrev pub phase_at : ℕ → code-phase.Phase
 phase_at refusal = cond (eqb refusal 0) Opened Ended
 
 -- ════ what the code keeps up
-unfoldable pub given_length : code-given.Given → ℕ
-given_length Nothing = 0
-given_length (Numbers n) = n
-
-unfoldable pub is_given : code-given.Given → Bool
-is_given Nothing = false
-is_given (Numbers n) = true
+abbrev pub given_length : Option ℕ → ℕ
+given_length g = unwrap_or g 0
 
 pub record Ready (s : State) (bytes : List ℕ) (list x m : List ℤ) : Type 0 where
   pub room_book : book_bytes ≤ length bytes
@@ -87,7 +80,7 @@ opened_with s refusal =
     record { lines = s.lines; read = s.read; words = s.words; phase = phase_at refusal; corrections = s.corrections; matrix = s.matrix }
 
 -- ════ an edit that comes out as e, on bytes: its number, and the bytes afterwards, which hold its book. Bytes beyond the book are free: no later call looks there
-pub record EditLeaves (e : Edited) (n : ℕ) (after : List ℕ) : Type 0 where
+pub record EditLeaves (e : Outcome) (n : ℕ) (after : List ℕ) : Type 0 where
   pub number : n ≡ e.refusal
   pub reads : book_of after ≡ e.book
 
@@ -101,8 +94,8 @@ pub record WordsNoted (list : List ℤ) (words : ℕ) (c : Command) (r : ℕ) (a
   pub few : r ≤ list_room
 
 -- how many numbers of that part were given last
-abbrev pub given_count : SolutionPart → code-given.Given → Command → code-given.Given
-given_count part g c = cond (brings c part) (Numbers (how_many c)) g
+abbrev pub given_count : SolutionPart → Option ℕ → Command → Option ℕ
+given_count part g c = cond (brings c part) (Some (how_many c)) g
 
 -- what a line asks, and what it leaves of the state and the lent lists. Beyond what the state counts the lists are free: no later call looks there
 pub record Reads (s : State) (k : KeptLine) (list x m : List ℤ) (a : LineRead) (list' x' m' : List ℤ) : Type 0 where

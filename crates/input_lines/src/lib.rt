@@ -12,7 +12,7 @@ pub use obeying::obey;
 pub use opening::{LIST_ROOM, is_ended, is_opened, open_list};
 
 // How far a run is; specs/Runs has what it means.
-#[derive(Clone, Copy)]
+#[derive(Clone, Copy, PartialEq, Eq)]
 pub enum Phase {
     // The station list goes on.
     Unopened,
@@ -20,13 +20,6 @@ pub enum Phase {
     Opened,
     // The opening was refused.
     Ended,
-}
-
-// How many numbers the latest readable X or M line gave, where there was one.
-#[derive(Clone, Copy)]
-pub enum Given {
-    Nothing,
-    Numbers(usize),
 }
 
 // The state of a run beside its book and its lent lists.
@@ -38,8 +31,9 @@ pub struct State {
     // the words at the front of the station list
     pub words: usize,
     pub phase: Phase,
-    pub corrections: Given,
-    pub matrix: Given,
+    // how many numbers the latest readable X line gave, and M line, where there was one
+    pub corrections: Option<usize>,
+    pub matrix: Option<usize>,
 }
 
 // What a line asks, and the state with it noted.

@@ -15,9 +15,9 @@ fn begin_line(from: Reached, line: &[u8], list: &[i64], book: &mut [u8], out: &m
 {
     let before = from.state;
     if opening::opens_at(before, line) {
-        let refusal = opening::open_list(list, before.words, book);
-        let printed = opening::write_opening(out, from.printed, refusal);
-        let state = opening::opened(before, refusal);
+        let answer = opening::open_list(list, before.words, book);
+        let printed = opening::write_opening(out, from.printed, answer);
+        let state = opening::opened(before, answer);
         return Reached { state, printed };
     }
     from
@@ -43,15 +43,15 @@ pub fn obey(
     let before = begun.state;
     let asked = reading::read_line(before, line, over, list, x, m);
     let command = asked.command;
-    let number = editing::edit_opened(book, opening::is_opened(before), command);
+    let answer = editing::edit_opened(book, before.phase, command);
     let state = asked.state;
     let printed = editing::write_message(
         out,
         begun.printed,
-        opening::is_ended(before),
+        before.phase,
         state.lines,
         command,
-        number,
+        answer,
     );
     Reached { state, printed }
 }

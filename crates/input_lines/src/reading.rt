@@ -1,11 +1,11 @@
 // A line read: what it asks, and the state with its station, corrections or matrix noted.
-ghost use Rattle.std.specs.Prelude.{◌≡◌, ◌≤◌, ◌<◌, length};
+ghost use Rattle.std.specs.Prelude.{suc, ◌≡◌, ◌≤◌, ◌<◌, length};
 ghost use Rattle.commands.specs.Brings.{corrections, matrix};
 ghost use Rattle.input_lines.specs.Runs.{most_lines, list_room, read_after};
 ghost use Rattle.commands.specs.Commands.{most_corrections, most_entries};
 ghost use Rattle.input_lines.specs.States.{given_length, given_count, WordsNoted, Reads};
 
-use super::{Given, LineRead, State, opening};
+use super::{LineRead, State, opening};
 use commands::Command;
 
 // The station of an S line, after those in the list.
@@ -13,37 +13,36 @@ fn note_words(list: &mut [i64], words: usize, command: Command) -> usize
     requires { (list_room ≤ length list.old) × (words ≤ list_room) }
     ensures { WordsNoted list.old words command result list.new }
 {
-    match command {
-        Command::Station(s) => opening::note_station(list, words, s),
-        _ => words,
+    if let Command::Station(s) = command {
+        opening::note_station(list, words, s)
+    } else {
+        words
     }
 }
 
-fn read_after(read: u64, command: Command) -> u64
-    requires { read < most_lines }
-    ensures { result ≡ read_after read command }
+// The state after a line that asks so, but for the words of its list.
+fn state_after(state: State, command: Command) -> State
+    requires { (state.read < most_lines) × (state.lines < most_lines) }
+    ensures { result ≡ record { lines = suc state.lines; read = read_after state.read command; words = state.words; phase = state.phase; corrections = given_count corrections state.corrections command; matrix = given_count matrix state.matrix command } }
 {
+    let lines = state.lines + 1;
     match command {
-        Command::Station(_) => read + 1,
-        _ => read,
-    }
-}
-
-fn corrections_after(given: Given, command: Command) -> Given
-    ensures { result ≡ given_count corrections given command }
-{
-    match command {
-        Command::Corrections(n) => Given::Numbers(n),
-        _ => given,
-    }
-}
-
-fn matrix_after(given: Given, command: Command) -> Given
-    ensures { result ≡ given_count matrix given command }
-{
-    match command {
-        Command::Matrix(n) => Given::Numbers(n),
-        _ => given,
+        Command::Station(_) => State {
+            lines,
+            read: state.read + 1,
+            ..state
+        },
+        Command::Corrections(n) => State {
+            lines,
+            corrections: Some(n),
+            ..state
+        },
+        Command::Matrix(n) => State {
+            lines,
+            matrix: Some(n),
+            ..state
+        },
+        Command::Call(_) | Command::Unreadable => State { lines, ..state },
     }
 }
 
@@ -63,22 +62,9 @@ pub(crate) fn read_line(
 {
     let command = commands::read_command(line, over, state.read, opening::is_unopened(state), x, m);
     let words = note_words(list, state.words, command);
-    let read = read_after(state.read, command);
-    let given = state.corrections;
-    let corrections = corrections_after(given, command);
-    let before = state.matrix;
-    let matrix = matrix_after(before, command);
-    let phase = state.phase;
-    let lines = state.lines + 1;
+    let noted = state_after(state, command);
     LineRead {
-        state: State {
-            lines,
-            read,
-            words,
-            phase,
-            corrections,
-            matrix,
-        },
+        state: State { words, ..noted },
         command,
     }
 }

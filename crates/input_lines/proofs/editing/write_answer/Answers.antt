@@ -10,4 +10,4 @@ unfolding command_says
 returns-in-Unreadable c = record { written = rw c.in-Unreadable.is c.write_unreadable_line.ensures.written; upper_bound = omega (arith, c.write_unreadable_line.ensures.upper_bound) }
 
 pub returns-in_default : goal.returns-in_default
-returns-in_default c = record { written = written_as (says_other c.args.k c.args.number c.args.command c.in_default.not-Unreadable) c.write_refusal.ensures.written; upper_bound = c.write_refusal.ensures.upper_bound }
+returns-in_default c = record { written = written_as (says_other c.args.k _ c.args.command c.in_default.not-Unreadable) c.write_refusal.ensures.written; upper_bound = c.write_refusal.ensures.upper_bound }

@@ -5,7 +5,7 @@ use Rattle.input_lines.proofs.obeying.begin_line.Goals as goal
 
 pub returns-then-opens_at : goal.returns-then-opens_at
 returns-then-opens_at c =
-    let o = c.open_list-refusal in
+    let o = c.open_list-answer in
     rw c.opened-state.ensures (begins-open (sym c.opens_at.ensures ∙ c.if-opens_at.true) o.ensures o.auto.book c.write_opening-printed.ensures.written c.write_opening-printed.ensures.upper_bound)
 
 pub returns : goal.returns
