@@ -3,9 +3,7 @@
 --   ChunksTaken   night_print, Whole   chunks taken one after the other, and what they print
 --   Concludes   night_print, Closing    what the end of the input prints
 --   Prints   night_print, Print   document 01's print of a text
-use Rattle.std.specs.Prelude.{ℕ, ◌*◌, ◌≡◌, Bool, false, List, [], ◌∷◌, ◌++◌, length, take, ℤ, pos}
-use Rattle.std.specs.Int.Signed.{lt_z}
-use Rattle.io.specs.Counts.{clamp_len}
+use Rattle.std.specs.Prelude.{ℕ, ◌*◌, ◌≡◌, Bool, false, List, [], ◌∷◌, ◌++◌, Option, is_none, unwrap_or, take}
 use Rattle.text.specs.Lines.{KeptLine, nothing_held, concat}
 use Rattle.printing.specs.Rooms.{line_room}
 use Rattle.input_lines.specs.Runs.{ended, Run, start}
@@ -24,12 +22,12 @@ chunk_room = 768
 abbrev pub out_room : ℕ
 out_room = line_room * chunk_room
 
--- ════ what a read answers: −1 where it failed, or how many bytes it put at the front of the chunk, 0 at the end of the input
-abbrev pub read_failed : ℤ → Bool
-read_failed answer = lt_z answer (pos 0)
+-- ════ what a read answers: none where it failed, or how many bytes it put at the front of the chunk, 0 at the end of the input
+abbrev pub read_failed : Option ℕ → Bool
+read_failed answer = is_none answer
 
-abbrev pub read_gave : ℤ → List ℕ → List ℕ
-read_gave answer chunk = take (clamp_len answer (length chunk)) chunk
+abbrev pub read_gave : Option ℕ → List ℕ → List ℕ
+read_gave answer chunk = take (unwrap_or answer 0) chunk
 
 -- ════ how the program ends, with what it leaves in its buffers `chunk` and `out`
 -- in each case there are chunks ss, taken one after the other, whose lines print t: a chunk is what a turn found in its buffer, and t what the turns left at the front of `out`
@@ -44,7 +42,7 @@ pub data ProgramEnds : Finish → List ℕ → List ℕ → Type 0 where
       ProgramEnds Printed chunk out
   -- the opening was refused at a line of one chunk more, the front of `chunk`: the front of `out` is what its lines print, and with t it is the print of their text, whatever would have come after it
   ends_refused :
-      {ss : List (List ℕ)} {t before chunk out : List ℕ} {r r₁ : Run} {k k₁ : KeptLine} {n : ℕ} (answer : ℤ) →
+      {ss : List (List ℕ)} {t before chunk out : List ℕ} {r r₁ : Run} {k k₁ : KeptLine} {n : ℕ} (answer : Option ℕ) →
       ChunksTaken start nothing_held ss t r k →
       is_ended r.phase ≡ false →
       Takes r k (read_gave answer chunk) before r₁ k₁ n out →

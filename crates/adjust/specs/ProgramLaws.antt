@@ -1,7 +1,6 @@
 -- Turn after turn. Assumes nothing.
-use Rattle.std.specs.Prelude.{ℕ, ◌≤◌, ◌≡◌, refl, Bool, true, false, cond, List, [], ◌∷◌, length, ℤ}
+use Rattle.std.specs.Prelude.{ℕ, ◌≤◌, ◌≡◌, refl, Bool, true, false, cond, List, [], ◌∷◌, Option, unwrap_or, length}
 use Rattle.std.proofs.Common.{arith, length-take}
-use Rattle.io.specs.Counts.{clamp_len}
 use Rattle.text.specs.Lines.{KeptLine, nothing_held}
 use Rattle.input_lines.specs.Runs.{Phase, unopened, opened, ended, Run, start}
 use Rattle.night_print.specs.declared.Progress.{Progress}
@@ -26,8 +25,8 @@ unfolding is_ended
 led_start e b = rw (e, b) (record { chunks = []; bytes = []; led = no_more; going = refl })
 
 -- a read gives no more than the chunk holds
-pub gave_few : (answer : ℤ) (chunk : List ℕ) → length (read_gave answer chunk) ≤ length chunk
-gave_few answer chunk = let e = length-take (clamp_len answer (length chunk)) chunk in omega arith
+pub gave_few : (answer : Option ℕ) (chunk : List ℕ) → length (read_gave answer chunk) ≤ length chunk
+gave_few answer chunk = let e = length-take (unwrap_or answer 0) chunk in omega arith
 
 -- ════ what a turn's progress says of the step
 ended_is : (p : Phase) → is_ended p ≡ true → p ≡ ended
@@ -86,7 +85,7 @@ module _ {r r₁ : Run} {k k₁ : KeptLine} {failed : Bool} {came before after :
     ran_printed chunk e = ends-printed l.led l.going (closed e) (whole-text l.led (closed e))
 
 pub ran-refused :
-    {r r₁ : Run} {k k₁ : KeptLine} {failed : Bool} {chunk before after : List ℕ} {p : Progress} {n : ℕ} (answer : ℤ) →
+    {r r₁ : Run} {k k₁ : KeptLine} {failed : Bool} {chunk before after : List ℕ} {p : Progress} {n : ℕ} (answer : Option ℕ) →
     Steps r k failed (read_gave answer chunk) before p r₁ k₁ n after →
     Led r k →
     p ≡ progress.Refused →

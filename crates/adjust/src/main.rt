@@ -2,18 +2,18 @@
 // contracts of `night_print`; here bytes are read and written. Each chunk's messages are written before the next is read.
 #![tactic(auto)]
 
-ghost use Rattle.std.specs.Prelude.{◌≡◌, ◌+◌, ◌≤◌, length, negsuc, pos, ◌≤ℤ◌};
-ghost use Rattle.layout.specs.Bytes.{book_of};
+ghost use Rattle.std.specs.Prelude.{◌≡◌, ◌+◌, ◌≤◌, IfSome, is_none, option_copied, length};
 ghost use Rattle.layout.specs.Layout.{book_bytes};
-ghost use Rattle.text.specs.Lines.{holds};
 ghost use Rattle.commands.specs.Commands.{most_corrections, most_entries, longest_line};
 ghost use Rattle.input_lines.specs.Runs.{most_lines, list_room};
-ghost use Rattle.input_lines.specs.States.{run_of, Ready};
-ghost use Rattle.night_print.specs.Steps.{Steps, Continues};
+ghost use Rattle.adjustment.specs.Rooms.{run_in, ready_in, held_in, SameRooms};
+ghost use Rattle.night_print.specs.Steps.{bytes_in, Steps, Continues};
 ghost use Rattle.adjust.specs.Program.{chunk_room, out_room, read_failed, read_gave, ProgramEnds};
 
-use adjustment::Taken;
+use adjustment::{Rooms, Taken};
+use layout::Layout;
 use night_print::{Progress, Stepped};
+use normals::Normals;
 use std::io::{Read, Stdin};
 
 // The most bytes that a read gives, and room for what their lines print, or for the end.
@@ -33,127 +33,100 @@ pub enum Finish {
     Unwritten,
 }
 
-// Reads the next chunk to its front: how many bytes came, 0 at the end of the input, −1 where the read failed.
-fn read_chunk(input: &mut Stdin, chunk: &mut [u8]) -> isize
-    ensures in_bounds { (negsuc 0 ≤ℤ result) × (result ≤ℤ pos (length chunk.new)) }
+// A turn: what the read gave, as `read_chunk` has it, and the step that took it.
+#[derive(Clone, Copy)]
+struct Turned {
+    read: Option<usize>,
+    stepped: Stepped,
+}
+
+// Reads the next chunk to its front: how many bytes came, 0 at the end of the input; None where the read failed.
+fn read_chunk(input: &mut Stdin, chunk: &mut [u8]) -> Option<usize>
+    ensures in_bounds { IfSome result (λ n. n ≤ length chunk.new) }
 {
-    match input.read(chunk) {
-        Ok(n) => n as isize,
-        Err(_) => -1,
+    input.read(chunk).ok()
+}
+
+// What the read gave, at the front of the chunk.
+fn bytes_read(chunk: &[u8], read: Option<usize>) -> Option<&[u8]>
+    requires { IfSome read (λ n. n ≤ length chunk.now) }
+    ensures failed { is_none result ≡ read_failed read }
+    ensures gave { bytes_in (option_copied result) ≡ read_gave read chunk.now }
+{
+    match read {
+        Some(n) => Some(&chunk[..n]),
+        None => None,
     }
 }
 
-// Reads the next chunk and takes its lines: the front of `chunk` is what read gave, `answer` what it answered, and the front of `out` is to be written next.
+// Reads the next chunk and takes its lines: the front of `chunk` is what read gave, and the front of `out` is to be written next.
 fn turn(
     input: &mut Stdin,
     taken: Taken,
-    answer: &mut isize,
-    line: &mut [u8],
-    book: &mut [u8],
-    list: &mut [i64],
-    x: &mut [i64],
-    m: &mut [i64],
+    rooms: &mut Rooms,
     chunk: &mut [u8],
     out: &mut [u8],
-) -> Stepped
-    requires ready { Ready taken.state book.old list.old x.old m.old }
-    requires line_len { (length line.old ≡ longest_line) × (taken.len ≤ longest_line) × (taken.state.lines + chunk_room + 1 ≤ most_lines) × (length chunk.old ≡ chunk_room) × (out_room ≤ length out.old) }
-    ensures steps { Steps (run_of taken.state (book_of book.old) list.old x.old m.old) (holds line.old taken.len taken.over) (read_failed answer.new) (read_gave answer.new chunk.new) out.old result.progress (run_of result.taken.state (book_of book.new) list.new x.new m.new) (holds line.new result.taken.len result.taken.over) result.printed out.new }
-    ensures continues { Continues taken (read_gave answer.new chunk.new) result.progress result.taken result.printed book.new list.new x.new m.new out.new }
+) -> Turned
+    requires ready { ready_in taken.state rooms.old }
+    requires line_len { (length rooms.old.line.now ≡ longest_line) × (taken.len ≤ longest_line) × (taken.state.lines + chunk_room + 1 ≤ most_lines) × (length chunk.old ≡ chunk_room) × (out_room ≤ length out.old) }
+    ensures same { SameRooms rooms.old rooms.new }
+    ensures steps { Steps (run_in taken.state rooms.old) (held_in taken rooms.old) (read_failed result.read) (read_gave result.read chunk.new) out.old result.stepped.progress (run_in result.stepped.taken.state rooms.new) (held_in result.stepped.taken rooms.new) result.stepped.printed out.new }
+    ensures continues { Continues taken (read_gave result.read chunk.new) result.stepped.progress result.stepped.taken result.stepped.printed rooms.new.book.now rooms.new.list.now rooms.new.x.now rooms.new.m.now out.new }
 {
-    let got = read_chunk(input, chunk);
-    *answer = got;
-    let n = io::count(got, chunk);
-    let failed = got < 0;
-    night_print::step(taken, failed, &chunk[..n], line, book, list, x, m, out)
+    let read = read_chunk(input, chunk);
+    let came = bytes_read(chunk, read);
+    let stepped = night_print::step(taken, came, rooms, out);
+    Turned { read, stepped }
 }
 
 // Takes chunk after chunk, and writes what each prints before the next is read. An input of more reads than lines can be numbered counts as one that could not be read to its end.
-fn run(
-    input: &mut Stdin,
-    line: &mut [u8],
-    book: &mut [u8],
-    list: &mut [i64],
-    x: &mut [i64],
-    m: &mut [i64],
-    chunk: &mut [u8],
-    out: &mut [u8],
-) -> Finish
-    requires { (length line.old ≡ longest_line) × (book_bytes ≤ length book.old) × (list_room ≤ length list.old) × (most_corrections ≤ length x.old) × (most_entries ≤ length m.old) × (length chunk.old ≡ chunk_room) × (out_room ≤ length out.old) }
+fn run(input: &mut Stdin, rooms: &mut Rooms, chunk: &mut [u8], out: &mut [u8]) -> Finish
+    requires { (length rooms.old.line.now ≡ longest_line) × (book_bytes ≤ length rooms.old.book.now) × (list_room ≤ length rooms.old.list.now) × (most_corrections ≤ length rooms.old.x.now) × (most_entries ≤ length rooms.old.m.now) × (length chunk.old ≡ chunk_room) × (out_room ≤ length out.old) }
     ensures { ProgramEnds result chunk.new out.new }
 {
     let mut taken = adjustment::begin();
-    let mut answer: isize = 0;
-    let mut reads: usize = 0;
-    while reads < MOST_READS {
-        let s = turn(
-            input,
-            taken,
-            &mut answer,
-            line,
-            book,
-            list,
-            x,
-            m,
-            chunk,
-            out,
-        );
-        let printed = s.printed;
-        let progress = s.progress;
-        if !io::write_all(1, &out[0..printed]) {
+    for _ in 0..MOST_READS {
+        let t = turn(input, taken, rooms, chunk, out);
+        let s = t.stepped;
+        if !io::write_all(1, &out[..s.printed]) {
             return Finish::Unwritten;
         }
-        match progress {
+        match s.progress {
             Progress::Finished => return Finish::Printed,
             Progress::Refused => return Finish::Refused,
             Progress::Unread => return Finish::Unread,
             Progress::Reading => {}
         }
-        let next = s.taken;
-        taken = next;
-        reads += 1;
+        taken = s.taken;
     }
     Finish::Unread
 }
 
-fn out_room() -> [u8; OUT_ROOM]
-    ensures { out_room ≡ length result }
-{
-    [0; OUT_ROOM]
-}
-
-fn chunk_room() -> [u8; CHUNK_ROOM]
-    ensures { chunk_room ≡ length result }
-{
-    [0; CHUNK_ROOM]
-}
-
 // A failed read is told on standard error, so that what was printed is not taken for all.
 fn tell(finish: Finish) {
-    match finish {
-        Finish::Printed => {}
-        Finish::Refused => {}
-        Finish::Unwritten => {}
-        Finish::Unread => {
-            io::write_all(
-                2,
-                b"adjust: the input could not be read to its end; nothing after this point was applied, and no sheet is printed\n",
-            );
-        }
+    if let Finish::Unread = finish {
+        io::write_all(
+            2,
+            b"adjust: the input could not be read to its end; nothing after this point was applied, and no sheet is printed\n",
+        );
     }
 }
 
 fn main(rt: HostRuntime) {
     let mut input = rt.stdin();
-    let mut line = night_print::line_room();
-    let mut book = night_print::book_room();
-    let mut list = night_print::list_room();
-    let mut x = night_print::corrections_room();
-    let mut m = night_print::matrix_room();
-    let mut chunk = chunk_room();
-    let mut out = out_room();
-    let finish = run(
-        &mut input, &mut line, &mut book, &mut list, &mut x, &mut m, &mut chunk, &mut out,
-    );
-    tell(finish);
+    let mut line = [0; commands::LONGEST_LINE];
+    let mut book = [0; Layout::BOOK_BYTES];
+    let mut list = [0; input_lines::LIST_ROOM];
+    let mut x = [0; Normals::ROW];
+    let mut m = [0; Normals::ENTRIES];
+    let mut rooms = Rooms {
+        line: &mut line,
+        book: &mut book,
+        list: &mut list,
+        x: &mut x,
+        m: &mut m,
+    };
+    let mut chunk = [0; CHUNK_ROOM];
+    let mut out = [0; OUT_ROOM];
+    tell(run(&mut input, &mut rooms, &mut chunk, &mut out));
 }

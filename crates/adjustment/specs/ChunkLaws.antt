@@ -2,16 +2,18 @@
 use Rattle.std.specs.Prelude.{ℕ, suc, ◌+◌, ◌*◌, ◌≤◌, ◌≡◌, refl, Bool, true, false, List, [], ◌++◌, length, take, drop, ℤ}
 use Rattle.std.proofs.Math.Path.{sym}
 use Rattle.std.proofs.Common.{◌∙◌, append-nil, append_assoc, arith, drop_of_length-le}
-use Rattle.layout.specs.Bytes.{book_of}
 use Rattle.text.specs.declared.Fed.{Fed}
 use Rattle.text.specs.Lines.{KeptLine, nothing_held, in_front, came, holds, Feeds}
 use Rattle.text.specs.LineLaws.{fed_fits, fed_on, fed_line, fed_part}
 use Rattle.commands.specs.Commands.{longest_line}
 use Rattle.printing.specs.Rooms.{line_room}
-use Rattle.input_lines.specs.declared.State.{State}
+use Rattle.input_lines.specs.declared.Reached.{Reached}
 use Rattle.input_lines.specs.Runs.{Run, next, says, run_after, says_all}
-use Rattle.input_lines.specs.States.{run_of, Ready, RunsTo}
+use Rattle.input_lines.specs.States.{RunsTo}
 use Rattle.input_lines.specs.StateLaws.{written_front, written-beyond, drop_further}
+use Rattle.adjustment.specs.declared.Rooms.{Rooms}
+use Rattle.adjustment.specs.declared.Taken.{Taken}
+use Rattle.adjustment.specs.Rooms.{run_in, ready_in, held_in, SameRooms}
 use Rattle.adjustment.specs.Chunks.{Takes, Ahead}
 
 -- ════ the lines of a chunk
@@ -53,32 +55,42 @@ module _ (r₀ : Run) (k₀ : KeptLine) (chunk before : List ℕ) where
     ahead_end l = ahead_part (rw (drop_of_length-le chunk l))
 
 -- ════ in the middle of a chunk
-pub record Middle (s₀ : State) (bytes₀ : List ℕ) (list₀ x₀ m₀ : List ℤ) (line₀ : List ℕ) (len₀ : ℕ) (over₀ : Bool) (chunk out₀ : List ℕ) (s : State) (bytes : List ℕ) (list x m : List ℤ) (line : List ℕ) (len : ℕ) (over : Bool) (at p : ℕ) (out : List ℕ) : Type 0 where
-  pub ready : Ready s bytes list x m
-  pub line_long : length line ≡ longest_line
-  pub line_kept : length line ≡ length line₀
-  pub book_kept : length bytes ≡ length bytes₀
-  pub list_kept : length list ≡ length list₀
-  pub x_kept : length x ≡ length x₀
-  pub m-kept : length m ≡ length m₀
+pub record Middle (t₀ : Taken) (rooms₀ : Rooms) (chunk out₀ : List ℕ) (reached : Reached) (rooms : Rooms) (len : ℕ) (over : Bool) (at : ℕ) (out : List ℕ) : Type 0 where
+  pub same : SameRooms rooms₀ rooms
+  pub ready : ready_in reached.state rooms
+  pub line_long : length rooms.line.now ≡ longest_line
   pub out-kept : length out ≡ length out₀
   pub len_fits : len ≤ longest_line
   pub at-fits : at ≤ length chunk
-  pub lines : s.lines ≤ s₀.lines + at
-  pub p_fits : p ≤ line_room * at
-  pub ahead : Ahead (run_of s₀ (book_of bytes₀) list₀ x₀ m₀) (holds line₀ len₀ over₀) chunk out₀ (run_of s (book_of bytes) list x m) (holds line len over) at p out
+  pub lines : reached.state.lines ≤ t₀.state.lines + at
+  pub p_fits : reached.printed ≤ line_room * at
+  pub ahead : Ahead (run_in t₀.state rooms₀) (held_in t₀ rooms₀) chunk out₀ (run_in reached.state rooms) (holds rooms.line.now len over) at reached.printed out
 
-module _ {s₀ : State} {bytes₀ : List ℕ} {list₀ x₀ m₀ : List ℤ} {line₀ : List ℕ} {len₀ : ℕ} {over₀ : Bool} {chunk out₀ : List ℕ} where
-  pub middle_start : Ready s₀ bytes₀ list₀ x₀ m₀ → length line₀ ≡ longest_line → len₀ ≤ longest_line → Middle s₀ bytes₀ list₀ x₀ m₀ line₀ len₀ over₀ chunk out₀ s₀ bytes₀ list₀ x₀ m₀ line₀ len₀ over₀ 0 0 out₀
+pub same_rooms : (r : Rooms) → SameRooms r r
+same_rooms r = record { line = refl; book = refl; list = refl; x = refl; m = refl; line_kept = refl; book_kept = refl; list_kept = refl; x_kept = refl; m_kept = refl }
+
+pub same_then : {q r s : Rooms} → SameRooms q r → SameRooms r s → SameRooms q s
+same_then a b =
+    record {
+      line = b.line ∙ a.line;
+      book = b.book ∙ a.book;
+      list = b.list ∙ a.list;
+      x = b.x ∙ a.x;
+      m = b.m ∙ a.m;
+      line_kept = b.line_kept ∙ a.line_kept;
+      book_kept = b.book_kept ∙ a.book_kept;
+      list_kept = b.list_kept ∙ a.list_kept;
+      x_kept = b.x_kept ∙ a.x_kept;
+      m_kept = b.m_kept ∙ a.m_kept;
+    }
+
+module _ {t₀ : Taken} {rooms₀ : Rooms} {chunk out₀ : List ℕ} where
+  pub middle_start : ready_in t₀.state rooms₀ → length rooms₀.line.now ≡ longest_line → t₀.len ≤ longest_line → Middle t₀ rooms₀ chunk out₀ (record { state = t₀.state; printed = 0 }) rooms₀ t₀.len t₀.over 0 out₀
   middle_start r l f =
       record {
+        same = same_rooms rooms₀;
         ready = r;
         line_long = l;
-        line_kept = refl;
-        book_kept = refl;
-        list_kept = refl;
-        x_kept = refl;
-        m-kept = refl;
         out-kept = refl;
         len_fits = f;
         at-fits = omega arith;
@@ -87,46 +99,40 @@ module _ {s₀ : State} {bytes₀ : List ℕ} {list₀ x₀ m₀ : List ℤ} {li
         ahead = ahead-start _ _ _ _;
       }
 
-  module _ {s : State} {bytes : List ℕ} {list x m : List ℤ} {line : List ℕ} {len : ℕ} {over : Bool} {at p : ℕ} {out : List ℕ} (h : Middle s₀ bytes₀ list₀ x₀ m₀ line₀ len₀ over₀ chunk out₀ s bytes list x m line len over at p out) where
-    fits : len ≤ length line
+  module _ {reached : Reached} {rooms : Rooms} {len : ℕ} {over : Bool} {at : ℕ} {out : List ℕ} (h : Middle t₀ rooms₀ chunk out₀ reached rooms len over at out) where
+    fits : len ≤ length rooms.line.now
     fits = omega (arith, h.len_fits, h.line_long)
 
+    -- a line ended, with the buffer at line' as it was obeyed
     pub middle-line :
-        {fed : Fed} {line' : List ℕ} (k : KeptLine) {s' : State} {bytes' : List ℕ} {list' x' m' : List ℤ} {q : ℕ} {out' : List ℕ} →
-        Feeds line len over chunk at fed line' →
+        {fed : Fed} {line' : List ℕ} {reached' : Reached} {rooms' : Rooms} {out' : List ℕ} →
+        Feeds rooms.line.now len over chunk at fed line' →
         fed.whole ≡ true →
-        length line' ≡ length line →
-        k ≡ holds line' fed.len fed.over →
-        RunsTo (next (run_of s (book_of bytes) list x m) k) (says (run_of s (book_of bytes) list x m) k) line_room out p (run_of s' (book_of bytes') list' x' m') q out' →
-        Ready s' bytes' list' x' m' →
-        s'.lines ≡ suc s.lines →
-        length bytes' ≡ length bytes →
-        length list' ≡ length list →
-        length x' ≡ length x →
-        length m' ≡ length m →
+        RunsTo (next (run_in reached.state rooms) (holds line' fed.len fed.over)) (says (run_in reached.state rooms) (holds line' fed.len fed.over)) line_room out reached.printed (run_in reached'.state rooms') reached'.printed out' →
+        ready_in reached'.state rooms' →
+        reached'.state.lines ≡ suc reached.state.lines →
+        SameRooms rooms₀ rooms' →
         length out' ≡ length out →
         line_room * length chunk ≤ length out₀ →
-        Middle s₀ bytes₀ list₀ x₀ m₀ line₀ len₀ over₀ chunk out₀ s' bytes' list' x' m' line' 0 false fed.next q out'
-    middle-line {fed} {line'} k {s'} {bytes'} {list'} {x'} {m'} {q} {out'} f whole ll is n rd li lb lx ly lz lo room =
-        let on = fed_on line len over chunk at fed line' fits f whole in
+        Middle t₀ rooms₀ chunk out₀ reached' rooms' 0 false fed.next out'
+    middle-line {fed} {line'} {reached'} {rooms'} {out'} f whole n rd li sr lo room =
+        let on = fed_on rooms.line.now len over chunk at fed line' fits f whole in
         let w = n.written in
+        let p = reached.printed in
+        let q = reached'.printed in
         let fit : q ≤ length out = omega (arith, n.few, h.p_fits, h.out-kept, on.0, on.1, room) in
         record {
+          same = sr;
           ready = rd;
-          line_long = ll ∙ h.line_long;
-          line_kept = ll ∙ h.line_kept;
-          book_kept = lb ∙ h.book_kept;
-          list_kept = lx ∙ h.list_kept;
-          x_kept = ly ∙ h.x_kept;
-          m-kept = lz ∙ h.m-kept;
+          line_long = sr.line_kept ∙ sym h.same.line_kept ∙ h.line_long;
           out-kept = lo ∙ h.out-kept;
           len_fits = omega arith;
           at-fits = on.1;
           lines = omega (arith, li, h.lines, on.0);
           p_fits = omega (arith, n.few, h.p_fits, on.0);
           ahead =
-              ahead-line _ _ chunk out₀ h.ahead (run_of s' (book_of bytes') list' x' m')
-              (rw is (rw h.line_long at (fed_line line len over chunk at fed line' fits f whole)))
+              ahead-line _ _ chunk out₀ h.ahead (run_in reached'.state rooms')
+              (rw h.line_long at (fed_line rooms.line.now len over chunk at fed line' fits f whole))
               n.run
               (written_front w fit)
               (written-beyond w fit ∙ drop_further out out₀ p q (omega (arith, w.past)) h.ahead.beyond);
@@ -135,13 +141,13 @@ module _ {s₀ : State} {bytes₀ : List ℕ} {list₀ x₀ m₀ : List ℤ} {li
     -- the chunk ended within a line
     pub middle-part :
         {fed : Fed} {line' : List ℕ} →
-        Feeds line len over chunk at fed line' →
+        Feeds rooms.line.now len over chunk at fed line' →
         fed.whole ≡ false →
-        Takes (run_of s₀ (book_of bytes₀) list₀ x₀ m₀) (holds line₀ len₀ over₀) chunk out₀ (run_of s (book_of bytes) list x m) (holds line' fed.len fed.over) p out × (fed.len ≤ longest_line)
+        Takes (run_in t₀.state rooms₀) (held_in t₀ rooms₀) chunk out₀ (run_in reached.state rooms) (holds line' fed.len fed.over) reached.printed out × (fed.len ≤ longest_line)
     middle-part {fed} {line'} f whole = (
-      ahead_part _ _ chunk out₀ h.ahead (rw h.line_long at (fed_part line len over chunk at fed line' fits f whole)),
-      omega (arith, fed_fits line len over chunk at fed line' fits f, h.line_long),
+      ahead_part _ _ chunk out₀ h.ahead (rw h.line_long at (fed_part rooms.line.now len over chunk at fed line' fits f whole)),
+      omega (arith, fed_fits rooms.line.now len over chunk at fed line' fits f, h.line_long),
     )
 
-    pub middle_end : length chunk ≤ at → Takes (run_of s₀ (book_of bytes₀) list₀ x₀ m₀) (holds line₀ len₀ over₀) chunk out₀ (run_of s (book_of bytes) list x m) (holds line len over) p out
+    pub middle_end : length chunk ≤ at → Takes (run_in t₀.state rooms₀) (held_in t₀ rooms₀) chunk out₀ (run_in reached.state rooms) (holds rooms.line.now len over) reached.printed out
     middle_end l = ahead_end _ _ chunk out₀ h.ahead l

@@ -1,5 +1,5 @@
 -- The cases of the end of an input. Assumes nothing.
-use Rattle.std.specs.Prelude.{ℕ, ◌≤◌, ◌≡◌, ◌||◌, List, take, ℤ}
+use Rattle.std.specs.Prelude.{ℕ, ◌≤◌, ◌≡◌, ◌||◌, List, Option, Some, None, is_some, take, ℤ}
 use Rattle.std.proofs.Math.Path.{refl}
 use Rattle.std.proofs.Common.{sym, ◌∙◌, append-nil, arith}
 use Rattle.std.proofs.Math.Bool.{true, false}
@@ -15,44 +15,39 @@ use Rattle.printing.specs.Reports.{check_says, Offer, offer_says, no_pair}
 use Rattle.printing.specs.Reports as reports
 use Rattle.input_lines.specs.declared.Phase as code-phase
 use Rattle.input_lines.specs.declared.Phase.TheVariants.{Unopened, Opened, Ended}
-use Rattle.input_lines.specs.declared.Given as code-given
-use Rattle.input_lines.specs.declared.Given.TheVariants as code
 use Rattle.input_lines.specs.declared.State.{State}
 use Rattle.input_lines.specs.Runs.{opened, ended, phase_with, phase_opened, opening_says}
-use Rattle.input_lines.specs.States.{phase_of, given_of, is_given, given_length, run_of, opened_phase, ended_phase}
+use Rattle.input_lines.specs.States.{phase_of, given_of, given_length, run_of, opened_phase, ended_phase}
 use Rattle.adjustment.specs.Ends.{book_ends, phase_ends, end_says, BookEnds, RunEnds}
 
 -- ════ a book
 module _ (b : Book) (x m : List ℤ) where
-  pub ends_check : (g h : code-given.Given) → (is_given g || is_given h) ≡ true → check_says b (take (given_length g) x) (take (given_length h) m) ≡ book_ends (given_of g x) (given_of h m) b reports.none
-  unfolding is_given given_length given_of book_ends
-  ends_check code.Nothing code.Nothing e = let z : false ≡ true = e in cc
-  ends_check code.Nothing (code.Numbers n) e = refl
-  ends_check (code.Numbers k) code.Nothing e = refl
-  ends_check (code.Numbers k) (code.Numbers n) e = refl
+  pub ends_check : (g h : Option ℕ) → (is_some g || is_some h) ≡ true → check_says b (take (given_length g) x) (take (given_length h) m) ≡ book_ends (given_of g x) (given_of h m) b reports.none
+  unfolding given_of book_ends
+  ends_check None None e = let z : false ≡ true = e in cc
+  ends_check None (Some n) e = refl
+  ends_check (Some k) None e = refl
+  ends_check (Some k) (Some n) e = refl
 
-  pub ends_offer : (g h : code-given.Given) (o : Offer) → (is_given g || is_given h) ≡ false → offer_says b o ≡ book_ends (given_of g x) (given_of h m) b o
-  unfolding is_given given_of book_ends
-  ends_offer code.Nothing code.Nothing o e = refl
-  ends_offer code.Nothing (code.Numbers n) o e = let z : true ≡ false = e in cc
-  ends_offer (code.Numbers k) code.Nothing o e = let z : true ≡ false = e in cc
-  ends_offer (code.Numbers k) (code.Numbers n) o e = let z : true ≡ false = e in cc
+  pub ends_offer : (g h : Option ℕ) (o : Offer) → (is_some g || is_some h) ≡ false → offer_says b o ≡ book_ends (given_of g x) (given_of h m) b o
+  unfolding given_of book_ends
+  ends_offer None None o e = refl
+  ends_offer None (Some n) o e = let z : true ≡ false = e in cc
+  ends_offer (Some k) None o e = let z : true ≡ false = e in cc
+  ends_offer (Some k) (Some n) o e = let z : true ≡ false = e in cc
 
 -- ════ phases
 pub only_ended : (p : code-phase.Phase) → ended_phase p ≡ true → p ≡ Ended
-unfolding ended_phase
 only_ended Unopened e = let z : false ≡ true = e in cc
 only_ended Opened e = let z : false ≡ true = e in cc
 only_ended Ended e = refl
 
 pub only-opened : (p : code-phase.Phase) → opened_phase p ≡ true → p ≡ Opened
-unfolding opened_phase
 only-opened Unopened e = let z : false ≡ true = e in cc
 only-opened Opened e = refl
 only-opened Ended e = let z : false ≡ true = e in cc
 
 pub only_unopened : (p : code-phase.Phase) → ended_phase p ≡ false → opened_phase p ≡ false → p ≡ Unopened
-unfolding ended_phase opened_phase
 only_unopened Unopened e f = refl
 only_unopened Opened e f = let z : true ≡ false = f in cc
 only_unopened Ended e f = let z : true ≡ false = e in cc

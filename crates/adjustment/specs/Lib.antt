@@ -1,3 +1,4 @@
+pub mod Rooms
 pub mod Chunks
 pub mod ChunkLaws
 pub mod Ends

@@ -2,45 +2,27 @@
 ghost use Rattle.std.specs.Prelude.{◌≡◌, true, ◌≤◌, length};
 ghost use Rattle.layout.specs.Bytes.{book_of, bytes_fit};
 ghost use Rattle.printing.specs.Rooms.{sheet_room};
-ghost use Rattle.input_lines.specs.States.{given_length, given_of, is_given, run_of, Ready};
+ghost use Rattle.input_lines.specs.States.{given_length, given_of, run_of, Ready};
 ghost use Rattle.adjustment.specs.Ends.{BookEnds, RunEnds};
 
-use input_lines::{Given, State};
-
-fn count(given: Given) -> usize
-    ensures { result ≡ given_length given }
-{
-    match given {
-        Given::Nothing => 0,
-        Given::Numbers(n) => n,
-    }
-}
-
-fn is_given(given: Given) -> bool
-    ensures { result ≡ is_given given }
-{
-    match given {
-        Given::Nothing => false,
-        Given::Numbers(_) => true,
-    }
-}
+use input_lines::{Phase, State};
 
 // What the end prints of a book.
 fn conclude(
     out: &mut [u8],
     book: &[u8],
-    corrections: Given,
-    matrix: Given,
+    corrections: Option<usize>,
+    matrix: Option<usize>,
     x: &[i64],
     m: &[i64],
 ) -> usize
     requires { (bytes_fit book.now ≡ true) × (given_length corrections ≤ length x.now) × (given_length matrix ≤ length m.now) × (sheet_room ≤ length out.old) }
     ensures { BookEnds (given_of corrections x.now) (given_of matrix m.now) (book_of book.now) out.old result out.new }
 {
-    if is_given(corrections) | is_given(matrix) {
-        let n = count(corrections);
-        let entries = count(matrix);
-        return printing::write_check(out, book, &x[0..n], &m[0..entries]);
+    if corrections.is_some() | matrix.is_some() {
+        let n = corrections.unwrap_or(0);
+        let entries = matrix.unwrap_or(0);
+        return printing::write_check(out, book, &x[..n], &m[..entries]);
     }
     printing::write_proposal(out, book)
 }
@@ -57,17 +39,12 @@ pub fn finish(
     requires { Ready state book.old list.now x.now m.now × (sheet_room ≤ length out.old) }
     ensures { RunEnds (run_of state (book_of book.old) list.now x.now m.now) out.old result out.new }
 {
-    let corrections = state.corrections;
-    let matrix = state.matrix;
-    if input_lines::is_ended(state) {
-        return 0;
+    match state.phase {
+        Phase::Ended => 0,
+        Phase::Opened => conclude(out, book, state.corrections, state.matrix, x, m),
+        Phase::Unopened => match input_lines::open_list(list, state.words, book) {
+            Ok(()) => conclude(out, book, state.corrections, state.matrix, x, m),
+            Err(refusal) => printing::write_refused(out, 0, u64::from(refusal)),
+        },
     }
-    if input_lines::is_opened(state) {
-        return conclude(out, book, corrections, matrix, x, m);
-    }
-    let refusal = input_lines::open_list(list, state.words, book);
-    if refusal != 0 {
-        return printing::write_refused(out, 0, refusal);
-    }
-    conclude(out, book, corrections, matrix, x, m)
 }

@@ -15,7 +15,7 @@ use Rattle.adjustment.specs.declared.Taken.{Taken}
 use Rattle.night_print.specs.Steps.{is_ended, Steps, Continues}
 
 pub ended_phase_lem : (p : code-phase.Phase) (b : Book) → is_ended (phase_of p b) ≡ ended_phase p
-unfolding is_ended phase_of ended_phase
+unfolding is_ended phase_of
 ended_phase_lem Unopened b = refl
 ended_phase_lem Opened b = refl
 ended_phase_lem Ended b = refl

@@ -1,5 +1,5 @@
 -- One step of a run, by what a read gave. Assumes nothing.
-use Rattle.std.specs.Prelude.{ℕ, ◌+◌, ◌≤◌, ◌≡◌, Bool, true, false, cond, List, [], length, ℤ}
+use Rattle.std.specs.Prelude.{ℕ, ◌+◌, ◌≤◌, ◌≡◌, Bool, true, false, cond, List, [], Option, unwrap_or, length, ℤ}
 use Rattle.text.specs.Lines.{KeptLine}
 use Rattle.commands.specs.Commands.{longest_line}
 use Rattle.input_lines.specs.Runs.{Phase, unopened, opened, ended, Run}
@@ -15,6 +15,10 @@ unfoldable pub is_ended : Phase → Bool
 is_ended unopened = false
 is_ended (opened b) = false
 is_ended ended = true
+
+-- the bytes that a read gave: none where it failed
+abbrev pub bytes_in : Option (List ℕ) → List ℕ
+bytes_in came = unwrap_or came []
 
 -- from the run r, with k held of a line, where a read gave the bytes `came` or `failed`: what is to be written stands at the front of `after`, up to n. The run that is left, r₁ with k₁ held, is
 -- free at the end of the input and after a failed read

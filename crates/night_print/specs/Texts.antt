@@ -1,7 +1,5 @@
 -- What the print of a whole text leaves in a lent buffer. Assumes nothing.
-use Rattle.std.specs.Prelude.{ℕ, ◌+◌, ◌*◌, ◌≤◌, ◌≡◌, Bool, true, false, List, leb, length, take, drop}
-use Rattle.night_print.specs.declared.Printing.{Printing}
-use Rattle.night_print.specs.declared.Printing.TheVariants.{Bytes, NoRoom}
+use Rattle.std.specs.Prelude.{ℕ, ◌+◌, ◌*◌, ◌≤◌, ◌≡◌, Bool, true, false, List, Option, Some, None, leb, length, take, drop}
 use Rattle.printing.specs.Rooms.{line_room}
 use Rattle.night_print.specs.Closing.{end_room}
 use Rattle.night_print.specs.Print.{Prints}
@@ -17,6 +15,6 @@ abbrev pub print_room : List ℕ → List ℕ → Bool
 print_room text out = leb (line_room * length text + end_room) (length out)
 
 -- how many bytes it has, or that there is too little room, and then nothing is written
-unfoldable pub Printed : List ℕ → List ℕ → Printing → List ℕ → Type 0
-Printed text before (Bytes n) after = (print_room text before ≡ true) × PrintsAll text before n after
-Printed text before NoRoom after = (print_room text before ≡ false) × (after ≡ before)
+unfoldable pub Printed : List ℕ → List ℕ → Option ℕ → List ℕ → Type 0
+Printed text before (Some n) after = (print_room text before ≡ true) × PrintsAll text before n after
+Printed text before None after = (print_room text before ≡ false) × (after ≡ before)

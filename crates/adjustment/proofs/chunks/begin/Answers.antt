@@ -1,11 +1,11 @@
 -- Nothing is read, held or printed, and no book is opened: each part is as a run starts. Assumes nothing.
 use mathlib.Core.Path.{refl}
 use native.Mathlib.Omega.{arith}
-use Rattle.input_lines.specs.States.{phase_of, given_of, opened_phase, given_length}
+use Rattle.input_lines.specs.States.{phase_of, given_of, opened_phase}
 use Rattle.adjustment.proofs.chunks.begin.Goals as goal
 
 pub returns : goal.returns
-unfolding phase_of given_of opened_phase given_length
+unfolding phase_of given_of
 returns c =
     record {
       run = λ b list x m. refl;

@@ -16,58 +16,69 @@ loop-at-init c = middle_start c.requires.ready c.requires.line_len.0 c.requires.
 
 pub feed-fed-requires : goal.feed-fed-requires
 feed-fed-requires c =
-    let held_fits : c.loop-at.len ≤ length c.loop-at.line = let h = c.loop-at.invariant in omega (arith, h.len_fits, h.line_long) in
+    let held_fits : c.loop-at.len ≤ length c.loop-at.rooms.line.now = let h = c.loop-at.invariant in omega (arith, h.len_fits, h.line_long) in
     held_fits
-
-pub shape_of-line-then-not-fed : goal.shape_of-line-then-not-fed
-shape_of-line-then-not-fed c = c.feed-fed.auto.line ∙ c.loop-at.invariant.line_kept
-
-pub shape_of-line : goal.shape_of-line
-shape_of-line c = c.loop-at.invariant.line_kept
 
 pub returns-then-not-fed : goal.returns-then-not-fed
 returns-then-not-fed c =
     let h = c.loop-at.invariant in
     let q = middle-part h c.feed-fed.ensures (not-true _ c.if-not-fed.true) in
     record {
+      same = record {
+        line = h.same.line;
+        book = h.same.book;
+        list = h.same.list;
+        x = h.same.x;
+        m = h.same.m;
+        line_kept = c.feed-fed.auto.line ∙ h.same.line_kept;
+        book_kept = h.same.book_kept;
+        list_kept = h.same.list_kept;
+        x_kept = h.same.x_kept;
+        m_kept = h.same.m_kept;
+      };
       takes = rw c.taken_to.ensures q.0;
       ready_2 = rw c.taken_to.ensures (h.ready, q.1, omega (arith, h.lines, h.at-fits), omega (arith, h.p_fits, h.at-fits));
     }
 
-pub slice_bounds-obey-end : goal.slice_bounds-obey-end
-slice_bounds-obey-end c =
-    let held_fits : c.loop-at.len ≤ length c.loop-at.line = let h = c.loop-at.invariant in omega (arith, h.len_fits, h.line_long) in
-    let fed-holds : c.feed-fed.result.len ≤ length c.feed-fed.new.line = omega (arith, fed_fits _ _ _ _ _ _ _ held_fits c.feed-fed.ensures, c.feed-fed.auto.line) in
-    fed-holds
-
-pub obey-after-requires : goal.obey-after-requires
-obey-after-requires c =
+pub obey_line-reached-requires : goal.obey_line-reached-requires
+obey_line-reached-requires c =
     let t = c.loop-at-test.true in
     let h = c.loop-at.invariant in
     let p = c.requires.line_len in
-    record { ready = h.ready; lines_lt_most_lines = (omega (arith, h.lines, t, p.2), omega (arith, h.p_fits, h.out-kept, t, p.3)) }
+    let held_fits : c.loop-at.len ≤ length c.loop-at.rooms.line.now = omega (arith, h.len_fits, h.line_long) in
+    record { ready = h.ready; line_len = (omega (arith, fed_fits _ _ _ _ _ _ _ held_fits c.feed-fed.ensures, c.feed-fed.auto.line), omega (arith, h.lines, t, p.2), omega (arith, h.p_fits, h.out-kept, t, p.3)) }
 
 pub loop-at-smaller : goal.loop-at-smaller
 loop-at-smaller c =
-    let held_fits : c.loop-at.len ≤ length c.loop-at.line = let h = c.loop-at.invariant in omega (arith, h.len_fits, h.line_long) in
+    let held_fits : c.loop-at.len ≤ length c.loop-at.rooms.line.now = let h = c.loop-at.invariant in omega (arith, h.len_fits, h.line_long) in
     let on = fed_on _ _ _ _ _ _ _ held_fits c.feed-fed.ensures (not-false _ c.if-not-fed.false) in
     omega (arith, on.0, on.1)
 
 pub loop-at-preserved : goal.loop-at-preserved
 loop-at-preserved c =
-    let o = c.obey-after in
-    let held = c.feed-fed.new.line in
-    let fed = c.feed-fed.result in
-    middle-line c.loop-at.invariant (record { text = take (fed.len - 0) held; over = fed.over }) c.feed-fed.ensures (not-false _ c.if-not-fed.false) c.feed-fed.auto.line
-    (ap (λ (n : ℕ). holds held n fed.over) (sub-zero fed.len))
-    o.ensures.runs_to o.ensures.ready_2.0 o.ensures.ready_2.1
-    o.auto.book o.auto.list o.auto.x o.auto.m o.auto.out
-    c.requires.line_len.3
+    let h = c.loop-at.invariant in
+    let o = c.obey_line-reached in
+    let k = o.ensures.same in
+    middle-line h c.feed-fed.ensures (not-false _ c.if-not-fed.false) o.ensures.runs_to o.ensures.ready_2.0 o.ensures.ready_2.1
+    (record {
+      line = k.line ∙ h.same.line;
+      book = k.book ∙ h.same.book;
+      list = k.list ∙ h.same.list;
+      x = k.x ∙ h.same.x;
+      m = k.m ∙ h.same.m;
+      line_kept = k.line_kept ∙ c.feed-fed.auto.line ∙ h.same.line_kept;
+      book_kept = k.book_kept ∙ h.same.book_kept;
+      list_kept = k.list_kept ∙ h.same.list_kept;
+      x_kept = k.x_kept ∙ h.same.x_kept;
+      m_kept = k.m_kept ∙ h.same.m_kept;
+    })
+    o.auto.out c.requires.line_len.3
 
 pub returns : goal.returns
 returns c =
     let h = c.loop-at.invariant in
     record {
+      same = h.same;
       takes = rw c.taken_to-2.ensures (middle_end h c.loop-at-test.false);
       ready_2 = rw c.taken_to-2.ensures (h.ready, h.len_fits, omega (arith, h.lines, h.at-fits), omega (arith, h.p_fits, h.at-fits));
     }

@@ -11,6 +11,7 @@ use Rattle.text.specs.LineLaws.{is_line_lem}
 use Rattle.printing.specs.Rooms.{line_room}
 use Rattle.night_print.specs.Closing.{end_room}
 use Rattle.night_print.specs.TailLaws.{lent_length, closes_none, closes-line}
+use Rattle.adjustment.specs.ChunkLaws.{same_then}
 use Rattle.night_print.proofs.closing.close.Goals as goal
 
 pub take_chunk-last-requires : goal.take_chunk-last-requires
@@ -42,22 +43,25 @@ finish-n-requires c =
 
 pub returns-then-is_line : goal.returns-then-is_line
 returns-then-is_line c =
-    let held : is_line (holds c.args.line.now c.args.taken.len c.args.taken.over) ≡ (c.args.taken.over || ltb 0 c.args.taken.len) = is_line_lem c.args.line.now c.args.taken.len c.args.taken.over (omega (arith, c.requires.line_len.0, c.requires.line_len.1)) in
+    let held : is_line (holds c.args.rooms.now.line.now c.args.taken.len c.args.taken.over) ≡ (c.args.taken.over || ltb 0 c.args.taken.len) = is_line_lem c.args.rooms.now.line.now c.args.taken.len c.args.taken.over (omega (arith, c.requires.line_len.0, c.requires.line_len.1)) in
     let few : c.take_chunk-last.result.printed ≤ line_room = omega (arith, c.take_chunk-last.ensures.ready_2.3) in
     let kept : length c.take_chunk-last.new.out ≡ length c.args.out.now = c.take_chunk-last.auto.out in
     let room : end_room ≤ length c.args.out.now = c.requires.line_len.3 in
-    closes-line
-    (held ∙ sym c.is_line.ensures ∙ c.if-is_line.true)
-    room
-    kept
-    few
-    c.take_chunk-last.ensures.takes
-    c.finish-n.ensures
+    record {
+      same = same_then c.take_chunk-last.ensures.same c.finish-n.ensures.same;
+      concludes = closes-line
+          (held ∙ sym c.is_line.ensures ∙ c.if-is_line.true)
+          room
+          kept
+          few
+          c.take_chunk-last.ensures.takes
+          c.finish-n.ensures.ends;
+    }
 
 pub finish-requires : goal.finish-requires
 finish-requires c = (c.requires.ready, omega (arith, c.requires.line_len.3))
 
 pub returns : goal.returns
 returns c =
-    let held : is_line (holds c.args.line.now c.args.taken.len c.args.taken.over) ≡ (c.args.taken.over || ltb 0 c.args.taken.len) = is_line_lem c.args.line.now c.args.taken.len c.args.taken.over (omega (arith, c.requires.line_len.0, c.requires.line_len.1)) in
-    closes_none (held ∙ sym c.is_line.ensures ∙ c.if-is_line.false) c.requires.line_len.3 c.finish.ensures
+    let held : is_line (holds c.args.rooms.now.line.now c.args.taken.len c.args.taken.over) ≡ (c.args.taken.over || ltb 0 c.args.taken.len) = is_line_lem c.args.rooms.now.line.now c.args.taken.len c.args.taken.over (omega (arith, c.requires.line_len.0, c.requires.line_len.1)) in
+    record { same = c.finish.ensures.same; concludes = closes_none (held ∙ sym c.is_line.ensures ∙ c.if-is_line.false) c.requires.line_len.3 c.finish.ensures.ends }

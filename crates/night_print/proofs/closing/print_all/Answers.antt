@@ -39,7 +39,7 @@ close-n-requires c =
     record {
       ready = c.take_chunk-taken.ensures.ready_2.0;
       line_len = (
-        c.take_chunk-taken.auto.line ∙ c.requires.0,
+        c.take_chunk-taken.ensures.same.line_kept ∙ c.requires.0,
         c.take_chunk-taken.ensures.ready_2.1,
         omega (arith, c.take_chunk-taken.ensures.ready_2.2, c.begin-begun.ensures.lines, c.requires.5),
         omega (arith, lent_length c.take_chunk-taken.result.printed c.take_chunk-taken.new.out inside, few, kept, room),
@@ -51,7 +51,7 @@ overflow_add-result c =
     let bound : length c.args.out.now < 18446744073709551616 = omega arith in
     let few : c.take_chunk-taken.result.printed ≤ line_room * length c.args.text.now = c.take_chunk-taken.ensures.ready_2.3 in
     let room : let a = c.args in line_room * length a.text.now + end_room ≤ length a.out.now = c.requires.5 in
-    omega (arith, few, room, bound, c.close-n.ensures.small)
+    omega (arith, few, room, bound, c.close-n.ensures.concludes.small)
 
 pub returns : goal.returns
 returns c =
@@ -67,4 +67,4 @@ returns c =
     (b.run _ _ _ _)
     (b.blank _)
     c.take_chunk-taken.ensures.takes
-    c.close-n.ensures
+    c.close-n.ensures.concludes
