@@ -1,5 +1,6 @@
 -- The cases hold: what the book's calls and the check give is what is worked out on the ledger's records. Assumes nothing.
-use Rattle.std.specs.Prelude.{ℕ, zero, suc, ◌≤◌, ◌<◌, ◌≡◌, Bool, leb, length, get_or, ℤ}
+use Rattle.acceptance.specs.Judge.{Answer}
+use Rattle.std.specs.Prelude.{ℕ, zero, suc, ◌≤◌, ◌<◌, ◌≡◌, Bool, leb, length, get_or, ℤ, Ok, Err}
 use Rattle.std.proofs.Math.Path.{ap}
 use Rattle.std.proofs.Common.{◌∙◌, arith, leb-true, le-leb, le_of_suc-le-suc, not-suc-le-zero}
 use Rattle.std.proofs.Math.Bool.{true}
@@ -9,8 +10,6 @@ use Rattle.network.specs.Stations.{network_of, network_fits}
 use Rattle.network.specs.OpeningLaws.{opened-fits}
 use Rattle.network.specs.declared.Network.{Network}
 use Rattle.network.specs.declared.Place.{Place}
-use Rattle.acceptance.specs.declared.Answer.{Answer}
-use Rattle.acceptance.specs.declared.Answer.TheVariants.{Accepted, Refused}
 use Rattle.acceptance.specs.Exactly.{answer}
 use Rattle.book.specs.declared.Book.{Book}
 use Rattle.book.specs.Sound.{SoundParts, parts-sound}
@@ -29,8 +28,8 @@ module _ (net : Network) (places : List Place) (x m lent : List ℤ) where
   -- the lent words afterwards, by the answer: the sheet at their front, or as they were
   written_as : (a : Answer) (w : List ℤ) → on_acceptance a (sheet_words net places x m) [] ≡ w → on_acceptance a (sheet_words net places x m ++ drop (room net places) lent) lent ≡ w ++ drop (length w) lent
   unfolding on_acceptance
-  written_as Accepted w e = rw (← e, sheet_length net places x m)
-  written_as (Refused refusal) w e = rw (← e)
+  written_as (Ok u) w e = rw (← e, sheet_length net places x m)
+  written_as (Err refusal) w e = rw (← e)
 
 -- a check of a book with these stations and records
 module _ (b : Book) (g : SoundParts b) (net : Network) (places : List Place) (p : b.network ≡ net) (q : b.places ≡ places) (x m : List ℤ) where

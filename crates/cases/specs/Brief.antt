@@ -1,5 +1,5 @@
 -- The ledger's answers, computed. Refusal 9 looks at every entry of N and u and never comes, so it is left out here; what is left is computed in few steps. Assumes nothing.
-use Rattle.std.specs.Prelude.{ℕ, ◌≡◌, refl, true, List}
+use Rattle.std.specs.Prelude.{ℕ, ◌≡◌, refl, true, List, Option, Some, None}
 use Rattle.std.proofs.Common.{sym, ◌∙◌}
 use Rattle.std.proofs.Math.Path.{ap}
 use lib.IntN.{ℤ}
@@ -10,8 +10,6 @@ use Rattle.network.specs.declared.Record.{Record}
 use Rattle.book.specs.declared.Book.{Book}
 use Rattle.book.specs.declared.Call.{Call}
 use Rattle.book.specs.declared.Call.TheVariants.{Edit, Undo}
-use Rattle.book.specs.declared.Row.{Row}
-use Rattle.book.specs.declared.Row.TheVariants.{Names, Nameless}
 use Rattle.book.specs.Calls.{place_of, places_of, first, place_no, undo_no, call_no, unless}
 use Rattle.book.specs.Run.{final, answers, Alike, run_answers, run_final}
 use Rattle.book.specs.Rows.{row_next, row_says}
@@ -31,10 +29,10 @@ brief_no net l Undo = undo_no l.count
 abbrev pub brief_next : Network → Ledger → Call → Ledger
 brief_next net l c = unless (brief_no net l c) l (accepted l c)
 
-abbrev pub brief_after : Network → List Row → Ledger
+abbrev pub brief_after : Network → List (Option Call) → Ledger
 brief_after net rows = final (row_next (brief_next net)) empty_ledger rows
 
-abbrev pub brief_answers : Network → List Row → List ℤ
+abbrev pub brief_answers : Network → List (Option Call) → List ℤ
 brief_answers net rows = answers (row_next (brief_next net)) (row_says (brief_no net)) empty_ledger rows
 
 module _ (net : Network) (b : Book) (l : Ledger) (o : Follows net b l) where
@@ -52,20 +50,20 @@ module _ (net : Network) (b : Book) (l : Ledger) (o : Follows net b l) where
       let e : ledger_says net l c ≡ brief_no net l c = sym (says net b l o c) ∙ brief_says c in
       rw (← e) (follows_next net b l o c)
 
-brief_row : (net : Network) (b : Book) (l : Ledger) (r : Row) → Follows net b l → row_says book_says b r ≡ row_says (brief_no net) l r
+brief_row : (net : Network) (b : Book) (l : Ledger) (r : Option Call) → Follows net b l → row_says book_says b r ≡ row_says (brief_no net) l r
 unfolding row_says
-brief_row net b l (Names c) o = ap lib.IntN.pos (brief_says net b l o c)
-brief_row net b l Nameless o = refl
+brief_row net b l (Some c) o = ap lib.IntN.pos (brief_says net b l o c)
+brief_row net b l None o = refl
 
-brief_stays : (net : Network) (b : Book) (l : Ledger) (r : Row) → Follows net b l → Follows net (row_next book_next b r) (row_next (brief_next net) l r)
+brief_stays : (net : Network) (b : Book) (l : Ledger) (r : Option Call) → Follows net b l → Follows net (row_next book_next b r) (row_next (brief_next net) l r)
 unfolding row_next
-brief_stays net b l (Names c) o = brief_next_lem net b l o c
-brief_stays net b l Nameless o = o
+brief_stays net b l (Some c) o = brief_next_lem net b l o c
+brief_stays net b l None o = o
 
 alike : (net : Network) → Alike (row_next book_next) (row_says book_says) (row_next (brief_next net)) (row_says (brief_no net)) (Follows net)
 alike net = record { says_same = brief_row net; stays = brief_stays net }
 
-module _ (net : Network) (g : network_fits net ≡ true) (rows : List Row) where
+module _ (net : Network) (g : network_fits net ≡ true) (rows : List (Option Call)) where
   pub brief_answers_lem : book_answers net rows ≡ brief_answers net rows
   brief_answers_lem = run_answers (row_next book_next) (row_says book_says) (row_next (brief_next net)) (row_says (brief_no net)) (Follows net) (alike net) (opened_book net) empty_ledger rows (follows_opened net g)
 

@@ -1,21 +1,19 @@
 -- What a case of the table says of the calls that ship, by the definitions that their contracts equal. Assumes nothing.
 --   opens, book_answers, book_after   the opening and the calls of a book, one after the other: what `replay` promises
 --   checked, sheet_after             the answer to a check and the lent words afterwards: what `check` and `check_sheet` promise
-use Rattle.std.specs.Prelude.{ℕ, ◌-◌, ◌≤◌, ◌<◌, ◌≡◌, true, List, [], ◌∷◌, ◌++◌, map, ℤ, pos, length, get_or, drop, replicate}
+use Rattle.std.specs.Prelude.{ℕ, ◌-◌, ◌≤◌, ◌<◌, ◌≡◌, true, List, [], ◌∷◌, ◌++◌, map, ℤ, pos, length, get_or, drop, replicate, Option, Some}
 use Rattle.network.specs.Stations.{unknown_count, network_of, opens}
 use Rattle.network.specs.declared.Network.{Network}
 use Rattle.network.specs.Records.{vacant}
 use Rattle.network.specs.declared.Record.{Record}
 use Rattle.network.specs.declared.Place.{Place}
 use Rattle.normals.specs.Formulas.{entry_n, entry_u}
-use Rattle.acceptance.specs.declared.Answer.{Answer}
 use Rattle.acceptance.specs.Tests.{at, by_rows, refinement}
-use Rattle.acceptance.specs.Judge.{answer_number, answer_unknown}
+use Rattle.acceptance.specs.Judge.{answer_number, answer_unknown, Answer}
 use Rattle.book.specs.declared.Book.{Book}
+use Rattle.book.specs.declared.Call.{Call}
 use Rattle.book.specs.Book as spec
 use Rattle.book.specs.Run.{final, answers}
-use Rattle.book.specs.declared.Row.{Row}
-use Rattle.book.specs.declared.Row.TheVariants.{Names}
 use Rattle.book.specs.Rows.{row_next, row_says}
 use Rattle.book.specs.Book.{book_next, book_says}
 use Rattle.book.specs.Demand3.{book_answers, book_after}
@@ -23,8 +21,8 @@ use Rattle.checks.specs.Checks.{checked, has_room, sheet_after}
 use Rattle.cases.specs.Table.{Case, station_list, printed_calls, as_printed, table}
 
 -- the calls as rows of a run, and the book that they leave
-abbrev pub rows_of : Case → List Row
-rows_of c = map Names c.calls
+abbrev pub rows_of : Case → List (Option Call)
+rows_of c = map Some c.calls
 
 abbrev pub case_book : Case → Book
 case_book c = book_after (network_of station_list) (rows_of c)
@@ -77,7 +75,7 @@ CasesHold = (k : ℕ) → k < length table → CaseHolds (case_at k)
 
 -- ════ what a run of a case gives
 -- rows answered in turn, at the front of a lent list, and the book that they leave
-pub record CallsMade (b : Book) (rows : List Row) (before after : List ℤ) (last : Book) : Type 0 where
+pub record CallsMade (b : Book) (rows : List (Option Call)) (before after : List ℤ) (last : Book) : Type 0 where
   pub answered : after ≡ answers (row_next book_next) (row_says book_says) b rows ++ drop (length rows) before
   pub left : last ≡ final (row_next book_next) b rows
   pub sound : spec.sound last ≡ true

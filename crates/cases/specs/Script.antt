@@ -1,16 +1,14 @@
--- The calls of the cases as the code has them, by numbers. Assumes nothing.
-use Rattle.std.specs.Prelude.{ℕ, ◌+◌, ◌≤◌, ◌<◌, ◌≡◌, ◌&&◌, List, [], ◌∷◌, map, length, ℤ, pos}
+-- The calls of the cases by numbers. Assumes nothing.
+use Rattle.std.specs.Prelude.{ℕ, ◌+◌, ◌≤◌, ◌<◌, ◌≡◌, ◌&&◌, List, [], ◌∷◌, map, length, ℤ, pos, Option, Some}
 use Rattle.std.proofs.Math.Path.{refl}
-use Rattle.std.proofs.Common.{sym, ap, ◌∙◌}
+use Rattle.std.proofs.Common.{sym, ap, ◌∙◌, arith}
 use Rattle.std.proofs.Math.Bool.{true}
 use borrow.Author.Tests.{leb-true}
 use Rattle.std.proofs.Math.Dec.{leb}
 use Rattle.std.proofs.Math.ListN.{get_or, get_or-map}
 use Rattle.words.specs.Bools.{and_left, and_right}
 use Rattle.lists.specs.All.{all_below, all_at}
-use Rattle.integers.specs.Tables.{tabulate, get_d_tabulate}
-use Rattle.book.specs.declared.Row.{Row}
-use Rattle.book.specs.declared.Row.TheVariants.{Names}
+use Rattle.integers.specs.Tables.{tabulate, length-tabulate, get_d_tabulate}
 use Rattle.book.specs.declared.Change.TheVariants.{Enter}
 use Rattle.book.specs.declared.Call.{Call}
 use Rattle.book.specs.declared.Call.TheVariants.{Edit, Undo}
@@ -34,6 +32,10 @@ calls =
 abbrev pub call_at : ℕ → Call
 call_at c = get_or calls c (Edit (pos 3) (Enter (baseline_with 99)))
 
+-- calls named by their numbers, as rows of a run
+abbrev pub rows_named : List ℕ → List (Option Call)
+rows_named numbers = map (λ c. Some (call_at c)) numbers
+
 -- the numbers of the cases' calls, and where those of each case start and how many there are
 unfoldable pub call_numbers : List ℕ
 call_numbers = 0 ∷ 1 ∷ 2 ∷ 3 ∷ 0 ∷ 4 ∷ 0 ∷ 5 ∷ 0 ∷ 1 ∷ 6 ∷ 0 ∷ 1 ∷ 7 ∷ 0 ∷ 1 ∷ 8 ∷ 0 ∷ 1 ∷ 9 ∷ []
@@ -45,8 +47,8 @@ unfoldable pub call_counts : List ℕ
 call_counts = 2 ∷ 2 ∷ 2 ∷ 0 ∷ 3 ∷ 3 ∷ 4 ∷ 1 ∷ 2 ∷ 2 ∷ 3 ∷ 3 ∷ 3 ∷ 3 ∷ []
 
 -- `count` calls from `start` on
-unfoldable pub rows_from : ℕ → ℕ → List Row
-rows_from start count = tabulate count (λ i. Names (call_at (get_or call_numbers (start + i) 0)))
+unfoldable pub rows_from : ℕ → ℕ → List (Option Call)
+rows_from start count = tabulate count (λ i. Some (call_at (get_or call_numbers (start + i) 0)))
 
 -- X and M of each case
 unfoldable pub xs : List ℤ
@@ -73,6 +75,10 @@ module _ (k : ℕ) (h : k < 14) where
   at_case : {A : Type 0} (f : ℕ → A) (g : Case → A) → tabulate 14 f ≡ map g table → f k ≡ g (case_at k)
   at_case {A} f g e = sym (get_d_tabulate 14 f k (g first_case) h) ∙ ap (λ (l : List A). get_or l k (g first_case)) e ∙ get_or-map g table k first_case
 
+  -- the same of a table of any kind, whatever lies beyond its end
+  pub of_case : {A B : Type 0} (f : B → A) (g : Case → A) (rows : List B) (d : B) → tabulate 14 (λ j. f (get_or rows j d)) ≡ map g table → f (get_or rows k d) ≡ g (case_at k)
+  of_case f g rows d e = at_case (λ j. f (get_or rows j d)) g e
+
   pub rows_are : rows_from (get_or call_starts k 0) (get_or call_counts k 0) ≡ rows_of (case_at k)
   unfolding table tabulate rows_from calls call_numbers call_starts call_counts
   rows_are = at_case (λ j. rows_from (get_or call_starts j 0) (get_or call_counts j 0)) rows_of refl
@@ -91,3 +97,11 @@ module _ (k : ℕ) (h : k < 14) where
   few_calls =
       let e : leb (get_or call_starts k 0 + get_or call_counts k 0) 20 && leb (get_or call_counts k 0) 4 ≡ true = all_at 14 (λ j. leb (get_or call_starts j 0 + get_or call_counts j 0) 20 && leb (get_or call_counts j 0) 4) k refl h in
       (leb-true _ _ (and_left _ _ e), leb-true _ _ (and_right (leb (get_or call_starts k 0 + get_or call_counts k 0) 20) _ e))
+
+  pub rows_few : length (rows_of (case_at k)) ≤ 4
+  unfolding rows_from
+  rows_few =
+      let few : get_or call_counts k 0 ≤ 4 = few_calls.1 in
+      let long : length (rows_from (get_or call_starts k 0) (get_or call_counts k 0)) ≡ get_or call_counts k 0 = length-tabulate (get_or call_counts k 0) _ in
+      let same = ap length rows_are in
+      omega (arith, few, long, same)

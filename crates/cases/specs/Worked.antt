@@ -16,9 +16,8 @@ use Rattle.chains.specs.Chains.{all_tied, is_tied, tied_set, edge, first_untied}
 use Rattle.chains.specs.Search.{search, pass, join}
 use Rattle.chains.specs.Bits.{put_in, set_bit, digit, worked_out}
 use Rattle.chains.specs.Scans.{first_failing}
-use Rattle.acceptance.specs.declared.Answer.{Answer}
 use Rattle.acceptance.specs.Tests.{lengths_fit, corrections_small, inverse_small, defect_small, residual_small, refinement_small}
-use Rattle.acceptance.specs.Judge.{answer_number, answer_unknown, judge, judge_numbers}
+use Rattle.acceptance.specs.Judge.{answer_number, answer_unknown, judge, judge_numbers, Answer}
 use Rattle.acceptance.specs.Exactly.{answer}
 use Rattle.book.specs.Calls.{places_of, first, place_no, empty_no, undo_no, puts, unless}
 use Rattle.book.specs.Numbers.{change_no_of}

@@ -1,36 +1,105 @@
 // Document 01's cases that are proved, run through the calls that ship: a book opened on the stations of the night print, the case's edits, and a check with a sheet.
 #![tactic(auto)]
 
-ghost use Rattle.std.specs.Prelude.{◌≡◌, true, ◌+◌, ◌≤◌, ◌<◌, pos, length};
+ghost use Rattle.std.specs.Prelude.{◌≡◌, true, ◌≤◌, ◌<◌, length};
 ghost use Rattle.network.specs.Stations.{network_of};
 ghost use Rattle.book.specs.Book.{opened_book, sound};
 ghost use Rattle.cases.specs.Table.{station_list, level_by, baseline_by, table};
-ghost use Rattle.cases.specs.Cases.{CallsMade, CaseRan, case_at, enough};
-ghost use Rattle.cases.specs.Script.{call_at, rows_from};
+ghost use Rattle.cases.specs.Cases.{CallsMade, CaseRan, case_at, enough, rows_of};
+ghost use Rattle.cases.specs.Script.{call_at, rows_named};
 
-use acceptance::Answer;
+use acceptance::Refusal;
 use book::{Book, Call, Change};
 use network::Record;
 
 // The stations: kind, E, N, U.
 const STATION_LIST: [i64; 8] = [1, 0, 0, 100000, 3, 0, 0, 101000];
 
-// The calls of the cases by their numbers in `call_at`. Cases that begin alike share them: case k has COUNTS[k] of them, from STARTS[k] on.
-const CALLS: [usize; 20] = [0, 1, 2, 3, 0, 4, 0, 5, 0, 1, 6, 0, 1, 7, 0, 1, 8, 0, 1, 9];
-
-const STARTS: [usize; 14] = [0, 0, 0, 0, 0, 0, 0, 3, 4, 6, 8, 11, 14, 17];
-
-const COUNTS: [usize; 14] = [2, 2, 2, 0, 3, 3, 4, 1, 2, 2, 3, 3, 3, 3];
-
 // M of two records of weight 100, and of three: S over 200 and over 300, rounded.
 const M2: i64 = 5368709;
 
 const M3: i64 = 3579139;
 
-// X and M of each case.
-const X: [i64; 14] = [50, 51, 50, 50, 50, 100, 50, 50, 138, 139, 33367, 50, 50, 33];
+// What a case runs: its calls, by their numbers in `call_at`, and X and M of its check.
+#[derive(Clone, Copy)]
+struct Run {
+    calls: &'static [usize],
+    x: i64,
+    m: i64,
+}
 
-const M: [i64; 14] = [M2, M2, 0, M2, M2, M2, M2, M2, M2, M2, M3, M2, M2, M3];
+const RUNS: [Run; 14] = [
+    Run {
+        calls: &[0, 1],
+        x: 50,
+        m: M2,
+    },
+    Run {
+        calls: &[0, 1],
+        x: 51,
+        m: M2,
+    },
+    Run {
+        calls: &[0, 1],
+        x: 50,
+        m: 0,
+    },
+    Run {
+        calls: &[],
+        x: 50,
+        m: M2,
+    },
+    Run {
+        calls: &[0, 1, 2],
+        x: 50,
+        m: M2,
+    },
+    Run {
+        calls: &[0, 1, 2],
+        x: 100,
+        m: M2,
+    },
+    Run {
+        calls: &[0, 1, 2, 3],
+        x: 50,
+        m: M2,
+    },
+    Run {
+        calls: &[3],
+        x: 50,
+        m: M2,
+    },
+    Run {
+        calls: &[0, 4],
+        x: 138,
+        m: M2,
+    },
+    Run {
+        calls: &[0, 5],
+        x: 139,
+        m: M2,
+    },
+    Run {
+        calls: &[0, 1, 6],
+        x: 33367,
+        m: M3,
+    },
+    Run {
+        calls: &[0, 1, 7],
+        x: 50,
+        m: M2,
+    },
+    Run {
+        calls: &[0, 1, 8],
+        x: 50,
+        m: M2,
+    },
+    Run {
+        calls: &[0, 1, 9],
+        x: 33,
+        m: M3,
+    },
+];
 
 // A height difference from station 1 to station 2 of weight 100.
 fn level(up: i64) -> Record
@@ -74,47 +143,37 @@ fn call_at(c: usize) -> Call
 fn opened() -> Book
     ensures { (result ≡ opened_book (network_of station_list)) × (sound result ≡ true) }
 {
-    let stations = STATION_LIST;
-    let e = Book::open(&stations);
-    let book = e.book;
-    book
+    Book::open(&STATION_LIST).unwrap()
 }
 
-fn answer_of(refusal: u64) -> i64
-    requires { refusal ≤ 9 }
-    ensures { result ≡ pos refusal }
+// The calls of these numbers in turn; each is answered in its turn.
+fn make_calls(book: &mut Book, numbers: &[usize], answers: &mut [i64])
+    requires { (sound book.old ≡ true) × (length numbers.now ≤ length answers.old) }
+    ensures { CallsMade book.old (rows_named numbers.now) answers.old answers.new book.new }
 {
-    refusal as i64
-}
-
-// `count` calls in turn, by their numbers in CALLS from `start` on; each is answered in its turn.
-fn make_calls(book: Book, start: usize, count: usize, answers: &mut [i64]) -> Book
-    requires { (sound book ≡ true) × (start + count ≤ 20) × (count ≤ length answers.old) }
-    ensures { CallsMade book (rows_from start count) answers.old answers.new result }
-{
-    let mut state = book;
-    let mut i: usize = 0;
-    while i < count {
-        let c = call_at(CALLS[start + i]);
-        let e = state.apply(c);
-        let answer = answer_of(e.refusal);
-        answers[i] = answer;
-        let next = e.book;
-        state = next;
-        i += 1;
+    for i in 0..numbers.len() {
+        let answer = book.apply(call_at(numbers[i]));
+        answers[i] = book::call_word(answer);
     }
-    state
+}
+
+// What case k of the table runs.
+fn run_at(k: usize) -> Run
+    requires { k < length table }
+    ensures rows { rows_named result.calls.now ≡ rows_of (case_at k) }
+    ensures x { result.x ≡ (case_at k).x }
+    ensures m { result.m ≡ (case_at k).m }
+{
+    RUNS[k]
 }
 
 // Case k of the table, from 0: its calls are answered at the front of `answers`, and its check writes the front of `sheet`.
-pub fn run_case(k: usize, answers: &mut [i64], sheet: &mut [i64]) -> Answer
+pub fn run_case(k: usize, answers: &mut [i64], sheet: &mut [i64]) -> Result<(), Refusal>
     requires { (k < length table) × (4 ≤ length answers.old) × (enough ≤ length sheet.old) }
     ensures { CaseRan (case_at k) answers.old answers.new sheet.old sheet.new result }
 {
-    let start = STARTS[k];
-    let count = COUNTS[k];
-    let book = make_calls(opened(), start, count, answers);
-    let x = [X[k]];
-    let m = [M[k]];
-    checks::check_sheet(book, &x, &m, sheet)
+    let run = run_at(k);
+    let mut book = opened();
+    make_calls(&mut book, run.calls, answers);
+    checks::check_sheet(book, &[run.x], &[run.m], sheet)
 }
