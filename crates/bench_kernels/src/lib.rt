@@ -11,40 +11,42 @@ ghost use Rattle.bench_kernels.specs.Sample.{sample_network, sample_record, samp
 use network::{Kind, Network, Place, Record, Station, Unit};
 use normals::Normals;
 
+#[tactic(auto, unfolding(crate::specs::Sample::sample_network))]
 fn sample_network() -> Network
     ensures { result ≡ sample_network }
 {
-    let k = Station {
+    let known = Station {
         kind: Kind::Known,
         east: 0,
         north: 0,
         up: 0,
     };
-    let f = Station {
+    let free = Station {
         kind: Kind::Free,
-        east: 0,
-        north: 0,
-        up: 0,
+        ..known
     };
+    let mut stations = [known; Unit::STATIONS];
+    stations[1..17].fill(free);
     Network {
         count: 17,
-        stations: [
-            k, f, f, f, f, f, f, f, f, f, f, f, f, f, f, f, f, k, k, k, k, k, k, k, k, k, k, k, k,
-            k, k, k,
-        ],
+        stations,
     }
 }
 
+#[tactic(auto, unfolding(crate::specs::Sample::sample_baseline))]
 fn sample_record(p: usize) -> Record
     requires { p < place_count }
     ensures { result ≡ sample_record p }
 {
     let f = p % 17 + 1;
     let t = (f + p / 17) % 17 + 1;
-    let from = f as i64;
-    let to = t as i64;
-    let v = p as i64;
-    network::baseline_of(from, to, [v, v, v], [100, 10, -10, 100, 10, 100], [0, 0])
+    network::baseline_of(
+        f as i64,
+        t as i64,
+        [p as i64; 3],
+        [100, 10, -10, 100, 10, 100],
+        [0; 2],
+    )
 }
 
 // The places of the sample in words, to be lent.
@@ -52,12 +54,9 @@ fn sample_places() -> [i64; Place::LENGTH]
     ensures { places_in result ≡ sample_places }
 {
     let mut places = [0i64; Place::LENGTH];
-    let mut p = 0;
-    while p < Unit::PLACES {
-        let r = sample_record(p);
-        let w = network::record_words(r);
+    for p in 0..Unit::PLACES {
+        let w = network::record_words(sample_record(p));
         lists::paste(&mut places, p * Record::LENGTH, &w);
-        p = p + 1;
     }
     places
 }
@@ -85,6 +84,8 @@ pub extern "C" fn bench_normals(k: usize) -> i64
 pub extern "C" fn bench_replay(list: &[i64], calls: &[i64], answers: &mut [i64]) -> u64
     ensures { Replays list.now calls.now answers.old answers.new result }
 {
-    let e = book::replay(list, calls, answers);
-    e.refusal
+    match book::replay(list, calls, answers) {
+        Ok(_) => 0,
+        Err(refusal) => u64::from(refusal),
+    }
 }

@@ -16,14 +16,12 @@ sample-at : (p : ℕ) → p < 256 → sample_record p ≡ record_at sample_place
 sample-at p h = sym (ap (λ (x : Place). x.entry) (get_d_tabulate 256 sample_place p vacant h))
 
 pub loop-p-init : goal.loop-p-init
-loop-p-init c = (search rules, lent_none _ _ (search rules))
+loop-p-init c = lent_none _ _ (search rules)
 
 pub loop-p-preserved : goal.loop-p-preserved
-loop-p-preserved c = (
-  search rules,
-  lent-more _ c.loop-p.places c.loop-p.p _ _ (omega arith) (c.sample_record-r.ensures ∙ sample-at c.loop-p.p (omega arith))
-      (c.paste.ensures ∙ ap (pasted c.loop-p.places (c.loop-p.p * record_length)) c.record_words-w.ensures) c.paste.auto.list c.loop-p.invariant.1,
-)
+loop-p-preserved c =
+    lent-more _ c.loop-p.places c.loop-p.p _ _ (omega arith) (c.sample_record.ensures ∙ sample-at c.loop-p.p (omega arith))
+    (c.paste.ensures ∙ ap (pasted c.loop-p.places (c.loop-p.p * record_length)) c.record_words-w.ensures) c.paste.auto.list c.loop-p.invariant
 
 pub returns : goal.returns
-returns c = lent_all _ _ c.loop-p.p (omega arith) (length-tabulate 256 sample_place) c.loop-p.invariant.1
+returns c = lent_all _ _ c.loop-p.p (omega arith) (length-tabulate 256 sample_place) c.loop-p.invariant
