@@ -10,7 +10,7 @@ ghost use Rattle.network.specs.Records.{record_at};
 ghost use Rattle.network.specs.Places.{places_length, places_in};
 ghost use Rattle.network.specs.Rules.{record_fits};
 
-use acceptance::Answer;
+use acceptance::Refusal;
 use network::{Network, Place, Record, Unit};
 use normals::Normals;
 
@@ -19,39 +19,28 @@ fn all_fit(net: Network, places: &[i64]) -> bool
     requires { (places_length ≤ length places.now) × (net.count ≤ 32) × (coordinates_fit net.stations ≡ true) }
     ensures { result ≡ all_below 256 (λ p. record_fits net (record_at (places_in places.now) p)) }
 {
-    let mut p = 0;
-    while p < Unit::PLACES {
-        let r = network::record_at(places, p);
-        if !network::record_fits(net, r) {
-            return false;
-        }
-        p = p + 1;
-    }
-    true
+    (0..Unit::PLACES).all(|p| network::record_fits(net, network::record_at(places, p)))
 }
 
+// Stays: each test program prints its signed numbers itself, since it stands alone, and a contract of a shared function could state nothing of what it prints.
 fn print_field(v: i64) {
     io::write_all(1, b" ");
-    if words::is_negative(v) {
+    if v < 0 {
         io::write_all(1, b"-");
     }
-    io::print_decimal(1, words::size(v));
+    io::print_decimal(1, v.unsigned_abs());
 }
 
 fn print_list(list: &[i64]) {
-    let mut i = 0;
-    while i < list.len() {
-        let v = list[i];
-        print_field(v);
-        i = i + 1;
+    for v in list {
+        print_field(*v);
     }
 }
 
-fn print_answer(answer: Answer) {
+fn print_answer(answer: Result<(), Refusal>) {
     io::write_all(1, b": ");
     io::print_decimal(1, acceptance::number(answer));
-    let unknown = acceptance::unknown(answer);
-    if 0 < unknown {
+    if let Err(Refusal::Untied(unknown)) = answer {
         io::write_all(1, b" unknown ");
         io::print_decimal(1, unknown);
     }
@@ -119,68 +108,89 @@ fn levels(x: &[i64], m: &[i64]) {
 
 // "lengths are n and n·n": n is 1.
 fn lengths() {
-    levels(&[50, 0, 0][0..0], &[5368709, 0, 0][0..1]);
-    levels(&[50, 0, 0][0..1], &[5368709, 0, 0][0..0]);
-    levels(&[50, 0, 0][0..1], &[5368709, 0, 0][0..1]);
-    levels(&[50, 0, 0][0..1], &[5368709, 0, 0][0..2]);
-    levels(&[50, 0, 0][0..2], &[5368709, 0, 0][0..1]);
-    levels(&[50, 0, 0][0..2], &[5368709, 0, 0][0..3]);
+    levels(&[], &[5368709]);
+    levels(&[50], &[]);
+    levels(&[50], &[5368709]);
+    levels(&[50], &[5368709, 0]);
+    levels(&[50, 0], &[5368709]);
+    levels(&[50, 0], &[5368709, 0, 0]);
 }
 
-fn correction(x: i64) {
-    levels(&[x], &[5368709]);
+fn corrections() {
+    for x in [
+        50,
+        51,
+        49,
+        100000,
+        100001,
+        -100000,
+        -100001,
+        9223372036854775807,
+        -9223372036854775808,
+    ] {
+        levels(&[x], &[5368709]);
+    }
 }
 
-fn inverse(m: i64) {
-    levels(&[50], &[m]);
+// In the last four S − 200·M is 67108824, −67108776, and beyond on either side.
+fn inverses() {
+    for m in [
+        0,
+        17179869184,
+        17179869185,
+        -17179869184,
+        -17179869185,
+        9223372036854775807,
+        -9223372036854775808,
+        5033165,
+        5033164,
+        5704253,
+        5704254,
+    ] {
+        levels(&[50], &[m]);
+    }
 }
 
-fn numbers() {
-    correction(50);
-    correction(51);
-    correction(49);
-    correction(100000);
-    correction(100001);
-    correction(-100000);
-    correction(-100001);
-    correction(9223372036854775807);
-    correction(-9223372036854775808);
-    inverse(0);
-    inverse(17179869184);
-    inverse(17179869185);
-    inverse(-17179869184);
-    inverse(-17179869185);
-    inverse(9223372036854775807);
-    inverse(-9223372036854775808);
-    // S − 200·M is 67108824, −67108776, and beyond on either side
-    inverse(5033165);
-    inverse(5033164);
-    inverse(5704253);
-    inverse(5704254);
-}
-
-// Test 5 in one entry: a record of weight 1 makes N 1, and S − M is at the limit.
-fn defect(case: &[u8], m: i64) {
+// Test 5 in one entry: a record of weight 1 makes N 1, and S − M is as named: at the limit or beyond it.
+fn defects() {
     let list = [1, 0, 0, 0, 3, 0, 0, 0];
     let mut places = nothing();
     places[0] = height(1, 2, 0, 1);
-    io::write_all(1, case);
-    print_pair(network::network_of(&list), places, &[0], &[m]);
+    for (defect, m) in [
+        (67108864, 1006632960),
+        (67108865, 1006632959),
+        (-67108864, 1140850688),
+        (-67108865, 1140850689),
+    ] {
+        io::write_all(1, b"S - MN");
+        print_field(defect);
+        io::write_all(1, b": ");
+        print_pair(network::network_of(&list), places, &[0], &[m]);
+    }
 }
 
 // Test 5 in the sizes of a row: two stations with a record of weight 1 each make N the unit matrix. M's first row is S − 2^25 and `m`.
-fn defect_row(case: &[u8], m: i64) {
+fn row_defects() {
     let list = [1, 0, 0, 0, 3, 0, 0, 0, 3, 0, 0, 0];
     let mut places = nothing();
     places[0] = height(1, 2, 0, 1);
     places[1] = height(1, 3, 0, 1);
-    io::write_all(1, case);
-    print_pair(
-        network::network_of(&list),
-        places,
-        &[0, 0],
-        &[1040187392, m, 0, 1073741824],
-    );
+    for (second, m) in [
+        (-33554432, 33554432),
+        (-33554433, 33554433),
+        (33554432, -33554432),
+        (33554433, -33554433),
+    ] {
+        io::write_all(1, b"S - MN 33554432");
+        print_field(second);
+        io::write_all(1, b": ");
+        print_pair(
+            network::network_of(&list),
+            places,
+            &[0, 0],
+            &[1040187392, m, 0, 1073741824],
+        );
+    }
 }
 
 // M of the book below: S times the inverse of its N, rounded.
@@ -193,53 +203,48 @@ const INVERSE: [i64; 36] = [
 // Test 6: with x 0, r is u. An accepted pair with r at 2^23 takes the heaviest records: 253 between two free stations, and one of weight 1 that brings r to
 // the limit. With misclosures of 1, 27 and 19066 their share of u is 29998·(252·1 + 27) + 19066 = 2^23 − 100 at station 3 and the opposite at station 2, where
 // two ties of weight 100 with misclosures 0 and −1 take 100 off.
-fn residual(case: &[u8], each: i64, other: i64, rest: i64, tie: i64) {
+fn residuals() {
     let list = [1, 0, 0, 0, 2, 0, 0, 0, 2, 0, 0, 0];
-    let heavy = baseline(2, 3, each, 10000, 9999);
-    let mut places = [heavy; Unit::PLACES];
-    places[0] = baseline(2, 3, other, 10000, 9999);
-    places[1] = baseline(2, 3, rest, 1, 0);
-    places[2] = baseline(1, 2, 0, 100, 0);
-    places[3] = baseline(1, 2, tie, 100, 0);
-    io::write_all(1, case);
-    let m = INVERSE;
-    print_judged(network::network_of(&list), places, &[0; 6], &m);
+    for (r, each, other, rest, tie) in [
+        (-8388608, 1, 27, 19066, -1),
+        (-8388609, 1, 27, 19067, -1),
+        (8388608, -1, -27, -19066, 1),
+        (8388609, -1, -27, -19067, 1),
+    ] {
+        let mut places = [baseline(2, 3, each, 10000, 9999); Unit::PLACES];
+        places[0] = baseline(2, 3, other, 10000, 9999);
+        places[1] = baseline(2, 3, rest, 1, 0);
+        places[2] = baseline(1, 2, 0, 100, 0);
+        places[3] = baseline(1, 2, tie, 100, 0);
+        io::write_all(1, b"r");
+        print_field(r);
+        print_judged(network::network_of(&list), places, &[0; 6], &INVERSE);
+    }
 }
 
 // Test 7: records of weights 32 and 1 make N 33; the first misclosure and x are 0, so r is the second. 15·2^26 is 30·2^25 and 15·2^26 + 1 is 31·32472031, and
 // S/33 is near both 2^25 and 32472031.
-fn refinement(case: &[u8], second: i64, m: i64) {
+fn refinements() {
     let list = [1, 0, 0, 0, 3, 0, 0, 0];
-    let mut places = nothing();
-    places[0] = height(1, 2, 0, 32);
-    places[1] = height(1, 2, second, 1);
-    io::write_all(1, case);
-    print_pair(network::network_of(&list), places, &[0], &[m]);
-}
-
-fn sums() {
-    defect(b"S - MN 67108864: ", 1006632960);
-    defect(b"S - MN 67108865: ", 1006632959);
-    defect(b"S - MN -67108864: ", 1140850688);
-    defect(b"S - MN -67108865: ", 1140850689);
-    defect_row(b"S - MN 33554432 -33554432: ", 33554432);
-    defect_row(b"S - MN 33554432 -33554433: ", 33554433);
-    defect_row(b"S - MN 33554432 33554432: ", -33554432);
-    defect_row(b"S - MN 33554432 33554433: ", -33554433);
-    residual(b"r -8388608", 1, 27, 19066, -1);
-    residual(b"r -8388609", 1, 27, 19067, -1);
-    residual(b"r 8388608", -1, -27, -19066, 1);
-    residual(b"r 8388609", -1, -27, -19067, 1);
-    refinement(b"Mr 1006632960: ", 30, 33554432);
-    refinement(b"Mr 1006632961: ", 31, 32472031);
-    refinement(b"Mr -1006632960: ", -30, 33554432);
-    refinement(b"Mr -1006632961: ", -31, 32472031);
+    for (refinement, second, m) in [
+        (1006632960, 30, 33554432),
+        (1006632961, 31, 32472031),
+        (-1006632960, -30, 33554432),
+        (-1006632961, -31, 32472031),
+    ] {
+        let mut places = nothing();
+        places[0] = height(1, 2, 0, 32);
+        places[1] = height(1, 2, second, 1);
+        io::write_all(1, b"Mr");
+        print_field(refinement);
+        io::write_all(1, b": ");
+        print_pair(network::network_of(&list), places, &[0], &[m]);
+    }
 }
 
 // A known, a free and a height station, joined as the flags say; x and M are 0, so that tied stations are refused with 14.
 fn chain(plane: bool, first: bool, second: bool) {
     let list = [1, 0, 0, 0, 2, 0, 0, 0, 3, 0, 0, 0];
-    let net = network::network_of(&list);
     let mut places = nothing();
     io::write_all(1, b"chain");
     if plane {
@@ -254,18 +259,30 @@ fn chain(plane: bool, first: bool, second: bool) {
         io::write_all(1, b" height 3 2");
         places[0] = height(3, 2, 0, 100);
     }
-    print_judged(net, places, &[0; 4], &[0; 16]);
+    print_judged(network::network_of(&list), places, &[0; 4], &[0; 16]);
+}
+
+fn chains() {
+    for (plane, first, second) in [
+        (false, false, false),
+        (false, true, false),
+        (false, true, true),
+        (true, false, false),
+        (true, true, false),
+        (true, false, true),
+        (true, true, true),
+    ] {
+        chain(plane, first, second);
+    }
 }
 
 fn main() {
     lengths();
-    numbers();
-    sums();
-    chain(false, false, false);
-    chain(false, true, false);
-    chain(false, true, true);
-    chain(true, false, false);
-    chain(true, true, false);
-    chain(true, false, true);
-    chain(true, true, true);
+    corrections();
+    inverses();
+    defects();
+    row_defects();
+    residuals();
+    refinements();
+    chains();
 }

@@ -7,8 +7,7 @@ fn row(call: i64, place: i64, entry: Record) -> [i64; 16] {
     let mut w = [0i64; 16];
     w[0] = call;
     w[1] = place;
-    let r = network::record_words(entry);
-    lists::paste(&mut w, 2, &r);
+    w[2..].copy_from_slice(&network::record_words(entry));
     w
 }
 
@@ -29,40 +28,43 @@ fn position(place: i64, kind: i64) -> [i64; 16] {
 // baseline; its strike; two undos, which bring the baseline back; a fourth call, which has no name (-1); a strike of an empty place (7); a position over the baseline; an undo, which
 // brings the baseline back; a position at an empty place; a height difference over it; an undo, which brings the position back; kind 3, which is no record (3).
 fn calls() -> [i64; 255] {
+    let rows = [
+        baseline(160000, 50000),
+        baseline(50000, 160000),
+        baseline(160000, 300001),
+        row(1, 1, samples::level()),
+        row(2, 1, Record::Empty),
+        row(3, 0, Record::Empty),
+        row(3, 0, Record::Empty),
+        row(4, 1, Record::Empty),
+        row(2, 2, Record::Empty),
+        position(1, 4),
+        row(3, 0, Record::Empty),
+        position(2, 4),
+        row(1, 2, samples::level()),
+        row(3, 0, Record::Empty),
+        position(2, 3),
+    ];
     let mut w = [0i64; 255];
-    lists::paste(&mut w, 0, &baseline(160000, 50000));
-    lists::paste(&mut w, 16, &baseline(50000, 160000));
-    lists::paste(&mut w, 32, &baseline(160000, 300001));
-    lists::paste(&mut w, 48, &row(1, 1, samples::level()));
-    lists::paste(&mut w, 64, &row(2, 1, Record::Empty));
-    lists::paste(&mut w, 80, &row(3, 0, Record::Empty));
-    lists::paste(&mut w, 96, &row(3, 0, Record::Empty));
-    lists::paste(&mut w, 112, &row(4, 1, Record::Empty));
-    lists::paste(&mut w, 128, &row(2, 2, Record::Empty));
-    lists::paste(&mut w, 144, &position(1, 4));
-    lists::paste(&mut w, 160, &row(3, 0, Record::Empty));
-    lists::paste(&mut w, 176, &position(2, 4));
-    lists::paste(&mut w, 192, &row(1, 2, samples::level()));
-    lists::paste(&mut w, 208, &row(3, 0, Record::Empty));
-    lists::paste(&mut w, 224, &position(2, 3));
+    for (k, row) in rows.iter().enumerate() {
+        w[k * 16..k * 16 + 16].copy_from_slice(row);
+    }
     w
 }
 
+// Stays: private here, beside the like in other test programs: each stands alone, and a shared function could promise nothing of what it prints.
 fn print_word(v: i64) {
     io::write_all(1, b" ");
-    if words::is_negative(v) {
+    if v < 0 {
         io::write_all(1, b"-");
     }
-    io::print_decimal(1, words::size(v));
+    io::print_decimal(1, v.unsigned_abs());
 }
 
 fn print_words(name: &[u8], list: &[i64]) {
     io::write_all(1, name);
-    let mut i = 0;
-    while i < list.len() {
-        let v = list[i];
-        print_word(v);
-        i = i + 1;
+    for v in list {
+        print_word(*v);
     }
     io::write_all(1, b"\n");
 }
@@ -74,12 +76,10 @@ pub(crate) fn run() {
     let list = samples::list();
     let left = book::replay(&list, &rows, &mut a);
     print_words(b"rows, by their answers:", &a);
-    let b = left.book;
-    let places = b.places;
-    let first = places[0];
-    let baseline = first.entry;
-    print_words(b"words at place 1:", &network::record_words(baseline));
-    let second = places[1];
-    let position = second.entry;
-    print_words(b"words at place 2:", &network::record_words(position));
+    let Ok(b) = left else {
+        return;
+    };
+    let [first, second, ..] = b.places;
+    print_words(b"words at place 1:", &network::record_words(first.entry));
+    print_words(b"words at place 2:", &network::record_words(second.entry));
 }

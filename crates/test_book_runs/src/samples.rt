@@ -19,46 +19,36 @@ pub(crate) fn next(s: u64) -> u64
 }
 
 // Kinds of call.
-pub(crate) const ENTER: usize = 0;
-
-pub(crate) const STRIKE: usize = 1;
-
-pub(crate) const UNDO: usize = 2;
+#[derive(Clone, Copy)]
+pub(crate) enum Kind {
+    Enter,
+    Strike,
+    Undo,
+}
 
 // Of ten calls six enter, two strike and two undo.
-pub(crate) fn kind(s: u64) -> usize {
-    let d = s / 7 % 10;
-    if d < 6 {
-        return ENTER;
+pub(crate) fn kind_of(s: u64) -> Kind {
+    match s / 7 % 10 {
+        0..=5 => Kind::Enter,
+        6..=7 => Kind::Strike,
+        _ => Kind::Undo,
     }
-    if d < 8 { STRIKE } else { UNDO }
 }
 
 // low to low + n - 1.
-fn above(s: u64, n: u64, low: u64) -> i64
-    requires { (0 < n) × (n < 1000000) × (low < 1000000) }
-{
-    words::to_signed(s % n + low)
-}
-
-// -less to n - less - 1.
-fn around(s: u64, n: u64, less: u64) -> i64
+fn above(s: u64, n: u32, low: i32) -> i64
     requires { 0 < n }
 {
-    let v = s % n;
-    if v < less {
-        let t = less - v;
-        return words::to_signed(18446744073709551615 - (t - 1));
-    }
-    words::to_signed(v - less)
+    (s % u64::from(n)) as i64 + i64::from(low)
 }
 
 // Mostly 0 to 60, now and then 250 to 259.
 pub(crate) fn place(s: u64) -> i64 {
     if s % 11 == 0 {
-        return above(s / 11, 10, 250);
+        above(s / 11, 10, 250)
+    } else {
+        above(s / 11, 61, 0)
     }
-    above(s / 11, 61, 0)
 }
 
 pub(crate) fn level() -> Record {
@@ -68,7 +58,7 @@ pub(crate) fn level() -> Record {
 fn height(s: u64) -> Record {
     let from = above(s, 8, 0);
     let to = above(s / 8, 7, 1);
-    let up = around(s / 100, 104000, 1000);
+    let up = above(s / 100, 104000, -1000);
     let weight = above(s / 3000, 10100, 0);
     network::height_of(from, to, up, weight)
 }
@@ -76,10 +66,10 @@ fn height(s: u64) -> Record {
 // The weights of a baseline or a position.
 fn weights(s: u64) -> [i64; 6] {
     let ee = above(s / 70, 200, 90);
-    let en = around(s / 80, 240, 120);
-    let eu = around(s / 90, 60, 30);
+    let en = above(s / 80, 240, -120);
+    let eu = above(s / 90, 60, -30);
     let nn = above(s / 110, 300, 80);
-    let nu = around(s / 130, 80, 40);
+    let nu = above(s / 130, 80, -40);
     let uu = above(s / 170, 10400, 70);
     [ee, en, eu, nn, nu, uu]
 }
@@ -88,34 +78,26 @@ fn baseline(s: u64) -> Record {
     let from = above(s, 6, 1);
     let to = above(s / 6, 7, 0);
     let east = above(s / 40, 101000, 0);
-    let north = around(s / 50, 3000, 1500);
+    let north = above(s / 50, 3000, -1500);
     let up = above(s / 60, 5000, 0);
-    let hf = around(s / 190, 6000, 200);
+    let hf = above(s / 190, 6000, -200);
     let ht = above(s / 230, 6000, 0);
     network::baseline_of(from, to, [east, north, up], weights(s), [hf, ht])
 }
 
 fn position(s: u64) -> Record {
     let station = above(s, 8, 0);
-    let east = around(s / 10, 102000, 1000);
-    let north = around(s / 50, 3000, 1500);
+    let east = above(s / 10, 102000, -1000);
+    let north = above(s / 50, 3000, -1500);
     let up = above(s / 60, 5000, 98000);
     network::position_of(station, [east, north, up], weights(s))
 }
 
 pub(crate) fn entry(s: u64) -> Record {
-    let d = s % 50;
-    if d == 0 {
-        return Record::Empty;
+    match s % 50 {
+        0 => Record::Empty,
+        1..=16 => height(s / 50),
+        17..=33 => baseline(s / 50),
+        _ => position(s / 50),
     }
-    if d < 17 {
-        let r = height(s / 50);
-        return r;
-    }
-    if d < 34 {
-        let r = baseline(s / 50);
-        return r;
-    }
-    let r = position(s / 50);
-    r
 }

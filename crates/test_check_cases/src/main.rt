@@ -8,11 +8,12 @@ mod checks_only;
 mod nine_degrees;
 mod shown;
 
-ghost use Rattle.std.specs.Prelude.{◌<◌, length};
+ghost use Rattle.std.specs.Prelude.{◌≡◌, true, ◌<◌, length, IfOk};
+ghost use Rattle.book.specs.Book.{sound};
 ghost use Rattle.cases.specs.Table.{table};
 
-use book::Book;
-use books::{baseline, level, opened, printed, two, undone};
+use book::{Book, Call, Change, Refusal};
+use books::{baseline, called_often, level, opened, printed, two, undone};
 use checks_only::checks_only;
 use nine_degrees::nine_degrees;
 use shown::{answer, edits, print_answer, show, title};
@@ -50,69 +51,51 @@ fn show_case(k: usize)
 }
 
 fn proved_cases() {
-    let mut k: usize = 0;
-    while k < 14 {
+    for k in 0..14 {
         show_case(k);
-        k = k + 1;
     }
 }
 
-fn sheet_room() {
+fn sheet_room() -> Result<(), Refusal> {
     title(b"sheet one word short");
-    answer(printed(two(), 1100), 50, 5368709, 24);
+    answer(printed(two()?, 1100), 50, 5368709, 24);
     title(b"sheet of just the room");
-    answer(printed(two(), 1100), 50, 5368709, 25);
+    answer(printed(two()?, 1100), 50, 5368709, 25);
+    Ok(())
 }
 
-// 64 enters over a filled place, each an edit, though all but the first enter the record that is there.
-fn entered_often(book: Book) -> Book {
-    let mut b = book;
-    let mut k: usize = 0;
-    while k < 64 {
-        b = level(b, 1, 1, 2, 1001, 100);
-        k = k + 1;
-    }
-    b
-}
-
-fn undone_often(book: Book) -> Book {
-    let mut b = book;
-    let mut k: usize = 0;
-    while k < 64 {
-        b = undone(b);
-        k = k + 1;
-    }
-    b
-}
-
-// 65 edits: one fills a place and 64 are entered over it; then 64 undos, and one more.
-fn history() {
+// 65 edits: one fills a place and 64 are entered over it, each an edit, though all but the first enter the record that is there; then 64 undos, and one more.
+fn history() -> Result<(), Refusal> {
+    let over = Change::Enter(network::height_of(1, 2, 1001, 100));
     title(b"65 edits");
-    let b = entered_often(level(two(), 1, 1, 2, 1000, 100));
+    let b = called_often(level(two()?, 1, 1, 2, 1000, 100), Call::Edit(1, over));
     answer(b, 1, 10737418, 23);
     title(b"64 undos");
-    let first = undone_often(b);
+    let first = called_often(b, Call::Undo);
     answer(first, 0, 10737418, 23);
     title(b"one more");
     answer(undone(first), 0, 10737418, 23);
+    Ok(())
 }
 
 // A known station, two free ones and one of unknown height.
-fn four() -> Book {
+fn four() -> Result<Book, Refusal>
+    ensures { IfOk result (λ b. sound b ≡ true) }
+{
     let list = [1i64, 0, 0, 0, 2, 0, 0, 1000, 2, 0, 0, 2000, 3, 0, 0, 1000];
     opened(&list)
 }
 
-fn untied(book: Book) {
-    let xs = [0i64; 7];
-    let ms = [0i64; 49];
-    show(book, &xs, &ms, 100);
+fn untied(book: Book)
+    requires { sound book ≡ true }
+{
+    show(book, &[0; 7], &[0; 49], 100);
 }
 
-fn disconnected() {
+fn disconnected() -> Result<(), Refusal> {
     title(b"no chain in E, N: levelling alone");
     untied(level(
-        level(level(four(), 1, 1, 2, 1000, 100), 2, 2, 3, 1000, 100),
+        level(level(four()?, 1, 1, 2, 1000, 100), 2, 2, 3, 1000, 100),
         3,
         1,
         4,
@@ -121,7 +104,7 @@ fn disconnected() {
     ));
     title(b"no chain in E, N at the second free station");
     untied(level(
-        level(baseline(four(), 1, 1, 2, 0, 0, 1000), 2, 2, 3, 1000, 100),
+        level(baseline(four()?, 1, 1, 2, [0, 0, 1000]), 2, 2, 3, 1000, 100),
         3,
         1,
         4,
@@ -129,25 +112,45 @@ fn disconnected() {
         100,
     ));
     title(b"no chain in U at the station of unknown height");
-    untied(baseline(baseline(four(), 1, 1, 2, 0, 0, 1000), 2, 2, 3, 0, 0, 1000));
+    untied(baseline(
+        baseline(four()?, 1, 1, 2, [0, 0, 1000]),
+        2,
+        2,
+        3,
+        [0, 0, 1000],
+    ));
     title(b"two free stations joined to each other alone");
-    untied(level(baseline(four(), 1, 2, 3, 0, 0, 1000), 2, 1, 4, 1000, 100));
+    untied(level(baseline(four()?, 1, 2, 3, [0, 0, 1000]), 2, 1, 4, 1000, 100));
     title(b"all joined, M 0");
     untied(level(
-        baseline(baseline(four(), 1, 1, 2, 0, 0, 1000), 2, 2, 3, 0, 0, 1000),
+        baseline(
+            baseline(four()?, 1, 1, 2, [0, 0, 1000]),
+            2,
+            2,
+            3,
+            [0, 0, 1000],
+        ),
         3,
         1,
         4,
         1000,
         100,
     ));
+    Ok(())
 }
 
-fn main() {
+fn cases() -> Result<(), Refusal> {
     proved_cases();
-    sheet_room();
-    nine_degrees(two(), 50);
-    history();
-    disconnected();
-    checks_only();
+    sheet_room()?;
+    nine_degrees(two()?, 50);
+    history()?;
+    disconnected()?;
+    checks_only()
+}
+
+// An opening that is refused ends the output, by its number.
+fn main() {
+    if let Err(refusal) = cases() {
+        shown::refused(refusal);
+    }
 }

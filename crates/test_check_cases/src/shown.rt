@@ -1,5 +1,8 @@
 // What the cases print.
-use acceptance::Answer;
+ghost use Rattle.std.specs.Prelude.{◌≡◌, true, ◌≤◌};
+ghost use Rattle.book.specs.Book.{sound};
+
+use acceptance::Refusal;
 use book::Book;
 
 // A case begins.
@@ -13,43 +16,37 @@ fn field(n: u64) {
     io::print_decimal(1, n);
 }
 
+// A case that is known by a number.
+pub(crate) fn numbered_title(name: &[u8], n: u64) {
+    io::write_all(1, name);
+    field(n);
+    io::write_all(1, b"\n");
+}
+
+// Stays: each test program prints its signed numbers itself, since it stands alone, and a contract of a shared function could state nothing of what it prints.
 fn signed(v: i64) {
     io::write_all(1, b" ");
-    if words::is_negative(v) {
+    if v < 0 {
         io::write_all(1, b"-");
     }
-    io::print_decimal(1, words::size(v));
+    io::print_decimal(1, v.unsigned_abs());
 }
 
 // An edit that was refused, by its number.
-pub(crate) fn refused(number: u64) {
-    if number != 0 {
-        io::write_all(1, b" edit refused");
-        field(number);
-        io::write_all(1, b"\n");
-    }
+pub(crate) fn refused(refusal: book::Refusal) {
+    io::write_all(1, b" edit refused");
+    field(u64::from(refusal));
+    io::write_all(1, b"\n");
 }
 
 // How many of the lent words are no longer -1.
-fn changed(sheet: &[i64]) -> u64 {
-    let mut n: u64 = 0;
-    let mut i = 0;
-    while i < sheet.len() {
-        if !words::same(sheet[i], -1) {
-            if n < 1000000 {
-                n = n + 1;
-            }
-        }
-        i = i + 1;
-    }
-    n
+fn changed(sheet: &[i64]) -> usize {
+    sheet.iter().filter(|v| **v != -1).count()
 }
 
 fn print_words(sheet: &[i64]) {
-    let mut i = 0;
-    while i < sheet.len() {
-        signed(sheet[i]);
-        i = i + 1;
+    for v in sheet {
+        signed(*v);
     }
 }
 
@@ -60,42 +57,34 @@ pub(crate) fn edits(answers: &[i64]) {
     io::write_all(1, b"\n");
 }
 
-pub(crate) fn print_answer(answer: Answer, sheet: &[i64]) {
+pub(crate) fn print_answer(answer: Result<(), Refusal>, sheet: &[i64]) {
     field(acceptance::number(answer));
-    let unknown = acceptance::unknown(answer);
-    if unknown != 0 {
+    if let Err(Refusal::Untied(unknown)) = answer {
         field(unknown);
     }
-    if acceptance::number(answer) == 0 {
+    if answer.is_ok() {
         io::write_all(1, b" :");
         print_words(sheet);
     } else {
         io::write_all(1, b" : changed");
-        field(changed(sheet));
+        field(changed(sheet) as u64);
     }
     io::write_all(1, b"\n");
 }
 
-fn show_on(book: Book, x: &[i64], m: &[i64], sheet: &mut [i64]) {
-    if book::is_sound(book) {
-        let answer = checks::check_sheet(book, x, m, sheet);
-        print_answer(answer, sheet);
-        return;
-    }
-    io::write_all(1, b" no book\n");
-}
-
 // The answer to x and M with `long` lent words, each of them -1 before.
-pub(crate) fn show(book: Book, x: &[i64], m: &[i64], long: usize) {
+pub(crate) fn show(book: Book, x: &[i64], m: &[i64], long: usize)
+    requires { (sound book ≡ true) × (long ≤ 128) }
+{
     let mut sheet = [-1i64; 128];
-    if long <= 128 {
-        show_on(book, x, m, &mut sheet[0..long]);
-    }
+    let lent = &mut sheet[..long];
+    let answer = checks::check_sheet(book, x, m, lent);
+    print_answer(answer, lent);
 }
 
 // A check of one unknown.
-pub(crate) fn answer(book: Book, x: i64, m: i64, long: usize) {
-    let xs = [x];
-    let ms = [m];
-    show(book, &xs, &ms, long);
+pub(crate) fn answer(book: Book, x: i64, m: i64, long: usize)
+    requires { (sound book ≡ true) × (long ≤ 128) }
+{
+    show(book, &[x], &[m], long);
 }

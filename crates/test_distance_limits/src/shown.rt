@@ -1,78 +1,61 @@
 // What is printed of a check distance and its answer.
-use book::Book;
-use distances::{Agreement, CheckDistance};
+ghost use Rattle.std.specs.Prelude.{◌≡◌, true};
+ghost use Rattle.book.specs.Book.{sound};
 
+use acceptance::Refusal;
+use book::Book;
+use distances::{Agreement, CheckDistance, DistanceRefusal};
+
+// Stays: each test program prints its signed numbers itself, since it stands alone, and a contract of a shared function could state nothing of what it prints.
 fn print_field(v: i64) {
     io::write_all(1, b" ");
-    if words::is_negative(v) {
+    if v < 0 {
         io::write_all(1, b"-");
     }
-    io::print_decimal(1, words::size(v));
+    io::print_decimal(1, v.unsigned_abs());
+}
+
+fn print_fields(list: &[i64]) {
+    for v in list {
+        print_field(*v);
+    }
 }
 
 pub(crate) fn print_list(name: &[u8], list: &[i64]) {
     io::write_all(1, name);
-    let mut i = 0;
-    while i < list.len() {
-        let v = list[i];
-        print_field(v);
-        i = i + 1;
-    }
+    print_fields(list);
     io::write_all(1, b"\n");
 }
 
-fn print_refusal(answer: Agreement) {
+fn print_refusal(refusal: DistanceRefusal) {
     io::write_all(1, b": refused");
-    print_field(distances::number(answer));
-    let unknown = distances::unknown(answer);
-    if 0 < unknown {
+    print_field(distances::number(Err(refusal)));
+    if let DistanceRefusal::Pair(Refusal::Untied(unknown)) = refusal {
         io::write_all(1, b" unknown ");
         io::print_decimal(1, unknown);
     }
     io::write_all(1, b"\n");
 }
 
-// By its number: 0 and −2 are answers, the others refusals.
-fn print_answer(answer: Agreement) {
-    let number = distances::number(answer);
-    if words::same(number, 0) {
-        io::write_all(1, b": agrees\n");
-        return;
+fn print_answer(answer: Result<Agreement, DistanceRefusal>) {
+    match answer {
+        Ok(Agreement::Agrees) => {
+            io::write_all(1, b": agrees\n");
+        }
+        Ok(Agreement::Disagrees) => {
+            io::write_all(1, b": does not agree\n");
+        }
+        Err(refusal) => print_refusal(refusal),
     }
-    if words::same(number, -2) {
-        io::write_all(1, b": does not agree\n");
-        return;
-    }
-    print_refusal(answer);
 }
 
-fn ask(book: Book, x: &[i64], m: &[i64], d: CheckDistance) {
-    if book::is_sound(book) {
-        print_answer(distances::check_distance(book, x, m, d));
-        return;
-    }
-    io::write_all(1, b": no book\n");
-}
-
-// The answer, with the six numbers before it.
-pub(crate) fn check(
-    book: Book,
-    x: &[i64],
-    m: &[i64],
-    from: i64,
-    to: i64,
-    distance: i64,
-    instrument: i64,
-    target: i64,
-    tolerance: i64,
-) {
+// The answer to a check distance, with its values before it: from, to, distance, instrument and target height, tolerance.
+pub(crate) fn ask(book: Book, x: &[i64], m: &[i64], row: [i64; 6])
+    requires { sound book ≡ true }
+{
     io::write_all(1, b"D");
-    print_field(from);
-    print_field(to);
-    print_field(distance);
-    print_field(instrument);
-    print_field(target);
-    print_field(tolerance);
+    print_fields(&row);
+    let [from, to, distance, instrument, target, tolerance] = row;
     let d = CheckDistance {
         from,
         to,
@@ -81,5 +64,5 @@ pub(crate) fn check(
         target,
         tolerance,
     };
-    ask(book, x, m, d);
+    print_answer(distances::check_distance(book, x, m, d));
 }

@@ -2,57 +2,50 @@
 // part, so tests/host does not reach this.
 #![tactic(auto)]
 
-ghost use Rattle.std.specs.Prelude.{◌≡◌, length};
+ghost use Rattle.std.specs.Prelude.{◌≡◌, ◌*◌, ◌≤◌, length};
 
-use files::EntryFound;
+use files::{EntryFound, FileRefusal};
 
-fn baseline(place: i64) -> [i64; 16]
-    ensures { length result ≡ 16 }
-{
+fn baseline(place: i64) -> [i64; 16] {
     [1, place, 1, 2, 10, -20, 30, 100, 0, 0, 100, 0, 100, 0, 0, 0]
 }
 
-fn height(place: i64, up: i64) -> [i64; 16]
-    ensures { length result ≡ 16 }
-{
+fn height(place: i64, up: i64) -> [i64; 16] {
     [2, place, 1, 2, 0, 0, up, 0, 0, 0, 0, 0, 100, 0, 0, 0]
 }
 
-fn strike(place: i64) -> [i64; 16]
-    ensures { length result ≡ 16 }
-{
+fn strike(place: i64) -> [i64; 16] {
     [3, place, 0, 0, 0, 0, 0, 0, 0, 0, 0, 0, 0, 0, 0, 0]
 }
 
-// Four entries: places 1, 2, 1 again, and 4.
-fn day_file() -> [u8; 512]
-    ensures { length result ≡ 512 }
+// A file of these entries, one after the other.
+fn file_of<const N: usize>(entries: &[[i64; 16]]) -> [u8; N]
+    requires { length entries.now * 128 ≤ N }
 {
-    let mut f = [0u8; 512];
-    files::write_entry(&mut f, 0, baseline(1));
-    files::write_entry(&mut f, 128, height(2, -42));
-    files::write_entry(&mut f, 256, height(1, 7));
-    files::write_entry(&mut f, 384, strike(4));
+    let mut f = [0u8; N];
+    for (k, entry) in entries.iter().enumerate() {
+        files::write_entry(&mut f, k * 128, *entry);
+    }
     f
+}
+
+// Four entries: places 1, 2, 1 again, and 4.
+fn day_file() -> [u8; 512] {
+    file_of(&[baseline(1), height(2, -42), height(1, 7), strike(4)])
 }
 
 // Three entries: places 256 and 2, and 2 struck.
-fn night_file() -> [u8; 384]
-    ensures { length result ≡ 384 }
-{
-    let mut f = [0u8; 384];
-    files::write_entry(&mut f, 0, height(256, -1));
-    files::write_entry(&mut f, 128, height(2, 5));
-    files::write_entry(&mut f, 256, strike(2));
-    f
+fn night_file() -> [u8; 384] {
+    file_of(&[height(256, -1), height(2, 5), strike(2)])
 }
 
+// Stays: private here, beside the like in other test programs: each stands alone, and a shared function could promise nothing of what it prints.
 fn number(v: i64) {
     io::write_all(1, b" ");
-    if words::is_negative(v) {
+    if v < 0 {
         io::write_all(1, b"-");
     }
-    io::print_decimal(1, words::size(v));
+    io::print_decimal(1, v.unsigned_abs());
 }
 
 fn reading(what: &[u8], f: &[u8]) {
@@ -65,19 +58,19 @@ fn reading(what: &[u8], f: &[u8]) {
 }
 
 // Which file, and the byte where the entry starts; or the refusal's number.
-fn where_found(found: EntryFound) {
+fn where_found(found: Result<EntryFound, FileRefusal>) {
     match found {
-        EntryFound::InNight(at) => {
+        Ok(EntryFound::InNight(at)) => {
             io::write_all(1, b" night file, byte ");
             io::print_decimal(1, at as u64);
         }
-        EntryFound::InDay(at) => {
+        Ok(EntryFound::InDay(at)) => {
             io::write_all(1, b" day file, byte ");
             io::print_decimal(1, at as u64);
         }
-        EntryFound::Refused(refusal) => {
-            io::write_all(1, b" refused with ");
-            io::print_decimal(1, files::file_number(refusal));
+        Err(refusal) => {
+            io::write_all(1, b" refused with");
+            number(i64::from(refusal));
         }
     }
 }
@@ -115,13 +108,9 @@ fn readings(day: [u8; 512], damaged: [u8; 512]) {
 }
 
 fn questions<'a>(night: &'a [u8], day: &'a [u8]) {
-    asked(night, day, 1);
-    asked(night, day, 2);
-    asked(night, day, 3);
-    asked(night, day, 4);
-    asked(night, day, 256);
-    asked(night, day, 0);
-    asked(night, day, 257);
+    for place in [1, 2, 3, 4, 256, 0, 257] {
+        asked(night, day, place);
+    }
     asked(day, night, 2);
 }
 

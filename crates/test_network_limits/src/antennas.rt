@@ -1,26 +1,13 @@
 // Document 02, request 4: the antenna heights, the observed U difference and the reduced one, each at its limits; and misclosures, which are of the reduced one.
-use super::{judged, print_answer, print_field};
+use super::{judged, print_answer, print_baseline, print_fields};
 
 // A baseline alike in E and N, of weight 100 in each component, with `en` in E and N.
 fn weighted(from: i64, to: i64, plane: i64, up: i64, en: i64, hf: i64, ht: i64) {
-    io::write_all(1, b"B");
-    print_field(from);
-    print_field(to);
-    print_field(plane);
-    print_field(plane);
-    print_field(up);
-    io::write_all(1, b" 100");
-    print_field(en);
-    io::write_all(1, b" 0 100 0 100");
-    print_field(hf);
-    print_field(ht);
-    let b = network::baseline_of(
-        from,
-        to,
-        [plane, plane, up],
-        [100, en, 0, 100, 0, 100],
-        [hf, ht],
-    );
+    let observed = [plane, plane, up];
+    let weights = [100, en, 0, 100, 0, 100];
+    print_baseline(from, to, observed, weights);
+    print_fields(&[hf, ht]);
+    let b = network::baseline_of(from, to, observed, weights, [hf, ht]);
     print_answer(judged(b));
 }
 
@@ -35,28 +22,28 @@ fn to_third(hf: i64, ht: i64, up: i64) {
 
 fn heights() {
     // from-height
-    to_third(-9223372036854775808, 0, 500000000);
+    to_third(i64::MIN, 0, 500000000);
     to_third(-1, 0, 500000000);
     to_third(0, 0, 500000000);
     to_third(1, 0, 499999999);
     to_third(299999, 0, 499700001);
     to_third(300000, 0, 499700000);
     to_third(300001, 0, 499699999);
-    to_third(9223372036854775807, 0, 500000000);
+    to_third(i64::MAX, 0, 500000000);
     // to-height
-    to_third(0, -9223372036854775808, 500000000);
+    to_third(0, i64::MIN, 500000000);
     to_third(0, -1, 500000000);
     to_third(0, 1, 500000001);
     to_third(0, 299999, 500299999);
     to_third(0, 300000, 500300000);
     to_third(0, 300001, 500300001);
-    to_third(0, 9223372036854775807, 500000000);
+    to_third(0, i64::MAX, 500000000);
     // both
     to_third(300000, 300000, 500000000);
     to_third(300001, 300001, 500000000);
     to_third(-1, -1, 500000000);
-    to_third(9223372036854775807, 9223372036854775807, 500000000);
-    to_third(-9223372036854775808, -9223372036854775808, 500000000);
+    to_third(i64::MAX, i64::MAX, 500000000);
+    to_third(i64::MIN, i64::MIN, 500000000);
     // exchanged
     to_third(150000, 50000, 499900000);
     to_third(50000, 150000, 499900000);
@@ -72,8 +59,8 @@ fn reduced() {
     antennas(1, 2, 1000000000, 999700001, 300000, 0);
     antennas(1, 2, 1000000000, 1000000001, 0, 0);
     antennas(1, 2, 1000000000, 1000000001, 0, 1);
-    antennas(1, 2, 1000000000, 9223372036854775807, 300000, 0);
-    antennas(1, 2, 1000000000, 9223372036854775807, 0, 300000);
+    antennas(1, 2, 1000000000, i64::MAX, 300000, 0);
+    antennas(1, 2, 1000000000, i64::MAX, 0, 300000);
     antennas(2, 1, -1000000000, -1000000000, 0, 0);
     antennas(2, 1, -1000000000, -1000000000, 0, 1);
     antennas(2, 1, -1000000000, -1000000000, 300000, 300000);
@@ -82,8 +69,8 @@ fn reduced() {
     antennas(2, 1, -1000000000, -999700001, 0, 300000);
     antennas(2, 1, -1000000000, -1000000001, 0, 0);
     antennas(2, 1, -1000000000, -1000000001, 1, 0);
-    antennas(2, 1, -1000000000, -9223372036854775808, 0, 300000);
-    antennas(2, 1, -1000000000, -9223372036854775808, 300000, 0);
+    antennas(2, 1, -1000000000, i64::MIN, 0, 300000);
+    antennas(2, 1, -1000000000, i64::MIN, 300000, 0);
 }
 
 // At the limits of a misclosure by the heights alone, in both directions.

@@ -1,24 +1,16 @@
 // Document 02, request 5: positions, at both sides of each limit of refusals 3 to 6. Weights are judged beside a baseline's.
-use super::{judged, judged_over, list_of, print_answer, print_field};
+use super::variants::with;
+use super::{GOOD, judged, judged_over, list_of, print_answer, print_fields};
 use network::Record;
 
-// Weights in range, and weights whose second leading minor is 0.
-const GOOD: [i64; 6] = [100, 0, 0, 100, 0, 100];
-
+// Weights whose second leading minor is 0.
 const SINGULAR: [i64; 6] = [100, 100, 0, 100, 0, 100];
 
 fn print_position(station: i64, observed: [i64; 3], weights: [i64; 6]) -> Record {
     io::write_all(1, b"P");
-    print_field(station);
-    print_field(observed[0]);
-    print_field(observed[1]);
-    print_field(observed[2]);
-    print_field(weights[0]);
-    print_field(weights[1]);
-    print_field(weights[2]);
-    print_field(weights[3]);
-    print_field(weights[4]);
-    print_field(weights[5]);
+    print_fields(&[station]);
+    print_fields(&observed);
+    print_fields(&weights);
     network::position_of(station, observed, weights)
 }
 
@@ -38,9 +30,9 @@ pub(crate) fn weights(w: [i64; 6]) {
 
 // One coordinate apart from the station's provisional ones, which are alike in E, N and U.
 fn apart(station: i64, provisional: i64, coordinate: i64) {
-    observed(station, coordinate, provisional, provisional);
-    observed(station, provisional, coordinate, provisional);
-    observed(station, provisional, provisional, coordinate);
+    for at in 0..3 {
+        position(station, with([provisional; 3], at, coordinate), GOOD);
+    }
 }
 
 // The station: in the list, with coordinates of its own and of another; outside the list.
@@ -50,13 +42,13 @@ fn stations() {
     observed(3, 0, 0, 0);
     observed(1, 0, 0, 0);
     observed(2, 0, 0, 0);
-    observed(-9223372036854775808, 0, 0, 0);
+    observed(i64::MIN, 0, 0, 0);
     observed(-1, 0, 0, 0);
     observed(0, 0, 0, 0);
     observed(4, 0, 0, 0);
     observed(32, 0, 0, 0);
     observed(33, 0, 0, 0);
-    observed(9223372036854775807, 0, 0, 0);
+    observed(i64::MAX, 0, 0, 0);
 }
 
 // Over 32 stations of unknown height, the most that a list has.
@@ -69,18 +61,17 @@ fn of_32(station: i64) {
 }
 
 fn longest_list() {
-    of_32(0);
-    of_32(1);
-    of_32(32);
-    of_32(33);
+    for station in [0, 1, 32, 33] {
+        of_32(station);
+    }
 }
 
 // Each coordinate, at the first station and the second, which are at the two ends of the range.
 fn coordinates() {
     apart(1, -500000000, -500000001);
-    apart(1, -500000000, -9223372036854775808);
+    apart(1, -500000000, i64::MIN);
     apart(2, 500000000, 500000001);
-    apart(2, 500000000, 9223372036854775807);
+    apart(2, 500000000, i64::MAX);
 }
 
 // Misclosures in each component.
@@ -89,10 +80,9 @@ fn misclosures() {
     apart(1, -500000000, -499899999);
     apart(2, 500000000, 499900000);
     apart(2, 500000000, 499899999);
-    apart(3, 0, -100001);
-    apart(3, 0, -100000);
-    apart(3, 0, 100000);
-    apart(3, 0, 100001);
+    for coordinate in [-100001, -100000, 100000, 100001] {
+        apart(3, 0, coordinate);
+    }
 }
 
 // Where several apply, the lowest number wins.

@@ -1,8 +1,11 @@
-// The books of the cases.
-use book::{Book, Call, Change};
-use network::{Record, Unit};
+// The books of the cases. The text of a case ends at the first call that a book refuses.
+ghost use Rattle.std.specs.Prelude.{◌≡◌, true, IfOk};
+ghost use Rattle.book.specs.Book.{sound};
 
-// Kinds of a station.
+use book::{Book, Call, Change, Refusal};
+use network::{Kind, Record, Unit};
+
+// Stays: a station list is lent as words (`Book::open`, as the C host calls it), so a kind stands in it as its word.
 pub(crate) const KNOWN: i64 = 1;
 
 pub(crate) const FREE: i64 = 2;
@@ -12,28 +15,32 @@ const HEIGHT: i64 = 3;
 // The weight of a baseline or a position between E and N.
 const EN: i64 = 20;
 
-// The book of a list that opens.
-pub(crate) fn opened(list: &[i64]) -> Book {
-    let e = Book::open(list);
-    let b = e.book;
-    b
+pub(crate) fn opened(list: &[i64]) -> Result<Book, Refusal>
+    ensures { IfOk result (λ b. sound b ≡ true) }
+{
+    Book::open(list)
 }
 
-// The book after a call. A refused one leaves it, which the sheet shows.
-fn called(book: Book, call: Call) -> Book {
-    if book::is_sound(book) {
-        let e = book.apply(call);
-        let b = e.book;
-        return b;
-    }
-    book
+// The book after a call.
+fn called(mut book: Book, call: Call) -> Result<Book, Refusal>
+    requires { sound book ≡ true }
+    ensures { IfOk result (λ b. sound b ≡ true) }
+{
+    book.apply(call)?;
+    Ok(book)
 }
 
-fn entered(book: Book, place: i64, r: Record) -> Book {
+fn entered(book: Book, place: i64, r: Record) -> Result<Book, Refusal>
+    requires { sound book ≡ true }
+    ensures { IfOk result (λ b. sound b ≡ true) }
+{
     called(book, Call::Edit(place, Change::Enter(r)))
 }
 
-pub(crate) fn undone(book: Book) -> Book {
+pub(crate) fn undone(book: Book) -> Result<Book, Refusal>
+    requires { sound book ≡ true }
+    ensures { IfOk result (λ b. sound b ≡ true) }
+{
     called(book, Call::Undo)
 }
 
@@ -43,7 +50,10 @@ fn weights() -> [i64; 6] {
     [weight, EN, 0, weight, 0, weight]
 }
 
-pub(crate) fn level(book: Book, place: i64, from: i64, to: i64, up: i64) -> Book {
+pub(crate) fn level(book: Book, place: i64, from: i64, to: i64, up: i64) -> Result<Book, Refusal>
+    requires { sound book ≡ true }
+    ensures { IfOk result (λ b. sound b ≡ true) }
+{
     entered(
         book,
         place,
@@ -51,7 +61,16 @@ pub(crate) fn level(book: Book, place: i64, from: i64, to: i64, up: i64) -> Book
     )
 }
 
-pub(crate) fn baseline(book: Book, place: i64, from: i64, to: i64, observed: [i64; 3]) -> Book {
+pub(crate) fn baseline(
+    book: Book,
+    place: i64,
+    from: i64,
+    to: i64,
+    observed: [i64; 3],
+) -> Result<Book, Refusal>
+    requires { sound book ≡ true }
+    ensures { IfOk result (λ b. sound b ≡ true) }
+{
     entered(
         book,
         place,
@@ -59,7 +78,15 @@ pub(crate) fn baseline(book: Book, place: i64, from: i64, to: i64, observed: [i6
     )
 }
 
-pub(crate) fn position(book: Book, place: i64, station: i64, observed: [i64; 3]) -> Book {
+pub(crate) fn position(
+    book: Book,
+    place: i64,
+    station: i64,
+    observed: [i64; 3],
+) -> Result<Book, Refusal>
+    requires { sound book ≡ true }
+    ensures { IfOk result (λ b. sound b ≡ true) }
+{
     entered(
         book,
         place,
@@ -68,13 +95,28 @@ pub(crate) fn position(book: Book, place: i64, station: i64, observed: [i64; 3])
 }
 
 // Document 01's two stations: a known one and one of unknown height, 1,000 apart.
-pub(crate) fn two() -> Book {
+pub(crate) fn two() -> Result<Book, Refusal>
+    ensures { IfOk result (λ b. sound b ≡ true) }
+{
     opened(&[KNOWN, 0, 0, 100000, HEIGHT, 0, 0, 101000])
 }
 
-// The same with a third station, of a kind by its number.
-pub(crate) fn with_third(kind: i64) -> Book {
+// The same with a third station.
+pub(crate) fn with_third(kind: Kind) -> Result<Book, Refusal>
+    ensures { IfOk result (λ b. sound b ≡ true) }
+{
     opened(&[
-        KNOWN, 0, 0, 100000, HEIGHT, 0, 0, 101000, kind, 0, 0, 102000,
+        KNOWN,
+        0,
+        0,
+        100000,
+        HEIGHT,
+        0,
+        0,
+        101000,
+        network::kind_word(kind),
+        0,
+        0,
+        102000,
     ])
 }

@@ -1,28 +1,29 @@
 // What a case prints: its name, then the number of the answer (and the unknown of an 11) and the lent words of the sheet, each of them -1 before.
-use acceptance::Answer;
+ghost use Rattle.std.specs.Prelude.{◌≡◌, true, ◌≤◌};
+ghost use Rattle.book.specs.Book.{sound};
+
+use acceptance::Refusal;
 use book::Book;
 
+// Stays: each test program prints its signed numbers itself, since it stands alone, and a contract of a shared function could state nothing of what it prints.
 fn signed(v: i64) {
     io::write_all(1, b" ");
-    if words::is_negative(v) {
+    if v < 0 {
         io::write_all(1, b"-");
     }
-    io::print_decimal(1, words::size(v));
+    io::print_decimal(1, v.unsigned_abs());
 }
 
 fn print_words(sheet: &[i64]) {
-    let mut i = 0;
-    while i < sheet.len() {
-        signed(sheet[i]);
-        i = i + 1;
+    for v in sheet {
+        signed(*v);
     }
 }
 
-fn print_answer(answer: Answer, sheet: &[i64]) {
+fn print_answer(answer: Result<(), Refusal>, sheet: &[i64]) {
     io::write_all(1, b" ");
     io::print_decimal(1, acceptance::number(answer));
-    let unknown = acceptance::unknown(answer);
-    if unknown != 0 {
+    if let Err(Refusal::Untied(unknown)) = answer {
         io::write_all(1, b" ");
         io::print_decimal(1, unknown);
     }
@@ -31,19 +32,14 @@ fn print_answer(answer: Answer, sheet: &[i64]) {
     io::write_all(1, b"\n");
 }
 
-fn check(book: Book, x: &[i64], m: &[i64], sheet: &mut [i64]) {
-    if book::is_sound(book) {
-        let answer = checks::check_sheet(book, x, m, sheet);
-        print_answer(answer, sheet);
-    }
-}
-
 // The answer to x and M with `long` lent words.
-pub(crate) fn show(name: &[u8], book: Book, x: &[i64], m: &[i64], long: usize) {
+pub(crate) fn show(name: &[u8], book: Book, x: &[i64], m: &[i64], long: usize)
+    requires { (sound book ≡ true) × (long ≤ 64) }
+{
     io::write_all(1, name);
     io::write_all(1, b"\n");
     let mut sheet = [-1i64; 64];
-    if long <= 64 {
-        check(book, x, m, &mut sheet[0..long]);
-    }
+    let lent = &mut sheet[..long];
+    let answer = checks::check_sheet(book, x, m, lent);
+    print_answer(answer, lent);
 }

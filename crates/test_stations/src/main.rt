@@ -4,30 +4,31 @@
 mod samples;
 mod shown;
 
-ghost use Rattle.std.specs.Prelude.{◌≡◌, true, [], ◌∷◌, ◌≤◌, take};
-ghost use Rattle.network.specs.Stations.{opens};
+ghost use Rattle.std.specs.Prelude.{◌≡◌, true, [], ◌∷◌, ◌≤◌, take, IfOk};
 ghost use Rattle.book.specs.Book.{opening, sound};
+ghost use Rattle.book.specs.Outcomes.{opened_as};
 ghost use Rattle.network.specs.StationWords.{flat};
 
-use book::Edited;
+use book::{Book, Refusal};
 use network::Station;
 use samples::{free, height, known, thirty_three};
 use shown::show;
 
 // A book on a list of two stations, made here and lent.
-fn open_pair(a: Station, b: Station) -> Edited
-    ensures { (result ≡ opening (flat (a ∷ b ∷ []))) × (opens (flat (a ∷ b ∷ [])) ≡ true → sound result.book ≡ true) }
+fn open_pair(a: Station, b: Station) -> Result<Book, Refusal>
+    ensures opened { opened_as result ≡ opening (flat (a ∷ b ∷ [])) }
+    ensures sound { IfOk result (λ k. sound k ≡ true) }
 {
-    let list = [a, b];
-    stations::open_stations(&list)
+    stations::open_stations(&[a, b])
 }
 
 // A book on the first n of 33 stations: every length that a list may have, none, and one too many.
-fn open_first(list: [Station; 33], n: usize) -> Edited
+fn open_first(list: [Station; 33], n: usize) -> Result<Book, Refusal>
     requires { n ≤ 33 }
-    ensures { (result ≡ opening (flat (take n list))) × (opens (flat (take n list)) ≡ true → sound result.book ≡ true) }
+    ensures opened { opened_as result ≡ opening (flat (take n list)) }
+    ensures sound { IfOk result (λ k. sound k ≡ true) }
 {
-    stations::open_stations(&list[0..n])
+    stations::open_stations(&list[..n])
 }
 
 fn pairs() {

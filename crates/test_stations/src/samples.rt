@@ -31,26 +31,19 @@ fn sample(i: usize) -> Station
     let east = i as i64;
     let north = !east;
     let up = (100 * i) as i64;
-    if i == 0 {
-        return known(east, north, up);
-    }
-    if i < 16 {
-        return free(east, north, up);
-    }
-    if i < 19 {
-        return height(east, north, up);
-    }
-    known(east, north, up)
+    let kind = match i {
+        1..=15 => Kind::Free,
+        16..=18 => Kind::Height,
+        _ => Kind::Known,
+    };
+    station(kind, east, north, up)
 }
 
 // Those 33.
 pub(crate) fn thirty_three() -> [Station; 33] {
-    let none = known(0, 0, 0);
-    let mut list = [none; 33];
-    let mut i = 0;
-    while i < 33 {
+    let mut list = [known(0, 0, 0); 33];
+    for i in 0..33 {
         list[i] = sample(i);
-        i = i + 1;
     }
     list
 }

@@ -3,16 +3,12 @@
 // Unit 0.1 mm, coordinates from A: at 0.01 mm a baseline of 15 km is beyond the limits. All weights are 50 times what the printed covariances give, rounded, so that rounding
 // moves them little; T is then 50 times as large, and the verdicts say nothing. T over 50 · 27 is 0.6129, since B is rounded to the unit; the document prints 0.6135. From F to A its
 // table has -4355.9062 m in Z and its listing -4355.8962: the printed coordinates and residuals follow from the listing's, which stands here.
-use super::printing::{lines_beside, tenfold_lines_beside, text};
-use super::records::book_of;
-use super::solving::solve;
-use book::Book;
+use super::printing::{tenfold_rows_beside, text};
+use super::solving::{Survey, show};
+use book::Refusal;
 
-// The book of these stations, with the document's baselines.
-pub(crate) fn book(stations: &[u8]) -> Book {
-    book_of(
-        stations,
-        b"B 1 1 3 116442232 36012165 33992550 506 5 -5 533 5 509
+// The document's baselines.
+pub(crate) const RECORDS: &'static str = "B 1 1 3 116442232 36012165 33992550 506 5 -5 533 5 509
 B 2 1 5 -53217164 36340754 31736652 2317 25 -25 2606 27 2494
 B 3 2 3 39605442 -66812467 -72790148 2170 19 -20 1964 19 2221
 B 4 2 4 -111676076 -3945204 -9079593 1852 19 -20 1838 19 1873
@@ -26,15 +22,15 @@ B 11 6 2 65672311 56862926 63223917 7528 65 -85 6699 70 8269
 B 12 2 6 -65672310 -56863033 -63223807 9073 76 -83 6693 63 7544
 B 13 1 6 11164577 45961553 43559141 7556 74 -72 6168 53 5334
 B 14 1 2 76836883 102824550 106783008 691 7 -7 740 7 684
-",
-    )
-}
+";
 
-fn sheet_beside(sheet: &[i64]) {
-    lines_beside(
-        sheet,
-        2,
-        b"station 1 0 0 0 0 0 0
+const SURVEY: Survey<'static> = Survey {
+    title: "baselines of document 002; unit 0.1 mm, weights times 50\n",
+    stations: "stations 1 0 0 0 1 76836809 102824537 106783057 2 116440000 36010000 33990000 2 -34840000 98880000 97700000 2 -53220000 36340000 31740000 2 11160000 45960000 43560000",
+    records: RECORDS,
+    corrections: "corrections 2299 2185 2858 660 -681 3445 3100 812 -3241 4503 1558 -882
+",
+    sheet: "station 1 0 0 0 0 0 0
 station 2 76836809 102824537 106783057 0 0 0
 station 3 116442299 36012185 33992858 158506 160881 153023
 station 4 -34839340 98879319 97703445 104896 109939 113212
@@ -56,17 +52,11 @@ record 13 74 -5 23 1 0 0
 record 14 74 13 -49 0 0 0
 global 827409786 27 4
 ",
-    );
-}
+};
 
 // What the document prints, in 0.01 mm: coordinates of C, D, E, F less those of A, then the residuals of the baselines, as observed minus adjusted (the document has adjusted minus
 // observed), and for the last, from its Table 17.2, observed minus fixed. They are compared with words 17 on of the sheet: three of each row of seven.
-fn printed_beside(sheet: &[i64]) {
-    text(b"printed in document 002 | this program | difference, in 0.01 mm\n");
-    tenfold_lines_beside(
-        sheet,
-        17,
-        b"printed 1164422989 360121853 339928582
+const PRINTED: &'static str = "printed 1164422989 360121853 339928582
 printed -348393400 988793194 977034449
 printed -532168995 363408122 317367588
 printed 111645032 459615576 435591183
@@ -84,29 +74,11 @@ printed 51 -534 -220
 printed -41 -536 1320
 printed 738 -46 227
 printed 740 130 -500
-",
-    );
-}
+";
 
-pub(crate) fn run() {
-    text(b"baselines of document 002; unit 0.1 mm, weights times 50\n");
-    let mut x = [0i64; 12];
-    let mut m = [0i64; 144];
-    let mut sheet = [0i64; 145];
-    solve(
-        book(
-            b"stations 1 0 0 0 1 76836809 102824537 106783057 2 116440000 36010000 33990000 2 -34840000 98880000 97700000 2 -53220000 36340000 31740000 2 11160000 45960000 43560000",
-        ),
-        &mut x,
-        &mut m,
-        &mut sheet,
-    );
-    lines_beside(
-        &x,
-        0,
-        b"corrections 2299 2185 2858 660 -681 3445 3100 812 -3241 4503 1558 -882
-",
-    );
-    sheet_beside(&sheet);
-    printed_beside(&sheet);
+pub(crate) fn run() -> Result<(), Refusal> {
+    let sheet = show::<12, 144, 145>(SURVEY)?;
+    text("printed in document 002 | this program | difference, in 0.01 mm\n");
+    tenfold_rows_beside(&sheet[17..], PRINTED);
+    Ok(())
 }

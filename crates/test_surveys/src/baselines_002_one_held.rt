@@ -1,14 +1,16 @@
 // The network of source document 002 with station A held and B free: the baseline between them is in the adjustment, so there are 3 · 14 − 15 = 27 degrees of freedom. The document
 // prints no such adjustment. Unit and weights are those of baselines_002.
-use super::baselines_002::book;
-use super::printing::{lines_beside, text};
-use super::solving::solve;
+use super::baselines_002::RECORDS;
+use super::solving::{Survey, show};
+use book::Refusal;
 
-fn sheet_beside(sheet: &[i64]) {
-    lines_beside(
-        sheet,
-        2,
-        b"station 1 0 0 0 0 0 0
+const SURVEY: Survey<'static> = Survey {
+    title: "baselines of document 002 with station A alone held; unit 0.1 mm, weights times 50\n",
+    stations: "stations 1 0 0 0 2 76836809 102824537 106783057 2 116440000 36010000 33990000 2 -34840000 98880000 97700000 2 -53220000 36340000 31740000 2 11160000 45960000 43560000",
+    records: RECORDS,
+    corrections: "corrections 10 24 -152 2305 2200 2756 666 -667 3349 3105 822 -3313 4508 1570 -968
+",
+    sheet: "station 1 0 0 0 0 0 0
 station 2 76836819 102824561 106782905 109718 119336 119995
 station 3 116442305 36012200 33992756 205840 206178 207190
 station 4 -34839334 98879333 97703349 144677 148168 160485
@@ -30,27 +32,9 @@ record 13 69 -17 109 1 0 1
 record 14 64 -11 103 0 0 1
 global 621028256 27 4
 ",
-    );
-}
+};
 
-pub(crate) fn run() {
-    text(b"baselines of document 002 with station A alone held; unit 0.1 mm, weights times 50\n");
-    let mut x = [0i64; 15];
-    let mut m = [0i64; 225];
-    let mut sheet = [0i64; 145];
-    solve(
-        book(
-            b"stations 1 0 0 0 2 76836809 102824537 106783057 2 116440000 36010000 33990000 2 -34840000 98880000 97700000 2 -53220000 36340000 31740000 2 11160000 45960000 43560000",
-        ),
-        &mut x,
-        &mut m,
-        &mut sheet,
-    );
-    lines_beside(
-        &x,
-        0,
-        b"corrections 10 24 -152 2305 2200 2756 666 -667 3349 3105 822 -3313 4508 1570 -968
-",
-    );
-    sheet_beside(&sheet);
+pub(crate) fn run() -> Result<(), Refusal> {
+    show::<15, 225, 145>(SURVEY)?;
+    Ok(())
 }

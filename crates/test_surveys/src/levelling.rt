@@ -1,14 +1,12 @@
 // The levelling of source document 003 (its Tables 1 and 2) by l − ε = x_to − x_from, the form of document 004, which prints no levelled figures. Mark 22, station 2, is held.
 // Unit 0.1 mm, so a standard deviation of 10 mm, 100 units, is weight 100.
-use super::printing::{lines_beside, text};
-use super::records::book_of;
-use super::solving::solve;
-use book::Book;
+use super::solving::{Survey, show};
+use book::Refusal;
 
-fn book() -> Book {
-    book_of(
-        b"stations 3 0 0 1037000 1 0 0 1042000 3 0 0 1041000 3 0 0 1036000 3 0 0 1028000",
-        b"H 1 1 2 5060 100
+const SURVEY: Survey<'static> = Survey {
+    title: "levelling of document 003, in the form of document 004; unit 0.1 mm\n",
+    stations: "stations 3 0 0 1037000 1 0 0 1042000 3 0 0 1041000 3 0 0 1036000 3 0 0 1028000",
+    records: "H 1 1 2 5060 100
 H 2 2 3 -450 110
 H 3 3 5 -13200 110
 H 4 4 1 1120 110
@@ -19,14 +17,9 @@ H 8 5 3 13180 110
 H 9 1 4 -1120 110
 H 10 4 5 -7400 150
 ",
-    )
-}
-
-fn sheet_beside(sheet: &[i64]) {
-    lines_beside(
-        sheet,
-        2,
-        b"station 1 0 0 1036944 0 0 4589188
+    corrections: "corrections -56 561 -172 366
+",
+    sheet: "station 1 0 0 1036944 0 0 4589188
 station 2 0 0 1042000 0 0 0
 station 3 0 0 1041561 0 0 5336779
 station 4 0 0 1035828 0 0 8047601
@@ -43,20 +36,9 @@ record 9 -4 0
 record 10 62 0
 global 503300 6 3
 ",
-    );
-}
+};
 
-pub(crate) fn run() {
-    text(b"levelling of document 003, in the form of document 004; unit 0.1 mm\n");
-    let mut x = [0i64; 4];
-    let mut m = [0i64; 16];
-    let mut sheet = [0i64; 70];
-    solve(book(), &mut x, &mut m, &mut sheet);
-    lines_beside(
-        &x,
-        0,
-        b"corrections -56 561 -172 366
-",
-    );
-    sheet_beside(&sheet);
+pub(crate) fn run() -> Result<(), Refusal> {
+    show::<4, 16, 70>(SURVEY)?;
+    Ok(())
 }

@@ -12,10 +12,21 @@ mod printing;
 mod records;
 mod solving;
 
+use book::Refusal;
+
+fn surveys() -> Result<(), Refusal> {
+    levelling::run()?;
+    baselines_003::run()?;
+    baselines_002::run()?;
+    baselines_002_one_held::run()?;
+    positions_003::run()
+}
+
+// An opening or an edit that is refused ends the output, by its number.
 fn main() {
-    levelling::run();
-    baselines_003::run();
-    baselines_002::run();
-    baselines_002_one_held::run();
-    positions_003::run();
+    if let Err(refusal) = surveys() {
+        printing::text("refused ");
+        io::print_decimal(1, u64::from(refusal));
+        printing::text("\n");
+    }
 }

@@ -1,41 +1,56 @@
-// The engine's proposal, through the check, to a sheet.
-ghost use Rattle.std.specs.Prelude.{◌≡◌, true};
+// A survey through the book, the engine and the check, beside the figures of the exact solver.
+ghost use Rattle.std.specs.Prelude.{◌≡◌, true, ◌≤◌};
 ghost use Rattle.book.specs.Book.{sound};
 
-use super::printing::text;
-use acceptance::Answer;
-use book::Book;
+use super::printing::{lines_beside, text};
+use super::records::book_of;
+use book::{Book, Refusal};
 use engine::Proposal;
 
-fn say(answer: Answer) {
-    let number = acceptance::number(answer);
-    if number == 0 {
-        text(b"accepted; exact | this program | difference\n");
+// A survey: a title, the stations and the records of its book, and the solver's corrections and sheet.
+#[derive(Clone, Copy)]
+pub(crate) struct Survey<'a> {
+    pub(crate) title: &'a str,
+    pub(crate) stations: &'a str,
+    pub(crate) records: &'a str,
+    pub(crate) corrections: &'a str,
+    pub(crate) sheet: &'a str,
+}
+
+fn say(answer: Result<(), acceptance::Refusal>) {
+    if answer.is_ok() {
+        text("accepted; exact | this program | difference\n");
     } else {
-        text(b"refused ");
-        io::print_decimal(1, number);
-        text(b"\n");
+        text("refused ");
+        io::print_decimal(1, acceptance::number(answer));
+        text("\n");
     }
 }
 
-// The check of the engine's pair: x of n numbers and m of n·n.
-fn propose_and_check(book: Book, x: &mut [i64], m: &mut [i64], sheet: &mut [i64])
+// The check of the engine's pair, x of n numbers and m of n·n, to a sheet; lent lengths that do not fit give no proposal.
+fn solve(book: Book, x: &mut [i64], m: &mut [i64], sheet: &mut [i64])
     requires { sound book ≡ true }
 {
     let mut work = [0.0f64; 4608];
-    let proposal = engine::propose(book, x, m, &mut work);
-    match proposal {
-        Proposal::Made => {
-            let answer = checks::check_sheet(book, x, m, sheet);
-            say(answer);
-        }
-        Proposal::Nothing => text(b"no proposal\n"),
+    match engine::propose(book, x, m, &mut work) {
+        Proposal::Made => say(checks::check_sheet(book, x, m, sheet)),
+        Proposal::Nothing => text("no proposal\n"),
     }
 }
 
-// x, M and the sheet of the book; lent lengths that do not fit give no proposal.
-pub(crate) fn solve(book: Book, x: &mut [i64], m: &mut [i64], sheet: &mut [i64]) {
-    if book::is_sound(book) {
-        propose_and_check(book, x, m, sheet);
-    }
+// The sheet, of WORDS words, of a survey of N unknowns, and all of it beside the solver's figures; SQUARE is N·N.
+pub(crate) fn show<const N: usize, const SQUARE: usize, const WORDS: usize>(
+    survey: Survey<'_>,
+) -> Result<[i64; WORDS], Refusal>
+    requires { (N ≤ 48) × (SQUARE ≤ 2304) × (WORDS ≤ 4096) }
+{
+    text(survey.title);
+    let book = book_of(survey.stations, survey.records)?;
+    let mut x = [0i64; N];
+    let mut m = [0i64; SQUARE];
+    let mut sheet = [0i64; WORDS];
+    solve(book, &mut x, &mut m, &mut sheet);
+    lines_beside(&x, 0, survey.corrections);
+    lines_beside(&sheet, 2, survey.sheet);
+    Ok(sheet)
 }

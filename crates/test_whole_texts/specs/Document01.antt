@@ -1,7 +1,7 @@
 -- Document 01's "The night print": for its own six lines of input the program prints exactly its own six lines of output. Assumes nothing.
 --   print_of    night_print, Print   what the program prints for a text
 --   cases_hold cases, CasesHold    what the calls and the check give for these lines, "As printed, accepted"
-use Rattle.std.specs.Prelude.{ℕ, ◌≡◌, true, length, get_or, take, drop, replicate, ℤ, pos}
+use Rattle.std.specs.Prelude.{ℕ, ◌≡◌, true, length, get_or, take, drop, replicate, ℤ, pos, Ok, Err}
 use Rattle.std.proofs.Math.Path.{refl, sym, ap}
 use Rattle.std.proofs.Common.{◌∙◌, arith, lit<, lit≤}
 use mathlib.Core.List.{List, [], ◌∷◌, ◌++◌}
@@ -14,10 +14,8 @@ use Rattle.network.specs.OpeningLaws.{opened-fits}
 use Rattle.network.specs.declared.Station.{Station}
 use Rattle.network.specs.declared.Kind.TheVariants as kind
 use Rattle.network.specs.declared.Network.{Network}
-use Rattle.acceptance.specs.Judge.{answer_number}
+use Rattle.acceptance.specs.Judge.{answer_number, Answer}
 use Rattle.acceptance.specs.JudgeLaws.{refusal-least}
-use Rattle.acceptance.specs.declared.Answer.{Answer}
-use Rattle.acceptance.specs.declared.Answer.TheVariants.{Accepted, Refused}
 use Rattle.book.specs.declared.Book.{Book}
 use Rattle.book.specs.Book.{opened_book, book_next, book_says}
 use Rattle.book.specs.declared.Change.TheVariants.{Enter}
@@ -211,9 +209,9 @@ two_stations = ap (λ (n : Network). n.count) (brief_follows (network_of station
 
 -- ════ the check: what is proved of it
 -- only an acceptance has number 0
-accepted_0 : (a : Answer) → answer_number a ≡ 0 → a ≡ Accepted
-accepted_0 Accepted e = refl
-accepted_0 (Refused refusal) e = absurd (omega (arith, refusal-least refusal))
+accepted_0 : (a : Answer) → answer_number a ≡ 0 → a ≡ Ok tt
+accepted_0 (Ok u) e = refl
+accepted_0 (Err refusal) e = absurd (omega (arith, refusal-least refusal))
 
 room-is : room (case_book first_case).network (case_book first_case).places ≡ length first_case.sheet
 unfolding record_start sum_n line_length is_empty observations filled_places
@@ -221,7 +219,7 @@ room-is = sym (global_room_lem (case_book first_case).network (case_book first_c
 
 -- the words of a sheet are those that it leaves at the front of lent ones
 module _ (b : Book) (x m lent sheet : List ℤ) where
-  words_from : checked b x m (has_room b lent) ≡ Accepted → room b.network b.places ≡ length sheet → sheet_after b x m lent ≡ sheet ++ drop (length sheet) lent
+  words_from : checked b x m (has_room b lent) ≡ Ok tt → room b.network b.places ≡ length sheet → sheet_after b x m lent ≡ sheet ++ drop (length sheet) lent
       → sheet_words b.network b.places x m ≡ sheet
   unfolding sheet_after on_acceptance
   words_from accepts long leaves =

@@ -2,8 +2,6 @@
 // chunk; the tests compare the two. specs/Document01.antt proves what is printed for document 01's own lines, which are this program's stdin.
 #![tactic(auto)]
 
-use night_print::Printing;
-
 // The longest text that is taken; what it may print.
 const TEXT_ROOM: usize = 8192;
 
@@ -20,17 +18,13 @@ fn out_room() -> [u8; OUT_ROOM] {
 
 // Prints the text.
 fn show(text: &[u8], out: &mut [u8]) {
-    let printed = night_print::print_text(text, out);
-    match printed {
-        Printing::Bytes(n) => {
-            io::write_all(1, &out[0..n]);
-        }
-        Printing::NoRoom => {
-            io::write_all(
-                2,
-                b"test_whole_texts: the text is longer than 8,192 bytes\n",
-            );
-        }
+    if let Some(n) = night_print::print_text(text, out) {
+        io::write_all(1, &out[..n]);
+    } else {
+        io::write_all(
+            2,
+            b"test_whole_texts: the text is longer than 8,192 bytes\n",
+        );
     }
 }
 

@@ -1,6 +1,5 @@
 -- Each number below 14 is that of a case. Assumes nothing.
-use Prim.Native.Nat.{◌-◌}
-use native.Mathlib.Omega.{arith}
+use Rattle.std.proofs.Common.{arith}
 use Rattle.cases.specs.Script.{table-length}
 use Rattle.test_check_cases.proofs.proved_cases.Goals as goal
 

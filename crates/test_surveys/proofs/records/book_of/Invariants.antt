@@ -1,9 +1,10 @@
--- The loop's invariant: i is at most one past the text. A line ends at i or later, within the text (`line_end`), so the part is inside it and i rises. Assumes nothing.
-use Rattle.std.proofs.Common.{◌+◌, ◌-◌, ◌≤◌, length}
+-- The book is sound before each line: `opened` gives it so, and `enter_line` leaves it so. Assumes nothing.
+use Rattle.std.specs.Prelude.{◌≡◌, true}
+use Rattle.book.specs.Book.{sound}
 use Rattle.test_surveys.proofs.records.book_of.Given as goal
 
-abbrev pub invariant-loop-i : goal.invariant-loop-i
-invariant-loop-i l = l.i ≤ length l.records + 1
-
-abbrev pub decreases-loop-i : goal.decreases-loop-i
-decreases-loop-i l = length l.records + 1 - l.i
+abbrev pub invariant-loop-line : goal.invariant-loop-line
+invariant-loop-line l =
+    (goal.iterator-loop-line).can_next l.line-iterator ×
+    (goal.iterator-loop-line).is_finite l.line-iterator ×
+    (sound l.b ≡ true)

@@ -1,6 +1,0 @@
--- The sheet is asked for only where `is_sound` told that the book is sound. Assumes nothing.
-use mathlib.Core.Path.{sym, ◌∙◌}
-use Rattle.test_check_cases.proofs.shown.show_on.Goals as goal
-
-pub check_sheet-answer-requires : goal.check_sheet-answer-requires
-check_sheet-answer-requires c = sym c.is_sound.ensures ∙ c.if-is_sound.true
