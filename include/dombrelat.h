@@ -62,7 +62,7 @@ extern "C" {
 #define DOMBRELAT_SALVAGE_LIST_BYTES(bytes) (16 * ((bytes) / DOMBRELAT_ENTRY_BYTES + 1))
 #define DOMBRELAT_SALVAGE_COUNTS_BYTES 16
 
-/* The stack to give a thread that makes a call. tests/host/stack.c measured 127,208 bytes on x86-64 (open; check_sheet on a full book takes 122,200, an edit 65,264); the rest is margin. */
+/* The stack to give a thread that makes a call. tests/host/stack.c measured 124,496 bytes on x86-64 (propose; check_sheet on a full book takes 124,312, an opening 77,864, an edit 66,032); the rest is margin. */
 #define DOMBRELAT_STACK_BYTES 163840
 
 /* Limits. */

@@ -6,7 +6,7 @@ import re
 import sys
 
 FUNCTION = re.compile(r'pub (?:const )?(extern "C" )?fn (\w+)')
-SOUND = re.compile(r'sound \w+ ≡ true')
+SOUND = re.compile(r'sound \w+(?:\.old)? ≡ true')
 HEADING = '## Public functions that ask more than a sound book'
 
 

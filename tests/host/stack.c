@@ -167,6 +167,10 @@ static size_t most_on_files(void) {
     if (dombrelat_open((const uint8_t *)stations, sizeof stations, carried, sizeof carried)) {
         exit(1);
     }
+    /* once beforehand, so that the book has records when either of the two is measured */
+    file_call = enter_one;
+    length = FEW * ENTRY_BYTES;
+    run_file_call(NULL);
     most = stack_on_files("enter_file", enter_one);
     for (k = 0; k < MANY; k++) {
         if (answers[k] && answers[k] != DOMBRELAT_PLACE_EMPTY) {
