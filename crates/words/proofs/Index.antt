@@ -1,5 +1,5 @@
 -- The ways through `index_in`: 1 to n, and every other number. Assumes nothing.
-use Rattle.std.proofs.Common.{◌≡◌, ◌⊎◌, refl, sym, ◌∙◌, ℕ, zero, suc, ◌-◌, ◌<◌, ◌≤◌, ◌^◌, Result, Ok, Err, ℤ, pos, negsuc, nat_abs, arith, SFits}
+use Rattle.std.proofs.Common.{◌≡◌, refl, sym, ◌∙◌, ℕ, zero, suc, ◌-◌, ◌<◌, ◌≤◌, ◌^◌, Result, Ok, Err, ℤ, pos, negsuc, nat_abs, arith, SFits}
 use Rattle.std.specs.Result.{OkIff, result_unwrap_or}
 use Rattle.std.specs.Int.{FitsUnsignedBits, w64}
 use Rattle.words.specs.Signed.{index_in}
@@ -21,8 +21,14 @@ inside (pos zero) n k m g h = absurd (omega arith)
 inside (pos (suc j)) n k m g h = let q : k - 1 ≡ j = omega arith in q ∙ sym (index_suc j n (omega arith))
 inside (negsuc j) n k m g h = absurd (omega arith)
 
-pub outside : (v : ℤ) (n k : ℕ) → Number v k → ((1 ≤ k) × (n < k)) ⊎ (k < 1) → n ≡ index_in v n
+pub no_number : (v : ℤ) (n k : ℕ) → Number v k → k ≡ 0 → n ≡ index_in v n
 unfolding index_in
-outside (pos zero) n k m h = refl
-outside (pos (suc j)) n k m h = sym (index_beyond j n (omega arith))
-outside (negsuc j) n k m h = refl
+no_number (pos zero) n k m h = refl
+no_number (pos (suc j)) n k m h = absurd (omega arith)
+no_number (negsuc j) n k m h = refl
+
+pub beyond : (v : ℤ) (n k : ℕ) → Number v k → n < k → n ≡ index_in v n
+unfolding index_in
+beyond (pos zero) n k m h = refl
+beyond (pos (suc j)) n k m h = sym (index_beyond j n (omega arith))
+beyond (negsuc j) n k m h = refl

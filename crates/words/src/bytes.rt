@@ -3,6 +3,7 @@ ghost use Rattle.std.specs.Prelude.{◌≡◌, ◌+◌, ◌≤◌, length};
 ghost use Rattle.words.specs.Words.{word_at, put_word};
 
 // The word of s whose first byte is at index at.
+#[tactic(auto, using(crate::proofs::EightBytes::read, crate::proofs::EightBytes::whole))]
 pub fn word_at(s: &[u8], at: usize) -> i64
     requires { at + 8 ≤ length s.now }
     ensures { result ≡ word_at s.now at }
@@ -11,6 +12,7 @@ pub fn word_at(s: &[u8], at: usize) -> i64
 }
 
 // Puts v into s as the word whose first byte is at index at.
+#[tactic(auto, using(crate::proofs::EightBytes::written))]
 pub fn put_word(s: &mut [u8], at: usize, v: i64)
     requires { at + 8 ≤ length s.old }
     ensures { s.new ≡ put_word s.old at v }

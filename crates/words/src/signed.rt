@@ -8,7 +8,10 @@ pub fn index_in(v: i64, n: usize) -> usize
     ensures { result ≡ index_in v n }
 {
     let k = usize::try_from(v).unwrap_or(0);
-    if 1 <= k && k <= n { k - 1 } else { n }
+    if k == 0 {
+        return n;
+    }
+    if k <= n { k - 1 } else { n }
 }
 
 // The number whose two's complement bits are those of n.
