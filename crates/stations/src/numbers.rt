@@ -24,8 +24,8 @@ pub(crate) fn put(out: &mut [i64; NUMBERS], i: usize, s: Station)
     requires { i < most_stations }
     ensures { take ((i + 1) * 4) out.new ≡ take (i * 4) out.old ++ station_words s }
 {
-    let words = network::station_words(s);
-    out[i * 4..i * 4 + 4].copy_from_slice(&words);
+    let [kind, east, north, up] = network::station_words(s);
+    out[i * 4..i * 4 + 4].copy_from_slice(&[kind, east, north, up]);
 }
 
 // The opening on the first numbers of w: those of n stations, or none.
