@@ -6,14 +6,15 @@ ghost use Rattle.text.specs.Digits.{cut_to, digits_of};
 // 2^63 + 1, which is beyond signed 64 bits with either sign: to this a value is cut.
 const BEYOND: u64 = i64::MAX as u64 + 2;
 
-// One digit more, cut.
+// One digit more, cut. Ten times more than a tenth of the cut is beyond it, so what is multiplied has room.
 fn grow(n: u64, c: u8) -> u64
     requires { (zero_digit ≤ c) × (c ≤ nine_digit) }
     ensures { result ≡ min (n * 10 + (c - zero_digit)) cut_to }
 {
-    n.saturating_mul(10)
-        .saturating_add(u64::from(c - b'0'))
-        .min(BEYOND)
+    if n > BEYOND / 10 {
+        return BEYOND;
+    }
+    (n * 10 + u64::from(c - b'0')).min(BEYOND)
 }
 
 // The value of s, where it is one digit or more.
