@@ -1,5 +1,6 @@
 -- What the check judged are the numbers at the front of the room; it told that it accepts them. Assumes nothing.
-use Rattle.std.proofs.Common.{◌≡◌, ℕ, true, take, refl, sym, ◌∙◌, ap}
+use Rattle.std.proofs.Common.{◌≡◌, ℕ, true, take, refl, sym, ◌∙◌, ap, arith}
+use Rattle.std.proofs.lemmas.Grind.{common_steps}
 use Rattle.std.specs.Prelude.{Ok, Err, is_ok}
 use Rattle.std.proofs.lemmas.Bool.{false≢true}
 use Rattle.acceptance.specs.Judge.{Answer}
@@ -14,5 +15,6 @@ accepted (Err refusal) e = absurd (false≢true e)
 pub returns : goal.returns
 returns c =
     λ e.
+    let told : c.is_ok.result ≡ true = grind (e, arith, common_steps) in
     ap (λ (j : ℕ). checked (book_of c.args.s.now) (take c.args.n c.args.x.now) (take j c.args.m.now) true) (sym c.square-entries.ensures.0)
-    ∙ sym c.check_in.ensures ∙ accepted _ (sym c.is_ok.ensures.value ∙ e)
+    ∙ sym c.check_in.ensures ∙ accepted _ (sym c.is_ok.ensures.value ∙ told)

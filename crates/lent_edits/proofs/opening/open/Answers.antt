@@ -1,5 +1,6 @@
 -- `open` writes the opened book, or leaves the bytes where the opening is refused; that the book reads back is the law of an opening. Assumes nothing.
-use Rattle.std.proofs.Common.{sym, ap, ◌∙◌}
+use Rattle.std.proofs.Common.{sym, ap, ◌∙◌, rules}
+use Rattle.std.proofs.lemmas.List.{set-get_or}
 use Rattle.std.proofs.lemmas.Result.{err_from_is_err_and}
 use Rattle.book.specs.Outcome.{Outcome}
 use Rattle.book.specs.Refusals.{refused-number}
@@ -15,7 +16,7 @@ returns-in_err-book c =
     let e = c.in_err-book.ensures.opened in
     rw (p.1, p.2)
     (open_opens c.args.s.now c.requires c.args.list.now _ _ (ap (λ (x : Outcome). x.refusal) e)
-    (sym (unless_some _ c.args.s.now _ (refused-number c.in_err-book.field-0.0)) ∙ ap (bytes_left c.args.s.now) e))
+    (search (rules, set-get_or) ∙ sym (unless_some _ c.args.s.now _ (refused-number c.in_err-book.field-0.0)) ∙ ap (bytes_left c.args.s.now) e))
 
 pub returns : goal.returns
 unfolding unless
