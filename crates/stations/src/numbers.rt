@@ -19,7 +19,8 @@ pub(crate) fn read_count(n: usize) -> usize
 // The numbers of a full list, four a station.
 pub(crate) const NUMBERS: usize = 4 * Unit::STATIONS;
 
-// The station's four numbers after those of the i stations before it; what stands beyond them is free.
+// The station's four numbers after those of the i stations before it, each by its name, so that their order is read here; what stands
+// beyond them is free.
 pub(crate) fn put(out: &mut [i64; NUMBERS], i: usize, s: Station)
     requires { i < most_stations }
     ensures { take ((i + 1) * 4) out.new ≡ take (i * 4) out.old ++ station_words s }
